@@ -1,0 +1,5 @@
+pub mod Sides
+pub mod Tests
+pub mod Ladders
+pub mod Tables
+pub mod Parts

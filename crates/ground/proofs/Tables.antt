@@ -1,0 +1,55 @@
+-- Laws of tables and totals. Assumes nothing.
+use Prim.Native.Nat.{ℕ, zero, suc, _+_, _-_, _≤_, _<_, suc-le-suc, zero-le}
+use mathlib.Core.Path.{_≡_, refl, sym, ap, _∙_}
+use mathlib.Core.List.{List, [], _∷_, _++_}
+use native.Mathlib.Omega.{arith}
+use native.Mathlib.Nat.{le-of-suc-le-suc, not-suc-le-zero}
+use lib.ListN.{length, getD, take, drop}
+use Rattle.ground.specs.Lists.{tab, total, insertAt, removeAt}
+
+pub length-tab {ℓ} : {A : Type ℓ} (f : ℕ → A) (n : ℕ) → length (tab f n) ≡ n
+unfolding tab
+length-tab f zero = refl
+length-tab f (suc n) = ap suc (length-tab (λ i. f (suc i)) n)
+
+pub getD-tab {ℓ} : {A : Type ℓ} (f : ℕ → A) (n i : ℕ) (d : A) → i < n → getD (tab f n) i d ≡ f i
+unfolding tab
+getD-tab f zero i d h = absurd (not-suc-le-zero h)
+getD-tab f (suc n) zero d h = refl
+getD-tab f (suc n) (suc i) d h = getD-tab (λ i. f (suc i)) n i d (le-of-suc-le-suc h)
+
+pub tab-same {ℓ} : {A : Type ℓ} (f g : ℕ → A) (n : ℕ) → ((i : ℕ) → i < n → f i ≡ g i) → tab f n ≡ tab g n
+unfolding tab
+tab-same f g zero h = refl
+tab-same f g (suc n) h = λ k. h zero (suc-le-suc zero-le) k ∷ tab-same (λ i. f (suc i)) (λ i. g (suc i)) n (λ i l. h (suc i) (suc-le-suc l)) k
+
+-- g is f with one more at s
+pub tab-insert {ℓ} : {A : Type ℓ} (f g : ℕ → A) (n s : ℕ) → s ≤ n → ((i : ℕ) → i < s → g i ≡ f i) → ((i : ℕ) → s ≤ i → i < n → g (suc i) ≡ f i) → tab g (suc n) ≡ insertAt s (g s) (tab f n)
+unfolding tab insertAt
+tab-insert f g n zero h lo hi = ap (λ l. g zero ∷ l) (tab-same (λ i. g (suc i)) f n (λ i l. hi i zero-le l))
+tab-insert f g zero (suc s) h lo hi = absurd (not-suc-le-zero h)
+tab-insert f g (suc n) (suc s) h lo hi = λ k. lo zero (suc-le-suc zero-le) k
+    ∷ tab-insert (λ i. f (suc i)) (λ i. g (suc i)) n s (le-of-suc-le-suc h) (λ i l. lo (suc i) (suc-le-suc l)) (λ i l m. hi (suc i) (suc-le-suc l) (suc-le-suc m)) k
+
+pub total-same : (f g : ℕ → ℕ) (n : ℕ) → ((i : ℕ) → i < n → f i ≡ g i) → total f n ≡ total g n
+unfolding total
+total-same f g zero h = refl
+total-same f g (suc n) h = λ k. h zero (suc-le-suc zero-le) k + total-same (λ i. f (suc i)) (λ i. g (suc i)) n (λ i l. h (suc i) (suc-le-suc l)) k
+
+pub total-insert : (f g : ℕ → ℕ) (n s : ℕ) → s ≤ n → ((i : ℕ) → i < s → g i ≡ f i) → ((i : ℕ) → s ≤ i → i < n → g (suc i) ≡ f i) → total g (suc n) ≡ g s + total f n
+unfolding total
+total-insert f g n zero h lo hi = ap (λ l. g zero + l) (total-same (λ i. g (suc i)) f n (λ i l. hi i zero-le l))
+total-insert f g zero (suc s) h lo hi = absurd (not-suc-le-zero h)
+total-insert f g (suc n) (suc s) h lo hi =
+    let ih : total (λ i. g (suc i)) (suc n) ≡ g (suc s) + total (λ i. f (suc i)) n =
+    total-insert (λ i. f (suc i)) (λ i. g (suc i)) n s (le-of-suc-le-suc h) (λ i l. lo (suc i) (suc-le-suc l)) (λ i l m. hi (suc i) (suc-le-suc l) (suc-le-suc m)) in
+    let e : g zero ≡ f zero = lo zero (suc-le-suc zero-le) in
+    omega arith
+
+-- g is f without what stands at s
+pub tab-remove {ℓ} : {A : Type ℓ} (f g : ℕ → A) (n s : ℕ) → s ≤ n → ((i : ℕ) → i < s → g i ≡ f i) → ((i : ℕ) → s ≤ i → i < n → g i ≡ f (suc i)) → tab g n ≡ removeAt s (tab f (suc n))
+unfolding tab removeAt
+tab-remove f g n zero h lo hi = tab-same g (λ i. f (suc i)) n (λ i l. hi i zero-le l)
+tab-remove f g zero (suc s) h lo hi = absurd (not-suc-le-zero h)
+tab-remove f g (suc n) (suc s) h lo hi = λ k. lo zero (suc-le-suc zero-le) k
+    ∷ tab-remove (λ i. f (suc i)) (λ i. g (suc i)) n s (le-of-suc-le-suc h) (λ i l. lo (suc i) (suc-le-suc l)) (λ i l m. hi (suc i) (suc-le-suc l) (suc-le-suc m)) k

@@ -1,0 +1,5 @@
+pub mod Page
+pub mod Found
+pub mod Steps
+pub mod Packed
+pub mod Places

@@ -1,0 +1,69 @@
+-- What the writes to a page do. Assumes nothing.
+use Prim.Native.Nat.{ℕ, _+_, _*_, _-_, _≤_, _<_}
+use mathlib.Core.Path.{_≡_}
+use mathlib.Core.List.{List}
+use lib.ListN.{length}
+use Rattle.ground.specs.Lists.{byte, part}
+use Rattle.words.specs.Moves.{Frame}
+use Rattle.ground.specs.Lists.{insertAt, removeAt}
+use Rattle.page.specs.Page.{Slotted, Belongs, Natural, Record, rows, count, frontier, free, depth, slotAt, word, off, len}
+
+-- a record written at f
+pub record Recorded (p : List ℕ) (f : ℕ) (pl c q : List ℕ) : Type 0 where
+  pub old : Frame p f (8 + length c) q
+  pub placed : part q f 8 ≡ pl
+  pub coded : part q (f + 8) (length c) ≡ c
+
+-- of n slots those from s on moved down by one, and w in slot s
+pub record Opened (p : List ℕ) (n s w : ℕ) (q : List ℕ) : Type 0 where
+  pub old : Frame p (slotAt p n) (4 * (n + 1 - s)) q
+  pub new : word q s ≡ w
+  pub moved : (i : ℕ) → s ≤ i → i < n → word q (i + 1) ≡ word p i
+
+-- count, frontier and free set
+pub record Headed (p : List ℕ) (n f r : ℕ) (q : List ℕ) : Type 0 where
+  pub old : Frame p 2 6 q
+  pub counted : count q ≡ n
+  pub fronted : frontier q ≡ f
+  pub freed : free q ≡ r
+
+-- there is room at p's frontier for a row of code c, which belongs at slot s
+pub record Insertable (p : List ℕ) (s : ℕ) (c pl : List ℕ) : Type 0 where
+  pub page : Slotted p
+  pub belongs : Belongs p s c
+  pub natural : Natural pl
+  pub some : 1 ≤ length c
+  pub most : length c ≤ 64
+  pub fits : 12 + length c ≤ free p
+  pub room : frontier p + 8 + length c + 4 * (count p + 1) ≤ length p
+
+-- q is p with the row at the frontier, in slot s
+pub record Inserted (p : List ℕ) (s : ℕ) (c pl q : List ℕ) : Type 0 where
+  pub page : Slotted q
+  pub long : length q ≡ length p
+  pub deep : depth q ≡ depth p
+  pub rowsOf : rows q ≡ insertAt s (record { start = frontier p; place = pl; code = c }) (rows p)
+
+-- r is the largest record end of n slots
+pub record Top (p : List ℕ) (n r : ℕ) : Type 0 where
+  pub most : (i : ℕ) → i < n → off p i + len p i ≤ r
+  pub reached : (i : ℕ) × (i < n) × (off p i + len p i ≡ r)
+
+-- of n slots those after s moved up by one, over slot s, and the last cleared
+pub record Closed (p : List ℕ) (n s : ℕ) (q : List ℕ) : Type 0 where
+  pub old : Frame p (length p - 4 * n) (4 * (n - s)) q
+  pub moved : (i : ℕ) → s ≤ i → i + 1 < n → word q i ≡ word p (i + 1)
+  pub gone : (k : ℕ) → length p - 4 * n ≤ k → k < length p - 4 * (n - 1) → byte q k ≡ 0
+
+-- p has slot s, and another
+pub record Removable (p : List ℕ) (s : ℕ) : Type 0 where
+  pub page : Slotted p
+  pub within : s < count p
+  pub more : 2 ≤ count p
+
+-- q is p without slot s
+pub record Removed (p : List ℕ) (s : ℕ) (q : List ℕ) : Type 0 where
+  pub page : Slotted q
+  pub long : length q ≡ length p
+  pub deep : depth q ≡ depth p
+  pub rowsOf : rows q ≡ removeAt s (rows p)

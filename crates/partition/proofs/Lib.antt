@@ -1,0 +1,13 @@
+pub mod Tree
+pub mod Path
+pub mod Frame
+pub mod Bits
+pub mod Rows
+pub mod Order
+pub mod Laws
+pub mod Directory
+pub mod Splice
+pub mod Sum
+pub mod Store
+pub mod Pages
+pub mod Sorted

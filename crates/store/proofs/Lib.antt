@@ -1,0 +1,10 @@
+pub mod Rules
+pub mod Unique
+pub mod Settled
+pub mod Kept
+pub mod Format
+pub mod Same
+pub mod Sorted
+pub mod Plan
+pub mod Over
+pub mod Owner

@@ -1,0 +1,211 @@
+-- Demands 2 and 3, as the statements that are to be proved of the tables. Assumes nothing.
+use mathlib.Core.Path.{_≡_, refl}
+use native.Mathlib.Omega.{arith}
+use mathlib.Core.Bool.{Bool, true, false}
+use mathlib.Core.List.{List, [], _∷_, map}
+use mathlib.Core.Logic.{_↔_, _⊎_}
+use mathlib.Core.Option.{Option, some, none}
+use Prim.Native.Nat.{ℕ, zero, suc, _+_, _-_, _*_, _^_, _≤_, _<_}
+use lib.ListN.{length}
+use Rattle.ground.specs.Lists.{tab}
+use Rattle.page.specs.Page.{Record}
+use Rattle.partition.specs.Partition.{Shape, Row, Prefix, Reordered, rowsOf, buckets, depthOf, entry}
+use Rattle.page.specs.declared.Place.{Place}
+use Rattle.ground.specs.Ladder.{Ladder, Answers}
+use Rattle.words.specs.Codes.{order}
+use Rattle.partition.specs.Listing.{by, without, inOrder, listing, placeOf, Once}
+use Rattle.store.specs.Pages.{S1024, size, pages, page, Page, free, bucket, read, contents, asRow, rowsHeld, dirDepth, entryAt}
+use Rattle.store.specs.Accepted.{Accepted}
+use Rattle.store.specs.Moves.{pick}
+use Rattle.page.specs.Places.{place, stored}
+use Rattle.store.specs.Tables.{Out, refused, refusedAt, formatted, accepted, new, replaced, found, counted, row, Refusal3, Refusal4, Refusal6, Refusal7, formatTable, checkTable, countTable, lookupTable, putTable, removeTable, rowTable, inspectTable}
+
+-- what holds of the three page sizes
+pub record Sized (S : Shape) : Type 0 where
+  pub whole : 4 * S .entries ≡ size S
+  pub deep : 2 ^ S .deepest ≡ S .entries
+  pub least : 76 ≤ S .capacity
+  pub most : size S ≤ 16384
+
+-- a function from codes to 32 bits
+abbrev pub Hash : (List ℕ → ℕ) → Type 0
+Hash h = (c : List ℕ) → h c < 2 ^ 32
+
+pub data Call : Type 0 where
+  format check count : Call
+  lookup remove : List ℕ → Call
+  put : List ℕ → Place → Call
+  rowAt : ℕ → List ℕ → Call
+
+module _ (S : Shape) (h : List ℕ → ℕ) where
+  -- the call on the store s answers o and leaves the store t
+  abbrev pub Made : Call → List ℕ → Out → List ℕ → Type 0
+  Made format s o t = Answers (formatTable S s) (o, t)
+  Made check s o t = Answers (checkTable S h s) o × (t ≡ s)
+  Made count s o t = Answers (countTable S h s) o × (t ≡ s)
+  Made (lookup c) s o t = Answers (lookupTable S h s c) o × (t ≡ s)
+  Made (remove c) s o t = Answers (removeTable S h s c) (o, t)
+  Made (put c p) s o t = Answers (putTable S h s c p) (o, t)
+  Made (rowAt n out) s o t = ((out′ : List ℕ) × Answers (rowTable S h s n out) (o, out′)) × (t ≡ s)
+
+-- not a refusal
+abbrev pub ok : Out → Bool
+ok (refused n) = false
+ok (refusedAt n p) = false
+ok formatted = true
+ok accepted = true
+ok new = true
+ok (replaced p) = true
+ok (found p) = true
+ok (counted n) = true
+ok (row n p) = true
+
+-- ---- demand 1: a refused call keeps every byte of store and output
+
+module _ (S : Shape) (h : List ℕ → ℕ) where
+  abbrev pub RefusalKeeps : Type 0
+  RefusalKeeps = (c : Call) (s : List ℕ) (o : Out) (t : List ℕ) → Made S h c s o t → ok o ≡ false → t ≡ s
+
+  abbrev pub OutputKept : Type 0
+  OutputKept = (s : List ℕ) (n : ℕ) (out : List ℕ) (o : Out) (out′ : List ℕ) → Answers (rowTable S h s n out) (o, out′) ⊎ Answers (inspectTable S h s n out) (o, out′) → ok o ≡ false → out′ ≡ out
+
+-- ---- demand 2: on an accepted store the calls answer as a plain map from code to row place
+
+abbrev pub map-of : Shape → List ℕ → List ℕ → Option (List ℕ)
+map-of S s c = placeOf (rowsHeld S s) c
+
+-- the map with c set
+unfoldable pub update : (List ℕ → Option (List ℕ)) → List ℕ → Option (List ℕ) → List ℕ → Option (List ℕ)
+unfolding order
+update m c b x = by (order x c) (m x) b (m x)
+
+abbrev pub answerOf : Option (List ℕ) → Out
+answerOf none = refused 5
+answerOf (some b) = found (place b)
+
+abbrev pub putAnswer : Option (List ℕ) → Out
+putAnswer none = new
+putAnswer (some b) = replaced (place b)
+
+module _ (S : Shape) (h : List ℕ → ℕ) where
+  -- the check accepts exactly the stores that keep the rules
+  abbrev pub CheckExact : Type 0
+  CheckExact = (s : List ℕ) → (Made S h check s accepted s ↔ Accepted S h s)
+
+  abbrev pub LookupIsMap : Type 0
+  LookupIsMap = (s c : List ℕ) (o : Out) (t : List ℕ) → Accepted S h s → (Refusal3 c → ⊥) → Made S h (lookup c) s o t → o ≡ answerOf (map-of S s c)
+
+  -- a put that is not refused sets its code, one that is changes nothing
+  abbrev pub PutIsMap : Type 0
+  PutIsMap = (s c : List ℕ) (p : Place) (o : Out) (t : List ℕ) → Accepted S h s → Made S h (put c p) s o t
+      → (ok o ≡ true → (o ≡ putAnswer (map-of S s c)) × ((x : List ℕ) → map-of S t x ≡ update (map-of S s) c (some (stored p)) x))
+      × (ok o ≡ false → t ≡ s)
+
+  abbrev pub RemoveIsMap : Type 0
+  RemoveIsMap = (s c : List ℕ) (o : Out) (t : List ℕ) → Accepted S h s → Made S h (remove c) s o t
+      → (ok o ≡ true → (o ≡ answerOf (map-of S s c)) × ((x : List ℕ) → map-of S t x ≡ update (map-of S s) c none x))
+      × (ok o ≡ false → t ≡ s)
+
+  -- a put on an accepted store is refused exactly when the table says
+  abbrev pub Refuses : List ℕ → List ℕ → Place → Row → Type 0
+  Refuses s c p r = Refusal3 c ⊎ (Refusal4 p ⊎ ((map-of S s c ≡ none) × (Refusal6 S h (rowsHeld S s) r ⊎ Refusal7 S h s (rowsHeld S s) r)))
+
+  abbrev pub PutRefused : Type 0
+  PutRefused = (s c : List ℕ) (p : Place) (o : Out) (t : List ℕ) → Accepted S h s → Made S h (put c p) s o t
+      → ((ok o ≡ false) ↔ Refuses s c p (record { code = c; place = stored p }))
+
+  -- no code is stored twice, and each row is listed once: the count of rows is the map's size
+  abbrev pub ListedOnce : Type 0
+  ListedOnce = (s : List ℕ) → Accepted S h s → Once (rowsHeld S s) × Reordered (rowsHeld S s) (listing S h (rowsHeld S s))
+
+  -- the store is accepted again afterwards
+  abbrev pub AcceptedAgain : Type 0
+  AcceptedAgain = (c : Call) (s : List ℕ) (o : Out) (t : List ℕ) → Accepted S h s → Made S h c s o t → Accepted S h t × (length t ≡ length s)
+
+  -- an accepted format makes an accepted store without rows, whatever the store held
+  abbrev pub FormatAccepted : Type 0
+  FormatAccepted = (s t : List ℕ) → Made S h format s formatted t → Accepted S h t × (rowsHeld S t ≡ [])
+
+-- ---- demand 3: format a store, then make any calls, refused ones among them
+
+-- the rows that a call leaves, if it is not refused
+abbrev pub after : Call → List Row → List Row
+after format rs = []
+after check rs = rs
+after count rs = rs
+after (lookup c) rs = rs
+after (remove c) rs = without (λ q. q .code) c rs
+after (put c p) rs = record { code = c; place = stored p } ∷ without (λ q. q .code) c rs
+after (rowAt n out) rs = rs
+
+abbrev pub surviving : Call → Out → List Row → List Row
+surviving c o rs = pick (ok o) (after c rs) rs
+
+-- a history with its surviving rows and its store
+pub data History (S : Shape) (h : List ℕ → ℕ) : List Row → List ℕ → Type 0 where
+  begin : (s : List ℕ) {t : List ℕ} → Made S h format s formatted t → History S h [] t
+  next : {rs : List Row} {s t : List ℕ} (c : Call) (o : Out) → History S h rs s → Made S h c s o t → History S h (surviving c o rs) t
+
+-- a bucket as an entry shows it: its depth, and its rows in code order
+abbrev pub Seen : Type 0
+Seen = Option (ℕ × List Row)
+
+abbrev pub seen : Page → Seen
+seen free = none
+seen (bucket k rs) = some (k, map asRow rs)
+
+abbrev pub named : Shape → List ℕ → ℕ → Seen
+named S s zero = none
+named S s (suc p) = seen (read (page S s (suc p)))
+
+-- what each directory entry below 2^d names
+abbrev pub directory : Shape → List ℕ → List Seen
+directory S s = tab (λ i. named S s (entryAt S s i)) (2 ^ dirDepth s)
+
+-- the same, worked out afresh from rows
+abbrev pub seenAfresh : (List ℕ → ℕ) → List Row → Option Prefix → Seen
+seenAfresh h rs none = none
+seenAfresh h rs (some p) = some (p .bits, inOrder (rowsOf h rs (p .bits) (p .value)))
+
+abbrev pub afresh : Shape → (List ℕ → ℕ) → List Row → List Seen
+afresh S h rs = let d : ℕ = depthOf (buckets S h rs) in tab (λ i. seenAfresh h rs (entry (buckets S h rs) d i)) (2 ^ d)
+
+-- s is what is worked out afresh from rs
+pub record Afresh (S : Shape) (h : List ℕ → ℕ) (rs : List Row) (s : List ℕ) : Type 0 where
+  pub keeps : Accepted S h s
+  pub same : Reordered (rowsHeld S s) rs
+  pub once : Once rs
+  pub depth : dirDepth s ≡ depthOf (buckets S h rs)
+  pub buckets-and-entries : directory S s ≡ afresh S h rs
+  pub listed : listing S h (rowsHeld S s) ≡ listing S h rs
+
+module _ (S : Shape) (h : List ℕ → ℕ) where
+  -- after any history the store is what is worked out afresh from the rows that survive
+  abbrev pub AfreshAlways : Type 0
+  AfreshAlways = (rs : List Row) (s : List ℕ) → History S h rs s → Afresh S h rs s
+
+  -- two histories with the same surviving rows and store length answer the same next put alike
+  abbrev pub SameRefusals : Type 0
+  SameRefusals = (rs qs : List Row) (s t : List ℕ) → History S h rs s → History S h qs t → Reordered rs qs → length s ≡ length t
+      → (c : List ℕ) (p : Place) (o o′ : Out) (s′ t′ : List ℕ) → Made S h (put c p) s o s′ → Made S h (put c p) t o′ t′ → o ≡ o′
+
+  -- in each call but format a bucket whose rows and depth come out the same keeps its page and all its bytes
+  abbrev pub KeptPages : Type 0
+  KeptPages = (c : Call) (s : List ℕ) (o : Out) (t : List ℕ) → (c ≡ format → ⊥) → Accepted S h s → Made S h c s o t
+      → (p q k : ℕ) (rs qs : List Record) → 2 ≤ p → p < pages S s → 2 ≤ q → q < pages S t
+      → read (page S s p) ≡ bucket k rs → read (page S t q) ≡ bucket k qs → map asRow rs ≡ map asRow qs
+      → (p ≡ q) × (page S s p ≡ page S t q)
+
+-- all of it, for every page size and every hash
+abbrev pub Demand1 : Type 0
+Demand1 = (S : Shape) (h : List ℕ → ℕ) → RefusalKeeps S h × OutputKept S h
+
+abbrev pub Demand2 : Type 0
+Demand2 = (S : Shape) (h : List ℕ → ℕ) → Sized S → Hash h
+    → CheckExact S h × LookupIsMap S h × PutIsMap S h × RemoveIsMap S h × PutRefused S h × ListedOnce S h × AcceptedAgain S h × FormatAccepted S h
+
+abbrev pub Demand3 : Type 0
+Demand3 = (S : Shape) (h : List ℕ → ℕ) → Sized S → Hash h → AfreshAlways S h × SameRefusals S h × KeptPages S h
+
+pub sized-1024 : Sized S1024
+sized-1024 = record { whole = refl; deep = refl; least = omega arith; most = omega arith }

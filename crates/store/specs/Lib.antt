@@ -1,0 +1,5 @@
+pub mod Pages
+pub mod Accepted
+pub mod Moves
+pub mod Tables
+pub mod Demands

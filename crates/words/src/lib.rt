@@ -1,0 +1,120 @@
+// Bytes at offsets of a slice: little-endian numbers, a copy, a shift by four.
+ghost use mathlib.Core.Path.{_≡_};
+ghost use Prim.Native.Nat.{_+_, _≤_, _<_};
+ghost use lib.ListN.{length};
+ghost use Rattle.words.specs.Le.{le16, le32};
+ghost use Rattle.words.specs.Codes.{Ordered};
+ghost use Rattle.words.specs.Moves.{Put16, Put32, Copied, MovedDown, Cleared, MovedUp};
+
+// The 16 bits at k.
+pub fn get16(s: &[u8], k: usize) -> usize
+    requires { ⌜ k + 2 ≤ length (now s) ⌝ }
+    ensures { λ r. ⌜ (r ≡ le16 (now (s .entry)) k) × (r < 65536) ⌝ }
+{
+    (s[k] as usize) + 256 * (s[k + 1] as usize)
+}
+
+// The 32 bits at k.
+pub fn get32(s: &[u8], k: usize) -> usize
+    requires { ⌜ k + 4 ≤ length (now s) ⌝ }
+    ensures { λ r. ⌜ (r ≡ le32 (now (s .entry)) k) × (r < 4294967296) ⌝ }
+{
+    let lo = get16(s, k);
+    let hi = get16(s, k + 2);
+    lo + 65536 * hi
+}
+
+pub fn put16(s: &mut [u8], k: usize, v: usize)
+    requires { ⌜ (k + 2 ≤ length (now s)) × (v < 65536) ⌝ }
+    ensures { λ _. ⌜ Put16 (now (s .entry)) k v (now (s .exit)) ⌝ }
+{
+    s[k] = (v % 256) as u8;
+    s[k + 1] = (v / 256 % 256) as u8;
+}
+
+pub fn put32(s: &mut [u8], k: usize, v: usize)
+    requires { ⌜ (k + 4 ≤ length (now s)) × (v < 4294967296) ⌝ }
+    ensures { λ _. ⌜ Put32 (now (s .entry)) k v (now (s .exit)) ⌝ }
+{
+    put16(s, k, v % 65536);
+    put16(s, k + 2, v / 65536);
+}
+
+// src goes to dst at an index.
+pub fn copy_at(dst: &mut [u8], at: usize, src: &[u8])
+    requires { ⌜ at + length (now src) ≤ length (now dst) ⌝ }
+    ensures { λ _. ⌜ Copied (now (dst .entry)) at (now (src .entry)) (now (dst .exit)) ⌝ }
+{
+    let mut i = 0;
+    while i < src.len() {
+        dst[at + i] = src[i];
+        i += 1;
+    }
+}
+
+// n bytes move from at + 4 to at.
+pub fn move_down(s: &mut [u8], at: usize, n: usize)
+    requires { ⌜ at + n + 4 ≤ length (now s) ⌝ }
+    ensures { λ _. ⌜ MovedDown (now (s .entry)) at n (now (s .exit)) ⌝ }
+{
+    let mut i = 0;
+    while i < n {
+        s[at + i] = s[at + i + 4];
+        i += 1;
+    }
+}
+
+// Zeros from a up to b.
+pub fn clear(s: &mut [u8], a: usize, b: usize)
+    requires { ⌜ (a ≤ b) × (b ≤ length (now s)) ⌝ }
+    ensures { λ _. ⌜ Cleared (now (s .entry)) a b (now (s .exit)) ⌝ }
+{
+    let mut i = a;
+    while i < b {
+        s[i] = 0;
+        i += 1;
+    }
+}
+
+// What stands four below goes to a up to b, from the end.
+pub fn move_up(s: &mut [u8], a: usize, b: usize)
+    requires { ⌜ (4 ≤ a) × (a ≤ b) × (b ≤ length (now s)) ⌝ }
+    ensures { λ _. ⌜ MovedUp (now (s .entry)) a b (now (s .exit)) ⌝ }
+{
+    let mut i = b;
+    while a < i {
+        i -= 1;
+        s[i] = s[i - 4];
+    }
+}
+
+pub enum Order {
+    Less,
+    Equal,
+    Greater,
+}
+
+// Two codes in byte order.
+pub fn compare(a: &[u8], b: &[u8]) -> Order
+    ensures { λ r. ⌜ Ordered (now (a .entry)) (now (b .entry)) r ⌝ }
+{
+    let mut i = 0;
+    while i < a.len() {
+        if b.len() <= i {
+            return Order::Greater;
+        }
+        let x = a[i];
+        let y = b[i];
+        if x < y {
+            return Order::Less;
+        }
+        if y < x {
+            return Order::Greater;
+        }
+        i += 1;
+    }
+    if i < b.len() {
+        return Order::Less;
+    }
+    Order::Equal
+}
