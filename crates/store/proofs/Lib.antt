@@ -9,3 +9,4 @@ pub mod Sorted
 pub mod Plan
 pub mod Over
 pub mod Owner
+pub mod Showing

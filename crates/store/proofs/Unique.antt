@@ -28,11 +28,11 @@ pub read-zero : (g : List ℕ) → Zero g → read g ≡ free
 unfolding read
 read-zero g z = ap (λ b. reading b g) (z 0)
 
-read-bucket : (h : List ℕ → ℕ) (g : List ℕ) → Bucket h g → read g ≡ bucket (depth g) (rows g)
+pub read-bucket : (h : List ℕ → ℕ) (g : List ℕ) → Bucket h g → read g ≡ bucket (depth g) (rows g)
 unfolding read
 read-bucket h g b = ap (λ b. reading b g) (b .rules .rules .one)
 
-free-not : {k : ℕ} {rs : List Rattle.page.specs.Page.Record} → free ≡ bucket k rs → ⊥
+pub free-not : {k : ℕ} {rs : List Rattle.page.specs.Page.Record} → free ≡ bucket k rs → ⊥
 free-not e = let z : _≡_ {A = ℕ} 0 1 = cc in omega arith
 
 zero-not-one : (g : List ℕ) → Zero g → byte g 0 ≡ 1 → ⊥
