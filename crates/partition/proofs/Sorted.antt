@@ -17,12 +17,12 @@ use Rattle.partition.proofs.Laws.{reordered}
 use Rattle.partition.proofs.Pages.{turned}
 
 -- a map's step, by the outcome of a comparison
-there : (o : Ordering) (m : Option (List ℕ)) (b : List ℕ) → by o m (some b) m ≡ none → (o ≡ Ordering·eq → ⊥) × (m ≡ none)
-there Ordering·lt m b e = ((λ f. let n : _≡_ {A = ℕ} 0 1 = cc in omega arith), e)
-there Ordering·eq m b e = absurd (let n : _≡_ {A = ℕ} 0 1 = cc in omega arith)
-there Ordering·gt m b e = ((λ f. let n : _≡_ {A = ℕ} 0 1 = cc in omega arith), e)
+pub unplaced : (o : Ordering) (m : Option (List ℕ)) (b : List ℕ) → by o m (some b) m ≡ none → (o ≡ Ordering·eq → ⊥) × (m ≡ none)
+unplaced Ordering·lt m b e = ((λ f. let n : _≡_ {A = ℕ} 0 1 = cc in omega arith), e)
+unplaced Ordering·eq m b e = absurd (let n : _≡_ {A = ℕ} 0 1 = cc in omega arith)
+unplaced Ordering·gt m b e = ((λ f. let n : _≡_ {A = ℕ} 0 1 = cc in omega arith), e)
 
-skip : (o : Ordering) (m : Option (List ℕ)) (b : List ℕ) → (o ≡ Ordering·eq → ⊥) → by o m (some b) m ≡ m
+pub skip : (o : Ordering) (m : Option (List ℕ)) (b : List ℕ) → (o ≡ Ordering·eq → ⊥) → by o m (some b) m ≡ m
 skip Ordering·lt m b f = refl
 skip Ordering·eq m b f = absurd (f refl)
 skip Ordering·gt m b f = refl
@@ -47,7 +47,7 @@ same-map (front r p) o =
     ((sym (i .1 (r .code)) ∙ o .0, i .0), (λ c. ap (λ m. by (order c (r .code)) m (some (r .place)) m) (i .1 c)))
 same-map (swap {rs = rs} {qs = qs} r q p) o =
     let i = same-map p (o .1 .1) in
-    let t = there (order (r .code) (q .code)) (placeOf rs (r .code)) (q .place) (o .0) in
+    let t = unplaced (order (r .code) (q .code)) (placeOf rs (r .code)) (q .place) (o .0) in
     let apart : (c : List ℕ) → order c (r .code) ≡ Ordering·eq → order c (q .code) ≡ Ordering·eq → ⊥
     = λ c x y. t .0 (subst (λ d. order d (q .code) ≡ Ordering·eq) (order-eq c (r .code) x) y) in (
       (
@@ -131,7 +131,7 @@ keep-none false q m m′ c e f = go (order c (q .code)) e
     go Ordering·gt x = f x
 
 module _ (h : List ℕ → ℕ) (k v : ℕ) where
-  some-none : (rs : List Row) (c : List ℕ) → placeOf rs c ≡ none → placeOf (rowsOf h rs k v) c ≡ none
+  pub some-none : (rs : List Row) (c : List ℕ) → placeOf rs c ≡ none → placeOf (rowsOf h rs k v) c ≡ none
   unfolding rowsOf
   some-none [] c e = e
   some-none (q ∷ rs) c e = keep-none (eqb (top k (h (q .code))) v) q rs (rowsOf h rs k v) c e (some-none rs c)
@@ -140,7 +140,7 @@ module _ (h : List ℕ → ℕ) (k v : ℕ) where
   keep-once true q m e o = (e, o)
   keep-once false q m e o = o
 
-  some-once : (rs : List Row) → Once rs → Once (rowsOf h rs k v)
+  pub some-once : (rs : List Row) → Once rs → Once (rowsOf h rs k v)
   unfolding rowsOf
   some-once [] o = tt
   some-once (q ∷ rs) o = keep-once (eqb (top k (h (q .code))) v) q (rowsOf h rs k v) (some-none rs (q .code) (o .0)) (some-once rs (o .1))
@@ -155,7 +155,7 @@ module _ (h : List ℕ → ℕ) (k v : ℕ) where
   keep-swap false true r q p = front q p
   keep-swap false false r q p = p
 
-  some-reordered : {rs qs : List Row} → Reordered rs qs → Reordered (rowsOf h rs k v) (rowsOf h qs k v)
+  pub some-reordered : {rs qs : List Row} → Reordered rs qs → Reordered (rowsOf h rs k v) (rowsOf h qs k v)
   unfolding rowsOf
   some-reordered empty = empty
   some-reordered (front r p) = keep-front (eqb (top k (h (r .code))) v) r (some-reordered p)
