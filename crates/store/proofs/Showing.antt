@@ -2,8 +2,7 @@
 use mathlib.Core.Path.{_≡_, refl, sym, ap, subst, subst₂, _∙_}
 use mathlib.Core.List.{List, [], _∷_, _++_, map, flatMap, List·Memᴰ, List·Memᴰ·head, List·Memᴰ·tail, List·Memᴰ·not-nil, List·Memᴰ·cases-cons, List·Memᴰ·append-cases}
 use mathlib.Core.Logic.{_⊎_, inl, inr, _↔_}
-use mathlib.Core.Option.{Option, some, none}
-use Prim.Native.Nat.{ℕ, zero, suc, _+_, _-_, _*_, _/_, _^_, _≤_, _<_, zero-le, Ordering, Ordering·lt, Ordering·eq, Ordering·gt}
+use Prim.Native.Nat.{ℕ, zero, suc, _+_, _-_, _*_, _/_, _^_, _≤_, _<_, zero-le}
 use native.Mathlib.Omega.{arith}
 use native.Mathlib.Nat.{le-trans, div-lt-iff-lt-mul, pow-le-pow-right}
 use lib.Pow.{pow-pos, pow-add}
@@ -11,14 +10,14 @@ use lib.ListN.{length, getD, length-map, List·getD-eq-default}
 use Rattle.ground.specs.Lists.{tab, total}
 use Rattle.ground.proofs.Sides.{side}
 use Rattle.ground.proofs.Tables.{length-tab, total-same}
-use Rattle.words.specs.Codes.{order, Before}
-use Rattle.words.proofs.Orders.{irrefl, order-eq}
+use Rattle.words.specs.Codes.{Before}
+use Rattle.words.proofs.Orders.{irrefl}
 use Rattle.page.specs.Page.{Record, BucketPage, Slotted, depth, count, code, len, rows, rowAt}
 use Rattle.page.specs.Page.{need as slot-need, free as total-free}
 use Rattle.page.proofs.Sums.{len-of-code}
 use Rattle.partition.specs.Bits.{top}
 use Rattle.partition.specs.Partition.{Shape, Row, Prefix, need, needs, rowsOf, IsBucket, Fine, Reordered}
-use Rattle.partition.specs.Listing.{by, insert, inOrder, placeOf, Once}
+use Rattle.partition.specs.Listing.{by, insert, inOrder, Once}
 use Rattle.partition.proofs.Bits.{top-step, top-lt}
 use Rattle.partition.proofs.Tree.{pfx}
 use Rattle.partition.proofs.Directory.{holds-top}
@@ -26,6 +25,7 @@ use Rattle.partition.proofs.Path.{path-le}
 use Rattle.partition.proofs.Rows.{load, load-mono}
 use Rattle.partition.proofs.Sum.{of-prefix}
 use Rattle.partition.proofs.Pages as P
+use Rattle.partition.proofs.Members.{missing, once-append}
 use Rattle.store.specs.Pages.{size, pages, page, dirDepth, entryAt, Page, free, bucket, read, contents, asRow, rowsOn, rowsIn, rowsHeld}
 use Rattle.store.specs.Accepted.{Bucket, Calls, Stands, unused, used, Accepted}
 use Rattle.store.specs.Demands.{Sized, Hash}
@@ -34,38 +34,6 @@ use Rattle.store.proofs.Shows.{firstCode, prefixOn, Holding, OnPage, Sh
 use Rattle.store.proofs.Unique.{free-not, read-zero, read-bucket, held, page-long}
 
 -- ---- rows in a table
-
--- a code that none of the rows has
-pub none-of : (l : List Row) (c : List ℕ) → ((r : Row) → List·Memᴰ r l → order c (r .code) ≡ Ordering·eq → ⊥) → placeOf l c ≡ none
-unfolding placeOf
-none-of [] c f = refl
-none-of (q ∷ l) c f = go (order c (q .code)) (f q (List·Memᴰ·head refl)) (none-of l c (λ r m. f r (List·Memᴰ·tail m)))
-  where
-    go : (o : Ordering) → (o ≡ Ordering·eq → ⊥) → placeOf l c ≡ none → by o (placeOf l c) (some (q .place)) (placeOf l c) ≡ none
-    go Ordering·lt n e = e
-    go Ordering·eq n e = absurd (n refl)
-    go Ordering·gt n e = e
-
-pub of-none : (l : List Row) (c : List ℕ) → placeOf l c ≡ none → (r : Row) → List·Memᴰ r l → order c (r .code) ≡ Ordering·eq → ⊥
-unfolding placeOf
-of-none [] c e r m = absurd (List·Memᴰ·not-nil m)
-of-none (q ∷ l) c e r m = go (order c (q .code)) refl e (List·Memᴰ·cases-cons m) (λ e. of-none l c e r)
-  where
-    go : (o : Ordering) → order c (q .code) ≡ o → by o (placeOf l c) (some (q .place)) (placeOf l c) ≡ none → (r ≡ q) ⊎ List·Memᴰ r l
-        → (placeOf l c ≡ none → List·Memᴰ r l → order c (r .code) ≡ Ordering·eq → ⊥) → order c (r .code) ≡ Ordering·eq → ⊥
-    go Ordering·eq p e m rest f = let n : _≡_ {A = ℕ} 0 1 = cc in omega arith
-    go Ordering·lt p e (inl s) rest f = let n : _≡_ {A = ℕ} 0 1 = cc in omega arith
-    go Ordering·gt p e (inl s) rest f = let n : _≡_ {A = ℕ} 0 1 = cc in omega arith
-    go Ordering·lt p e (inr t) rest f = rest e t f
-    go Ordering·gt p e (inr t) rest f = rest e t f
-
-pub once-append : (l m : List Row) → Once l → Once m → ((r q : Row) → List·Memᴰ r l → List·Memᴰ q m → order (r .code) (q .code) ≡ Ordering·eq → ⊥) → Once (l ++ m)
-once-append [] m a b f = b
-once-append (r ∷ l) m a b f = (none-of (l ++ m) (r .code) (λ q n. go q (List·Memᴰ·append-cases l n)), once-append l m (a .1) b (λ q p n. f q p (List·Memᴰ·tail n)))
-  where
-    go : (q : Row) → List·Memᴰ q l ⊎ List·Memᴰ q m → order (r .code) (q .code) ≡ Ordering·eq → ⊥
-    go q (inl n) = of-none l (r .code) (a .0) q n
-    go q (inr n) = f r q (List·Memᴰ·head refl) n
 
 in-tab : {A : Type 0} (f : ℕ → A) (n : ℕ) (a : A) → List·Memᴰ a (tab f n) → (i : ℕ) × (i < n) × (a ≡ f i)
 unfolding tab
@@ -107,8 +75,8 @@ pub climbs-once : (f : ℕ → Row) (n : ℕ) → Climbs f n → Once (tab f n)
 unfolding tab
 climbs-once f zero c = tt
 climbs-once f (suc n) c = (
-  none-of (tab (λ i. f (suc i)) n) (f zero .code) (λ r m e. let w = in-tab (λ i. f (suc i)) n r m in
-      irrefl (f zero .code) (subst (λ x. Before (f zero .code) x) (ap (λ q. q .code) (sym (w .2)) ∙ sym (order-eq (f zero .code) (r .code) e)) (c zero (suc (w .0)) (omega arith) (omega (arith, w .1))))),
+  missing (tab (λ i. f (suc i)) n) (f zero .code) (λ r m e. let w = in-tab (λ i. f (suc i)) n r m in
+      irrefl (f zero .code) (subst (λ x. Before (f zero .code) x) (ap (λ q. q .code) (sym (w .2)) ∙ sym e) (c zero (suc (w .0)) (omega arith) (omega (arith, w .1))))),
   climbs-once (λ i. f (suc i)) n (λ i j l m. c (suc i) (suc j) (omega arith) (omega arith)),
 )
 
@@ -221,8 +189,7 @@ good-once h [] g o = tt
 good-once h (p ∷ ps) g o =
     once-append (p .rows) (P.gather ps) (o p (List·Memᴰ·head refl)) (good-once h ps (g .2) (λ q m. o q (List·Memᴰ·tail m)))
     (λ r q a b e. let w = P.whose h ps q b in
-    let c = order-eq (r .code) (q .code) e in
-    g .1 (w .0) (w .1) (h (q .code)) (subst (λ x. top (p .prefix .bits) (h x) ≡ p .prefix .value) c (g .0 r a)) (P.keeps-of h ps (g .2) (w .0) (w .1) q (w .2)))
+    g .1 (w .0) (w .1) (h (q .code)) (subst (λ x. top (p .prefix .bits) (h x) ≡ p .prefix .value) e (g .0 r a)) (P.keeps-of h ps (g .2) (w .0) (w .1) q (w .2)))
 
 module _ (S : Shape) (h : List ℕ → ℕ) where
   tail-good : (gs : List Page) (n : ℕ) (all : List Page) → ((i : ℕ) → getD gs i free ≡ getD all (i + n) free) → Sound S h all → P.Good h (inUse h gs)
