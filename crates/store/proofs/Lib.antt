@@ -1,5 +1,6 @@
 pub mod Rules
 pub mod Shows
+pub mod Shown
 pub mod Unique
 pub mod Settled
 pub mod Kept

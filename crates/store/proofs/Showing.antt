@@ -1,12 +1,12 @@
 -- An accepted store's pages show its own rows.
 use mathlib.Core.Path.{_≡_, refl, sym, ap, subst, subst₂, _∙_}
-use mathlib.Core.List.{List, [], _∷_, _++_, map, flatMap, List·Memᴰ, List·Memᴰ·head, List·Memᴰ·tail, List·Memᴰ·not-nil, List·Memᴰ·cases-cons, List·Memᴰ·append-cases}
+use mathlib.Core.List.{List, [], _∷_, _++_, map, flatMap, List·Memᴰ, List·Memᴰ·head, List·Memᴰ·tail, List·Memᴰ·not-nil, List·Memᴰ·cases-cons}
 use mathlib.Core.Logic.{_⊎_, inl, inr, _↔_}
 use Prim.Native.Nat.{ℕ, zero, suc, _+_, _-_, _*_, _/_, _^_, _≤_, _<_, zero-le}
 use native.Mathlib.Omega.{arith}
 use native.Mathlib.Nat.{le-trans, div-lt-iff-lt-mul, pow-le-pow-right}
 use lib.Pow.{pow-pos, pow-add}
-use lib.ListN.{length, getD, length-map, List·getD-eq-default}
+use lib.ListN.{length, getD, length-map}
 use Rattle.ground.specs.Lists.{tab, total}
 use Rattle.ground.proofs.Sides.{side}
 use Rattle.ground.proofs.Tables.{length-tab, total-same}
@@ -26,12 +26,13 @@ use Rattle.partition.proofs.Rows.{load, load-mono}
 use Rattle.partition.proofs.Sum.{of-prefix}
 use Rattle.partition.proofs.Pages as P
 use Rattle.partition.proofs.Members.{missing, once-append}
-use Rattle.store.specs.Pages.{size, pages, page, dirDepth, entryAt, Page, free, bucket, read, contents, asRow, rowsOn, rowsIn, rowsHeld}
+use Rattle.store.specs.Pages.{size, pages, page, dirDepth, entryAt, Page, free, bucket, read, contents, asRow, rowsIn, rowsHeld}
 use Rattle.store.specs.Accepted.{Bucket, Calls, Stands, unused, used, Accepted}
 use Rattle.store.specs.Demands.{Sized, Hash}
 use Rattle.store.proofs.Rules.{Opened, opened}
 use Rattle.store.proofs.Shows.{firstCode, prefixOn, Holding, OnPage, Shows}
-use Rattle.store.proofs.Unique.{free-not, read-zero, read-bucket, held, page-long}
+use Rattle.store.proofs.Shown.{free-not, within-pages, row-on}
+use Rattle.store.proofs.Unique.{read-zero, read-bucket, held, page-long}
 
 -- ---- rows in a table
 
@@ -106,26 +107,6 @@ module _ (g : List ℕ) (b : Slotted g) where
   -- a row of the page is that of a slot
   pub page-row : (r : Row) → List·Memᴰ r (map asRow (rows g)) → (i : ℕ) × (i < count g) × (r ≡ rowIn i)
   page-row r m = in-tab rowIn (count g) r (rw (map-tab asRow (rowAt g) (count g)) at m)
-
--- ---- where a row is
-
--- the page of a row
-pub record Houses (gs : List Page) (r : Row) : Type 0 where
-  pub at : ℕ
-  pub depth : ℕ
-  pub records : List Record
-  pub holding : Holding gs at depth records
-  pub inside : List·Memᴰ r (map asRow records)
-
-pub housed : (gs : List Page) (r : Row) → List·Memᴰ r (rowsIn gs) → Houses gs r
-unfolding rowsIn flatMap
-housed [] r m = absurd (List·Memᴰ·not-nil m)
-housed (g ∷ gs) r m = go g (List·Memᴰ·append-cases (rowsOn g) m) (housed gs r)
-  where
-    go : (g : Page) → List·Memᴰ r (rowsOn g) ⊎ List·Memᴰ r (rowsIn gs) → (List·Memᴰ r (rowsIn gs) → Houses gs r) → Houses (g ∷ gs) r
-    go g (inr t) rest = let w = rest t in record { at = suc (w .at); depth = w .depth; records = w .records; holding = w .holding; inside = w .inside }
-    go free (inl t) rest = absurd (List·Memᴰ·not-nil t)
-    go (bucket k rs) (inl t) rest = record { at = zero; depth = k; records = rs; holding = refl; inside = t }
 
 -- ---- pages as the partition's pages
 
@@ -253,8 +234,8 @@ module _ (S : Shape) (h : List ℕ → ℕ) (gs : List Page) (s : Sound S h gs) 
       go [] e = rw e zero-le
       go (r ∷ l) e =
           let m = of-prefix S h (rowsIn gs) (S .deepest) v r (subst (λ t. List·Memᴰ r t) (sym e) (List·Memᴰ·head refl)) in
-          let w = housed gs r (m .0) in
-          at r (m .1) (w .at) (w .depth) (w .records) (w .holding) (s .keeps (w .at) (w .depth) (w .records) (w .holding) r (w .inside))
+          let w = row-on gs r (m .0) in
+          at r (m .1) (w .0) (w .1) (w .2) (w .3) (s .keeps (w .0) (w .1) (w .2) (w .3) r (w .4))
 
   pub sound-shows : Shows S h (rowsIn gs) gs
   sound-shows = record {
@@ -325,7 +306,7 @@ module _ (S : Shape) (h : List ℕ → ℕ) (sized : Sized S) (hash : Hash h) (s
 
       go : (i + 2 < pages S s) ⊎ (pages S s ≤ i + 2) → Under i k rs
       go (inl l) = stand l (T .stands (i + 2) (omega arith) l)
-      go (inr l) = absurd (free-not (sym (List·getD-eq-default (contents S s) free (omega (arith, pages-held S s))) ∙ e))
+      go (inr l) = absurd (omega (arith, within-pages (contents S s) i k rs e, pages-held S s))
 
   prefix-lt : (k : ℕ) (rs : List Record) → prefixOn h k rs < 2 ^ k
   prefix-lt k rs = top-lt (h (firstCode rs)) k (hash (firstCode rs))
