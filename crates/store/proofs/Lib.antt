@@ -11,3 +11,5 @@ pub mod Plan
 pub mod Over
 pub mod Owner
 pub mod Showing
+pub mod Named
+pub mod Afresh

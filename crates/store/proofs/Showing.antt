@@ -265,7 +265,7 @@ calls-top d k v x l b e =
     let q : k + (d - k) ≡ d = omega arith in
     record { below = subst (λ n. top d x < n) (sym (pow-add 2 k (d - k)) ∙ ap (λ n. 2 ^ n) q) p; bits = w }
 
-pages-held : (S : Shape) (s : List ℕ) → length (contents S s) ≡ pages S s - 2
+pub pages-held : (S : Shape) (s : List ℕ) → length (contents S s) ≡ pages S s - 2
 unfolding contents
 pages-held S s = length-tab (λ i. read (page S s (i + 2))) (pages S s - 2)
 
