@@ -13,3 +13,4 @@ pub mod Owner
 pub mod Showing
 pub mod Named
 pub mod Afresh
+pub mod Accepting

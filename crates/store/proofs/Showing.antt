@@ -248,7 +248,7 @@ module _ (S : Shape) (h : List ℕ → ℕ) (gs : List Page) (s : Sound S h gs) 
 
 -- ---- from an accepted store's bytes to its pages
 
-first-of : (f : ℕ → Record) (n : ℕ) → 0 < n → firstCode (tab f n) ≡ f 0 .code
+pub first-of : (f : ℕ → Record) (n : ℕ) → 0 < n → firstCode (tab f n) ≡ f 0 .code
 unfolding tab
 first-of f zero l = absurd (omega arith)
 first-of f (suc n) l = refl
