@@ -4,9 +4,11 @@ use mathlib.Core.List.{List, map, List·Memᴰ, List·Memᴰ·head, List·Memᴰ
 use mathlib.Core.Logic.{_⊎_, inl, inr, _↔_}
 use Prim.Native.Nat.{ℕ, zero, suc, _+_, _-_, _*_, _/_, _^_, _≤_, _<_}
 use native.Mathlib.Omega.{arith}
-use native.Mathlib.Nat.{le-trans}
+use native.Mathlib.Nat.{le-trans, mul-le-mul-right}
 use lib.ListN.{length, getD}
 use Rattle.ground.specs.Lists.{byte, tab}
+use Rattle.ground.proofs.Parts.{part-same}
+use Rattle.ground.proofs.Tables.{tab-same}
 use Rattle.words.specs.Le.{le32}
 use Rattle.words.proofs.Bytes.{le32-same}
 use Rattle.page.specs.Page.{Record, BucketPage, depth, count, code, rows, rowAt}
@@ -22,7 +24,7 @@ use Rattle.store.specs.Demands.{Sized, Hash}
 use Rattle.store.proofs.Rules.{Opened, opened, closed}
 use Rattle.store.proofs.Shows.{prefixOn, Holding, Shows}
 use Rattle.store.proofs.Shown.{free-not, page-row}
-use Rattle.store.proofs.Unique.{read-zero, read-used, held}
+use Rattle.store.proofs.Unique.{read-zero, read-used, held, within}
 use Rattle.store.proofs.Showing.{map-tab, first-code, first-of}
 use Rattle.store.proofs.Named.{Entry, nothing, names, deep-small, deepest-bound, shown-shallow, one-called, accepted-entry}
 
@@ -59,6 +61,24 @@ head-kept S s t l a b w = record {
   where
     word : (k : ℕ) → k + 4 ≤ 16 → le32 t k ≡ le32 s k
     word k m = le32-same s t k (λ i b. a (k + i) (omega arith))
+
+-- pages 2 upward stay where the bytes from there on stay
+module _ (S : Shape) (s t : List ℕ) (l : length t ≡ length s) (same : (k : ℕ) → 2 * size S ≤ k → byte t k ≡ byte s k) where
+  pub page-kept : (p : ℕ) → 2 ≤ p → p < pages S t → page S t p ≡ page S s p
+  unfolding page
+  page-kept p a b =
+      let x : p * size S + size S ≤ length t = within S t p b in
+      let m : 2 * size S ≤ p * size S = mul-le-mul-right (size S) a in
+      part-same s t (p * size S) (size S) (omega arith) x (λ k lo hi. same k (omega arith))
+
+  pub contents-kept : contents S t ≡ contents S s
+  unfolding contents
+  contents-kept =
+      tab-same (λ i. read (page S t (i + 2))) (λ i. read (page S s (i + 2))) (pages S t - 2) (λ i b. ap read (page-kept (i + 2) (omega arith) (omega arith)))
+      ∙ ap (λ n. tab (λ i. read (page S s (i + 2))) (n / size S - 2)) l
+
+  pub each-kept : ((p : ℕ) → 2 ≤ p → p < pages S s → Whole (page S s p)) → (p : ℕ) → 2 ≤ p → p < pages S t → Whole (page S t p)
+  each-kept f p a b = subst Whole (sym (page-kept p a b)) (f p a (subst (λ n. p < n / size S) l b))
 
 tab-in : {A : Type 0} (f : ℕ → A) (n i : ℕ) → i < n → List·Memᴰ (f i) (tab f n)
 unfolding tab

@@ -1,20 +1,22 @@
 -- What a directory entry says of pages that show rows: it is the number of the page that calls for it, or 0 where no page does. So it is in an accepted store.
-use mathlib.Core.Path.{_≡_, refl, sym, ap, subst, _∙_}
+use mathlib.Core.Path.{_≡_, refl, sym, ap, subst, subst₂, _∙_}
 use mathlib.Core.List.{List, [], _∷_, List·Memᴰ, List·Memᴰ·head, List·Memᴰ·tail}
-use mathlib.Core.Logic.{_⊎_, inl, inr}
+use mathlib.Core.Logic.{_⊎_, inl, inr, _↔_}
 use mathlib.Core.Option.{Option, some, none}
 use Prim.Native.Nat.{ℕ, zero, suc, _+_, _-_, _*_, _/_, _^_, _≤_, _<_, max, zero-le}
 use native.Mathlib.Omega.{arith}
-use native.Mathlib.Nat.{le-antisymm, pow-le-pow-right}
+use native.Mathlib.Nat.{le-antisymm, pow-le-pow-right, mul-le-mul-right}
+use lib.Pow.{pow-add}
+use lib.ListN.{getD}
 use Rattle.ground.proofs.Sides.{side}
 use Rattle.page.specs.Page.{Record, depth, rows}
 use Rattle.partition.specs.Bits.{top}
-use Rattle.partition.specs.Partition.{Shape, Row, Prefix, buckets, depthOf, entry}
+use Rattle.partition.specs.Partition.{Shape, Row, Prefix, first, after, buckets, depthOf, entry}
 use Rattle.partition.proofs.Tree.{pfx}
 use Rattle.partition.proofs.Rows.{listed}
 use Rattle.partition.proofs.Laws.{no-overlap}
 use Rattle.partition.proofs.Store.{not-deeper}
-use Rattle.partition.proofs.Directory.{Holds, holds-top, entry-hash, entry-complete, entry-none, depth-bound}
+use Rattle.partition.proofs.Directory.{Holds, holds-range, holds-top, entry-hash, entry-complete, entry-none, depth-bound}
 use Rattle.store.specs.Pages.{pages, page, dirDepth, entryAt, Page, free, bucket, contents, depthOn, deepestIn}
 use Rattle.store.specs.Accepted.{Calls, Stands, unused, used}
 use Rattle.store.specs.Demands.{Sized, Hash}
@@ -28,6 +30,60 @@ use Rattle.store.proofs.Showing.{Under, under}
 pub data Entry (S : Shape) (h : List ℕ → ℕ) (t : List ℕ) (gs : List Page) (d n e : ℕ) : Type 0 where
   nothing : entryAt S t e ≡ 0 → ((i k : ℕ) (rs : List Record) → i < n → Holding gs i k rs → Calls d k (prefixOn h k rs) e → ⊥) → Entry S h t gs d n e
   names : (i k : ℕ) (rs : List Record) → i < n → entryAt S t e ≡ i + 2 → Holding gs i k rs → Calls d k (prefixOn h k rs) e → Entry S h t gs d n e
+
+-- ---- how a directory that is written page by page becomes right
+
+module _ (S : Shape) (h : List ℕ → ℕ) (t : List ℕ) (gs : List Page) (d e : ℕ) where
+  -- a cleared entry, before the first page
+  pub entry-start : entryAt S t e ≡ 0 → Entry S h t gs d 0 e
+  entry-start z = nothing z (λ i k rs l _ _. omega arith)
+
+  -- an entry that is not written anew stays as it was
+  pub entry-kept : (s : List ℕ) (n : ℕ) → entryAt S t e ≡ entryAt S s e → Entry S h s gs d n e → Entry S h t gs d n e
+  entry-kept s n q (nothing z f) = nothing (q ∙ z) f
+  entry-kept s n q (names i k rs l p g c) = names i k rs l (q ∙ p) g c
+
+  module _ (n m : ℕ) (next : m ≡ n + 1) where
+    -- page n does not call for the entry
+    pub entry-past : ((k : ℕ) (rs : List Record) → Holding gs n k rs → Calls d k (prefixOn h k rs) e → ⊥) → Entry S h t gs d n e → Entry S h t gs d m e
+    entry-past u (names i k rs l p g c) = names i k rs (omega arith) p g c
+    entry-past u (nothing z f) = nothing z (λ i k rs l g c. go i k rs (side i n) l g c)
+      where
+        go : (i k : ℕ) (rs : List Record) → (i < n) ⊎ (n ≤ i) → i < m → Holding gs i k rs → Calls d k (prefixOn h k rs) e → ⊥
+        go i k rs (inl b) l g c = f i k rs b g c
+        go i k rs (inr b) l g c = let q : i ≡ n = omega arith in u k rs (subst (λ j. Holding gs j k rs) q g) c
+
+    -- it is free
+    pub entry-past-free : getD gs n free ≡ free → Entry S h t gs d n e → Entry S h t gs d m e
+    entry-past-free q = entry-past (λ k rs g _. free-not (sym q ∙ g))
+
+    -- it is a bucket that calls for another entry
+    pub entry-past-bucket : (k : ℕ) (rs : List Record) → Holding gs n k rs → (Calls d k (prefixOn h k rs) e → ⊥) → Entry S h t gs d n e → Entry S h t gs d m e
+    entry-past-bucket k rs g u =
+        entry-past (λ l qs x c. let y : bucket l qs ≡ bucket k rs = sym x ∙ g in
+        let a : l ≡ k = cc in
+        let b : qs ≡ rs = cc in
+        u (subst₂ (λ j r. Calls d j (prefixOn h j r) e) a b c))
+
+    -- it is a bucket that calls for the entry, and its number is written there
+    pub entry-own : (k : ℕ) (rs : List Record) → Holding gs n k rs → Calls d k (prefixOn h k rs) e → entryAt S t e ≡ n + 2 → Entry S h t gs d m e
+    entry-own k rs g c p = names n k rs (omega arith) p g c
+
+-- a prefix calls for the entries from its first on, up to the one after its last
+pub calls-range : (d k v e : ℕ) → k ≤ d → v < 2 ^ k → Calls d k v e ↔ ((v * 2 ^ (d - k) ≤ e) × (e < (v + 1) * 2 ^ (d - k)))
+unfolding first after
+calls-range d k v e l b = (
+  (λ c. holds-range d e (pfx k v) .0 (c .bits)),
+  (λ r. record { below = omega (arith, all, most, r .1); bits = holds-range d e (pfx k v) .1 r }),
+)
+  where
+    all : 2 ^ k * 2 ^ (d - k) ≡ 2 ^ d
+    all = let q : k + (d - k) ≡ d = omega arith in sym (pow-add 2 k (d - k)) ∙ ap (λ n. 2 ^ n) q
+
+    most : (v + 1) * 2 ^ (d - k) ≤ 2 ^ k * 2 ^ (d - k)
+    most = mul-le-mul-right (2 ^ (d - k)) (omega arith)
+
+-- ---- pages that show rows
 
 -- the deepest depth of a page size
 pub deep-small : (S : Shape) → Sized S → S .deepest ≤ 32
