@@ -11,3 +11,4 @@ pub mod Sum
 pub mod Store
 pub mod Pages
 pub mod Sorted
+pub mod Maps
