@@ -13,7 +13,7 @@ use Rattle.store.specs.Accepted.{Accepted}
 use Rattle.store.specs.Moves.{placeOn, overwriteOn, overwritten}
 use Rattle.partition.specs.Listing.{Once}
 use Rattle.words.proofs.Orders.{order-eq}
-use Rattle.partition.proofs.Pages.{same-order}
+use Rattle.partition.proofs.Reorders.{same-order}
 use Rattle.partition.proofs.Maps.{cut, cut-none}
 use Rattle.store.proofs.Plan.{OverRows, AcceptedIsAfresh}
 

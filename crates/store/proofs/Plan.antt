@@ -21,7 +21,7 @@ use Rattle.partition.specs.Listing.{Once}
 use Rattle.store.specs.Demands.{Sized, Call, format, check, count, lookup, remove, put, rowAt, Made, ok, after, surviving, directory, afresh, Afresh, History, begin, next, AfreshAlways, map-of, update, answerOf, putAnswer, PutIsMap, RemoveIsMap}
 use Rattle.ground.proofs.Ladders.{each}
 use Rattle.partition.proofs.Sorted.{same-map}
-use Rattle.partition.proofs.Pages.{same-order}
+use Rattle.partition.proofs.Reorders.{same-order}
 use Rattle.partition.proofs.Maps.{cut, cut-none, cut-same, map-remove, map-put}
 use Rattle.partition.proofs.Sorted.{listing-same}
 use Rattle.store.proofs.Sorted.{afresh-same}
