@@ -2,11 +2,11 @@
 use Prim.Native.Nat.{ℕ, _+_, _*_, _-_, _≤_, _<_}
 use mathlib.Core.Path.{_≡_}
 use mathlib.Core.List.{List}
-use lib.ListN.{length}
+use lib.ListN.{length, set}
 use Rattle.ground.specs.Lists.{byte, part}
 use Rattle.words.specs.Moves.{Frame}
 use Rattle.ground.specs.Lists.{insertAt, removeAt}
-use Rattle.page.specs.Page.{Slotted, Belongs, Natural, Record, rows, count, frontier, free, depth, slotAt, word, off, len}
+use Rattle.page.specs.Page.{Slotted, Belongs, Natural, Record, rows, count, frontier, free, depth, slotAt, word, off, len, code}
 
 -- a record written at f
 pub record Recorded (p : List ℕ) (f : ℕ) (pl c q : List ℕ) : Type 0 where
@@ -67,3 +67,16 @@ pub record Removed (p : List ℕ) (s : ℕ) (q : List ℕ) : Type 0 where
   pub long : length q ≡ length p
   pub deep : depth q ≡ depth p
   pub rowsOf : rows q ≡ removeAt s (rows p)
+
+-- p has slot s, and pl is a place of which no part is negative
+pub record Overwritable (p : List ℕ) (s : ℕ) (pl : List ℕ) : Type 0 where
+  pub page : Slotted p
+  pub within : s < count p
+  pub natural : Natural pl
+
+-- q is p with the 8 bytes of place in slot s overwritten
+pub record Overwritten (p : List ℕ) (s : ℕ) (pl q : List ℕ) : Type 0 where
+  pub page : Slotted q
+  pub long : length q ≡ length p
+  pub deep : depth q ≡ depth p
+  pub rowsOf : rows q ≡ set (rows p) s (record { start = off p s; place = pl; code = code p s })
