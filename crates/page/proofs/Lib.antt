@@ -5,6 +5,7 @@ pub mod Inserting
 pub mod Unique
 pub mod Tops
 pub mod Removing
+pub mod Overwriting
 pub mod Sums
 pub mod Packs
 pub mod Settled

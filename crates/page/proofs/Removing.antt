@@ -37,8 +37,9 @@ pub record Erased (p : List ℕ) (s : ℕ) (q : List ℕ) : Type 0 where
 top-same : {p q : List ℕ} {n r : ℕ} → Top p n r → ((i : ℕ) → i < n → word q i ≡ word p i) → Top q n r
 unfolding off len
 top-same {p} {q} {n} {r} t e = record {
+  least = t .least;
   most = λ i h. rw (e i h) (t .most i h);
-  reached = (t .reached .0, t .reached .1, rw (e (t .reached .0) (t .reached .1)) (t .reached .2));
+  reached = λ a. (t .reached a .0, t .reached a .1, rw (e (t .reached a .0) (t .reached a .1)) (t .reached a .2));
 }
 
 pub erased : {p q₁ q₂ q : List ℕ} {s f : ℕ} → Removable p s
@@ -57,7 +58,6 @@ erased {p} {q₁} {q₂} {q} {s} {f} I a b t d =
     let sn : s < count p = I .within in
     let y : Lies p s = lies s (I .page) sn in
     let nq : count q ≡ count p - 1 = d .counted in
-    let two : 2 ≤ count p = I .more in
     let fa : Frame p (off p s) (off p s + len p s - off p s) q₁ = span-frame a (omega arith) in
     record {
       len-is = e;
@@ -162,6 +162,13 @@ module _ (p : List ℕ) (s : ℕ) (q : List ℕ) (I : Removable p s) (E : Erased
   sinks i n (below h e) = omega (arith, e .off-is, e .len-is, I .page .inside i (omega (arith, I .within)))
   sinks i n (above h m e) = omega (arith, e .off-is, e .len-is, I .page .inside (i + 1) m)
 
+  -- the frontier is that of p or lower
+  low-room : frontier q ≤ frontier p
+  low-room = ⊎-elim
+      (λ a. let t : (i : ℕ) × (i < count q) × (off q i + len q i ≡ frontier q) = E .top .reached a in omega (arith, t .2, sinks (t .0) (t .1) (from (t .0) (t .1))))
+      (λ b. omega (arith, I .page .start))
+      (side 8 (frontier q))
+
   pub removed : Removed p s q
   removed = record {
     page = record {
@@ -169,17 +176,15 @@ module _ (p : List ℕ) (s : ℕ) (q : List ℕ) (I : Removable p s) (E : Erased
       most = omega (arith, E .len-is, I .page .most);
       bytes = bytes;
       one = E .low 0 (omega arith) ∙ I .page .one;
-      room = let t : (i : ℕ) × (i < count q) × (off q i + len q i ≡ frontier q) = E .top .reached in
-          omega (arith, E .counted, E .len-is, t .2, sinks (t .0) (t .1) (from (t .0) (t .1)), I .page .room);
+      room = omega (arith, E .counted, E .len-is, low-room, I .page .room);
       kinds = λ i h. fine i h (from i h) .kind-one;
       short = λ i h. fine i h (from i h) .short;
       long = λ i h. fine i h (from i h) .long;
       after = λ i h. fine i h (from i h) .after;
       inside = λ i h. fine i h (from i h) .inside;
-      start = let t : (i : ℕ) × (i < count q) × (off q i + len q i ≡ frontier q) = E .top .reached in
-          omega (arith, t .2, fine (t .0) (t .1) (from (t .0) (t .1)) .after);
-      empty = λ h. absurd (omega (arith, E .counted, I .more));
-      top = λ h. E .top .reached;
+      start = E .top .least;
+      empty = λ h. ⊎-elim (λ a. absurd (omega (arith, E .top .reached a .1))) (λ b. omega (arith, E .top .least)) (side 8 (frontier q));
+      top = λ h. E .top .reached (omega (arith, fine 0 h (from 0 h) .short, fine 0 h (from 0 h) .inside));
       places = λ i h. fine i h (from i h) .natural;
       apart = λ i j k h m a b. apart i j k (from i h) (from j m) a b;
       ascending = λ i j l h. ascending i j l (from i (omega arith)) (from j h);

@@ -1,6 +1,7 @@
 // A bucket page of any length to 16,384 bytes: its rows found, put in, taken out and packed.
 mod insert;
 mod pack;
+mod places;
 mod read;
 mod remove;
 
@@ -9,6 +10,7 @@ pub use insert::set_head;
 pub use pack::new_page;
 pub use pack::pack_into;
 pub use pack::start_page;
+pub use places::set_place;
 pub use read::compare_slot;
 pub use read::extent_of;
 pub use read::find_code;

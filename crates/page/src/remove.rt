@@ -16,13 +16,13 @@ pub fn end_of(page: &[u8], i: usize) -> usize
     e.off + e.len
 }
 
-// The largest record end of n slots.
+// The largest record end of n slots; 8, where records begin, for none.
 pub fn top_of(page: &[u8], n: usize) -> usize
-    requires { ⌜ (1 ≤ n) × (4 * n ≤ length (now page)) × (length (now page) ≤ 16384) ⌝ }
+    requires { ⌜ (4 * n ≤ length (now page)) × (length (now page) ≤ 16384) ⌝ }
     ensures { λ r. ⌜ Top (now (page .entry)) n r × (r < 32768) ⌝ }
 {
-    let mut best = end_of(page, 0);
-    let mut i = 1;
+    let mut best = 8;
+    let mut i = 0;
     while i < n {
         let e = end_of(page, i);
         if best < e {
