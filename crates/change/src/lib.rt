@@ -4,6 +4,8 @@ ghost use Rattle.ground.specs.Ladder.{Answers};
 ghost use Rattle.store.specs.Pages.{S1024};
 ghost use Rattle.store.specs.Tables.{formatTable, meaning};
 
+mod directory;
+
 // Page 0 with depth 0, all other pages cleared, whatever the store held.
 pub fn format(s: &mut [u8]) -> store::Answer
     ensures { λ r. ⌜ Answers (formatTable S1024 (now (s .entry))) (meaning r, now (s .exit)) ⌝ }
