@@ -14,3 +14,4 @@ pub mod Pages
 pub mod Sorted
 pub mod Maps
 pub mod Rising
+pub mod Members

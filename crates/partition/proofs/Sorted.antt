@@ -14,9 +14,9 @@ use Rattle.partition.specs.Bits.{top}
 use Rattle.partition.specs.Partition.{Shape, Row, Prefix, Reordered, empty, front, swap, chain, keep, rowsOf, buckets}
 use Rattle.partition.specs.Listing.{by, insert, inOrder, listing, placeOf, Once}
 use Rattle.partition.proofs.Laws.{reordered}
-use Rattle.partition.proofs.Sum.{of-prefix}
-use Rattle.partition.proofs.Reorders.{rows-same, same-order, turned, member-same}
-use Rattle.partition.proofs.Maps.{skip, passed, cut, cut-same, absent, absent-of}
+use Rattle.partition.proofs.Sum.{prefix-row}
+use Rattle.partition.proofs.Reorders.{rows-same, same-order, turned, mem-reordered}
+use Rattle.partition.proofs.Maps.{skip, passed, cut, cut-same, absent, missing}
 use Rattle.partition.proofs.Rising.{Ahead, Rising, rising-ext, insert-ahead, insert-rising, without-rising}
 
 crossed : (o p : Ordering) (m : Option (List ℕ)) (a b : List ℕ) → (o ≡ Ordering·eq → p ≡ Ordering·eq → ⊥)
@@ -57,21 +57,21 @@ by-code q = q .code
 
 -- ---- the rows in order
 
-ins-front : (r : Row) (l : List Row) → Reordered (r ∷ l) (insert by-code r l)
+insert-reordered : (r : Row) (l : List Row) → Reordered (insert by-code r l) (r ∷ l)
 unfolding insert
-ins-front r [] = same-order (r ∷ [])
-ins-front r (x ∷ l) = go (order (r .code) (x .code)) (ins-front r l)
+insert-reordered r [] = same-order (r ∷ [])
+insert-reordered r (q ∷ l) = go (order (r .code) (q .code)) (insert-reordered r l)
   where
-    go : (o : Ordering) → Reordered (r ∷ l) (insert by-code r l) → Reordered (r ∷ x ∷ l) (by o (r ∷ x ∷ l) (r ∷ x ∷ l) (x ∷ insert by-code r l))
-    go Ordering·lt i = same-order (r ∷ x ∷ l)
-    go Ordering·eq i = same-order (r ∷ x ∷ l)
-    go Ordering·gt i = chain (swap r x (same-order l)) (front x i)
+    go : (o : Ordering) → Reordered (insert by-code r l) (r ∷ l) → Reordered (by o (r ∷ q ∷ l) (r ∷ q ∷ l) (q ∷ insert by-code r l)) (r ∷ q ∷ l)
+    go Ordering·lt i = same-order (r ∷ q ∷ l)
+    go Ordering·eq i = same-order (r ∷ q ∷ l)
+    go Ordering·gt i = chain (front q i) (swap q r (same-order l))
 
 -- they are the rows
-pub order-rows : (rs : List Row) → Reordered rs (inOrder rs)
+pub in-order-reordered : (rs : List Row) → Reordered (inOrder rs) rs
 unfolding inOrder
-order-rows [] = empty
-order-rows (r ∷ rs) = chain (front r (order-rows rs)) (ins-front r (inOrder rs))
+in-order-reordered [] = empty
+in-order-reordered (r ∷ rs) = chain (insert-reordered r (inOrder rs)) (front r (in-order-reordered rs))
 
 -- strictly ascending
 pub order-rising : (rs : List Row) → Once rs → Rising by-code (inOrder rs)
@@ -79,13 +79,13 @@ unfolding inOrder
 order-rising [] o = tt
 order-rising (r ∷ rs) o =
     insert-rising by-code r (inOrder rs)
-    (λ b m e. absent (r .code) rs (o .0) b (member-same (turned (order-rows rs)) b m) (sym (order-eq (r .code) (b .code) e)))
+    (λ b m e. absent rs (r .code) (o .0) b (mem-reordered (in-order-reordered rs) m) (order-eq (r .code) (b .code) e))
     (order-rising rs (o .1))
 
 -- rows that ascend have no code twice, and are their own order
 pub rising-once : (rs : List Row) → Rising by-code rs → Once rs
 rising-once [] u = tt
-rising-once (r ∷ rs) u = (absent-of (r .code) rs (λ q m e. irrefl (r .code) (subst (λ c. Before (r .code) c) e (u .0 q m))), rising-once rs (u .1))
+rising-once (r ∷ rs) u = (missing rs (r .code) (λ q m e. irrefl (r .code) (subst (λ c. Before (r .code) c) (sym e) (u .0 q m))), rising-once rs (u .1))
 
 pub order-own : (rs : List Row) → Rising by-code rs → inOrder rs ≡ rs
 unfolding inOrder
@@ -96,8 +96,8 @@ order-own (r ∷ rs) u = ap (insert by-code r) (order-own rs (u .1)) ∙ insert-
 pub order-same : {rs qs : List Row} → Reordered rs qs → Once rs → inOrder rs ≡ inOrder qs
 order-same {rs} {qs} p o =
     rising-ext by-code (inOrder rs) (inOrder qs) (order-rising rs o) (order-rising qs (same-map p o .0))
-    (λ a m. member-same (order-rows qs) a (member-same p a (member-same (turned (order-rows rs)) a m)))
-    (λ a m. member-same (order-rows rs) a (member-same (turned p) a (member-same (turned (order-rows qs)) a m)))
+    (λ a m. mem-reordered (turned (in-order-reordered qs)) (mem-reordered p (mem-reordered (in-order-reordered rs) m)))
+    (λ a m. mem-reordered (turned (in-order-reordered rs)) (mem-reordered (turned p) (mem-reordered (in-order-reordered qs) m)))
 
 -- rows that ascend are the order of their reorderings
 pub order-is : {rs qs : List Row} → Reordered rs qs → Rising by-code qs → inOrder rs ≡ qs
@@ -109,18 +109,21 @@ unfolding inOrder
 order-put r rs = refl
 
 pub order-cut : (c : List ℕ) (rs : List Row) → Once rs → inOrder (cut c rs) ≡ cut c (inOrder rs)
-order-cut c rs o = order-is (cut-same c (order-rows rs)) (without-rising by-code c (inOrder rs) (order-rising rs o))
+order-cut c rs o = order-is (cut-same c (turned (in-order-reordered rs))) (without-rising by-code c (inOrder rs) (order-rising rs o))
 
 -- ---- and of a prefix
 
 module _ (h : List ℕ → ℕ) (k v : ℕ) where
   within : (rs : List Row) (r : Row) → List·Memᴰ r (rowsOf h rs k v) → List·Memᴰ r rs
-  within rs r m = of-prefix h rs k v r m .0
+  within rs r m = prefix-row h rs k v r m .0
 
-  pub once-prefix : (rs : List Row) → Once rs → Once (rowsOf h rs k v)
+  pub some-none : (rs : List Row) (c : List ℕ) → placeOf rs c ≡ none → placeOf (rowsOf h rs k v) c ≡ none
+  some-none rs c e = missing (rowsOf h rs k v) c (λ r m. absent rs c e r (within rs r m))
+
+  pub some-once : (rs : List Row) → Once rs → Once (rowsOf h rs k v)
   unfolding rowsOf
-  once-prefix [] o = tt
-  once-prefix (q ∷ rs) o = go (eqb (top k (h (q .code))) v) (absent-of (q .code) (rowsOf h rs k v) (λ r m. absent (q .code) rs (o .0) r (within rs r m))) (once-prefix rs (o .1))
+  some-once [] o = tt
+  some-once (q ∷ rs) o = go (eqb (top k (h (q .code))) v) (some-none rs (q .code) (o .0)) (some-once rs (o .1))
     where
       go : (t : Bool) → placeOf (rowsOf h rs k v) (q .code) ≡ none → Once (rowsOf h rs k v) → Once (keep t q (rowsOf h rs k v))
       go true e i = (e, i)
@@ -137,10 +140,10 @@ module _ (h : List ℕ → ℕ) (k v : ℕ) where
 
   -- ordered rows need no sort for a prefix
   pub order-prefix : (rs : List Row) → Once rs → inOrder (rowsOf h rs k v) ≡ rowsOf h (inOrder rs) k v
-  order-prefix rs o = order-is (rows-same h k v (order-rows rs)) (rising-prefix (inOrder rs) (order-rising rs o))
+  order-prefix rs o = order-is (rows-same h k v (turned (in-order-reordered rs))) (rising-prefix (inOrder rs) (order-rising rs o))
 
 pub bucket-same : (h : List ℕ → ℕ) (rs qs : List Row) → Reordered rs qs → Once rs → (k v : ℕ) → inOrder (rowsOf h rs k v) ≡ inOrder (rowsOf h qs k v)
-bucket-same h rs qs p o k v = order-same (rows-same h k v p) (once-prefix h k v rs o)
+bucket-same h rs qs p o k v = order-same (rows-same h k v p) (some-once h k v rs o)
 
 flat-same : (f g : Prefix → List Row) → ((p : Prefix) → f p ≡ g p) → (ps : List Prefix) → flatMap f ps ≡ flatMap g ps
 unfolding flatMap
