@@ -80,7 +80,7 @@ module _ (S : Shape) (s t : List ℕ) (l : length t ≡ length s) (same : (k : �
   pub each-kept : ((p : ℕ) → 2 ≤ p → p < pages S s → Whole (page S s p)) → (p : ℕ) → 2 ≤ p → p < pages S t → Whole (page S t p)
   each-kept f p a b = subst Whole (sym (page-kept p a b)) (f p a (subst (λ n. p < n / size S) l b))
 
-tab-in : {A : Type 0} (f : ℕ → A) (n i : ℕ) → i < n → List·Memᴰ (f i) (tab f n)
+pub tab-in : {A : Type 0} (f : ℕ → A) (n i : ℕ) → i < n → List·Memᴰ (f i) (tab f n)
 unfolding tab
 tab-in f zero i l = absurd (omega arith)
 tab-in f (suc n) zero l = List·Memᴰ·head refl

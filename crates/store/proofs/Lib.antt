@@ -14,3 +14,4 @@ pub mod Showing
 pub mod Named
 pub mod Afresh
 pub mod Accepting
+pub mod Reading

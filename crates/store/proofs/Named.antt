@@ -1,6 +1,6 @@
 -- What a directory entry says of pages that show rows: it is the number of the page that calls for it, or 0 where no page does. So it is in an accepted store.
 use mathlib.Core.Path.{_≡_, refl, sym, ap, subst, subst₂, _∙_}
-use mathlib.Core.List.{List, [], _∷_, List·Memᴰ, List·Memᴰ·head, List·Memᴰ·tail}
+use mathlib.Core.List.{List, [], _∷_, List·Memᴰ}
 use mathlib.Core.Logic.{_⊎_, inl, inr, _↔_}
 use mathlib.Core.Option.{Option, some, none}
 use Prim.Native.Nat.{ℕ, zero, suc, _+_, _-_, _*_, _/_, _^_, _≤_, _<_, max, zero-le}
@@ -16,7 +16,7 @@ use Rattle.partition.proofs.Tree.{pfx}
 use Rattle.partition.proofs.Rows.{listed}
 use Rattle.partition.proofs.Laws.{no-overlap}
 use Rattle.partition.proofs.Store.{not-deeper}
-use Rattle.partition.proofs.Directory.{Holds, holds-range, holds-top, entry-hash, entry-complete, entry-none, depth-bound}
+use Rattle.partition.proofs.Directory.{Holds, holds-range, holds-top, entry-hash, entry-complete, entry-none, depth-bound, depth-least}
 use Rattle.store.specs.Pages.{pages, page, dirDepth, entryAt, Page, free, bucket, contents, depthOn, deepestIn}
 use Rattle.store.specs.Accepted.{Calls, Stands, unused, used}
 use Rattle.store.specs.Demands.{Sized, Hash}
@@ -110,11 +110,6 @@ one-called S h rows gs w d b i j k l rs qs kd ld x y e c f =
 
 -- ---- depth
 
-depth-le : (l : List Prefix) (n : ℕ) → ((p : Prefix) → List·Memᴰ p l → p .bits ≤ n) → depthOf l ≤ n
-unfolding depthOf
-depth-le [] n f = zero-le
-depth-le (p ∷ l) n f = omega (arith, f p (List·Memᴰ·head refl), depth-le l n (λ q m. f q (List·Memᴰ·tail m)))
-
 pub deepest-le : (gs : List Page) (n : ℕ) → ((i k : ℕ) (rs : List Record) → Holding gs i k rs → k ≤ n) → deepestIn gs ≤ n
 unfolding deepestIn
 deepest-le [] n f = zero-le
@@ -146,7 +141,7 @@ module _ (S : Shape) (h : List ℕ → ℕ) (hash : Hash h) (rows : List Row) (g
   pub shown-depth : deepestIn gs ≡ depthOf bs
   shown-depth =
       le-antisymm (deepest-le gs (depthOf bs) (λ i k rs e. depth-bound bs (pfx k (prefixOn h k rs)) (shown-bucket i k rs e)))
-      (depth-le bs (deepestIn gs) (λ p m. let b = bucket-shown p m in deepest-bound gs (b .0) (p .bits) (b .1) (b .2)))
+      (depth-least bs (deepestIn gs) (λ p m. let b = bucket-shown p m in deepest-bound gs (b .0) (p .bits) (b .1) (b .2)))
 
   pub shown-shallow : deepestIn gs ≤ S .deepest
   shown-shallow = deepest-le gs (S .deepest) (λ i k rs e. not-deeper S h rows (w .fine) k (prefixOn h k rs) (w .page i k rs e .is))

@@ -36,7 +36,7 @@ use Rattle.store.proofs.Unique.{read-zero, read-bucket, held, page-long
 
 -- ---- rows in a table
 
-in-tab : {A : Type 0} (f : ℕ → A) (n : ℕ) (a : A) → List·Memᴰ a (tab f n) → (i : ℕ) × (i < n) × (a ≡ f i)
+pub in-tab : {A : Type 0} (f : ℕ → A) (n : ℕ) (a : A) → List·Memᴰ a (tab f n) → (i : ℕ) × (i < n) × (a ≡ f i)
 unfolding tab
 in-tab f zero a m = absurd (List·Memᴰ·not-nil m)
 in-tab f (suc n) a m = go (List·Memᴰ·cases-cons m) (in-tab (λ i. f (suc i)) n a)
@@ -269,26 +269,26 @@ pub pages-held : (S : Shape) (s : List ℕ) → length (contents S s) ≡ pages 
 unfolding contents
 pages-held S s = length-tab (λ i. read (page S s (i + 2))) (pages S s - 2)
 
+-- the bytes under a bucket of the contents
+pub record Under (S : Shape) (h : List ℕ → ℕ) (s : List ℕ) (i k : ℕ) (rs : List Record) : Type 0 where
+  pub within : i + 2 < pages S s
+  pub bytes : Bucket h (page S s (i + 2))
+  pub deep : k ≡ depth (page S s (i + 2))
+  pub its : rs ≡ rows (page S s (i + 2))
+  pub low : k ≤ dirDepth s
+  pub names : (e : ℕ) → e < S .entries → (entryAt S s e ≡ i + 2) ↔ Calls (dirDepth s) k (prefixOn h k rs) e
+
 module _ (S : Shape) (h : List ℕ → ℕ) (sized : Sized S) (hash : Hash h) (s : List ℕ) (T : Opened S h s) where
   abbrev pg : ℕ → List ℕ
   pg i = page S s (i + 2)
 
-  -- the bytes under a bucket of the contents
-  pub record Under (i k : ℕ) (rs : List Record) : Type 0 where
-    pub within : i + 2 < pages S s
-    pub bytes : Bucket h (pg i)
-    pub deep : k ≡ depth (pg i)
-    pub its : rs ≡ rows (pg i)
-    pub low : k ≤ dirDepth s
-    pub names : (e : ℕ) → e < S .entries → (entryAt S s e ≡ i + 2) ↔ Calls (dirDepth s) k (prefixOn h k rs) e
-
-  pub under : (i k : ℕ) (rs : List Record) → Holding (contents S s) i k rs → Under i k rs
+  pub under : (i k : ℕ) (rs : List Record) → Holding (contents S s) i k rs → Under S h s i k rs
   under i k rs e = go (side (i + 2) (pages S s))
     where
       has : i + 2 < pages S s → read (pg i) ≡ bucket k rs
       has l = let q : i + 2 - 2 ≡ i = omega arith in sym (held S s (i + 2) (omega arith) l) ∙ ap (λ n. getD (contents S s) n free) q ∙ e
 
-      stand : i + 2 < pages S s → Stands S h s (i + 2) → Under i k rs
+      stand : i + 2 < pages S s → Stands S h s (i + 2) → Under S h s i k rs
       stand l (unused z _) = absurd (free-not (sym (read-zero (pg i) z) ∙ has l))
       stand l (used b d names) =
           let r : bucket (depth (pg i)) (rows (pg i)) ≡ bucket k rs = sym (read-bucket h (pg i) b) ∙ has l in
@@ -304,7 +304,7 @@ module _ (S : Shape) (h : List ℕ → ℕ) (sized : Sized S) (hash : Hash h) (s
                 (subst (λ n. (entryAt S s e ≡ i + 2) ↔ Calls (dirDepth s) (depth (pg i)) n e) (sym (first-code h (pg i) (b .rules))) (names e m));
           }
 
-      go : (i + 2 < pages S s) ⊎ (pages S s ≤ i + 2) → Under i k rs
+      go : (i + 2 < pages S s) ⊎ (pages S s ≤ i + 2) → Under S h s i k rs
       go (inl l) = stand l (T .stands (i + 2) (omega arith) l)
       go (inr l) = absurd (omega (arith, within-pages (contents S s) i k rs e, pages-held S s))
 
