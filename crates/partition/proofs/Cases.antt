@@ -15,7 +15,7 @@ use Rattle.ground.specs.Lists.{byte, tab}
 use Rattle.partition.specs.Bits.{shared}
 use Rattle.partition.specs.Partition.{Row, S1024, needs, buckets, depthOf, entry}
 use Rattle.partition.specs.Listing.{placeOf, Once}
-use Rattle.partition.specs.Cases.{chosen, Case, hashing, sharing, needing, parting, growing, Holds, All, table, a, b, c}
+use Rattle.partition.specs.Cases.{chosen, Case, hashing, sharing, needing, parting, growing, Holds, All, table, edges, a, b, c}
 
 pub chosen-lt : (c : List ℕ) → chosen c < 2 ^ 32
 chosen-lt c = mod-lt (2 ^ (111 - byte c 0)) (pow-pos 32)
@@ -87,3 +87,7 @@ cases-hold f e ea eb ec =
     & (refl, refl, refl, refl)
     & (refl, refl, refl, refl) & (refl, refl, refl, refl) & (refl, refl, refl)
     & tt)
+
+pub edges-hold : (f : List ℕ → ℕ) → All f edges
+unfolding once needs buckets depthOf entry tab
+edges-hold f = all-hold f edges ((refl, refl, refl) & (refl, refl, refl) & (refl, refl, refl, refl) & (refl, refl, refl, refl) & (refl, refl, refl, refl) & tt)

@@ -109,3 +109,20 @@ table =
     (named 1 6 0 ++ named 1 6 1 ++ named 2 5 1 ++ named 4 4 1 ++ named 8 3 1 ++ named 16 2 1 ++ named 32 1 1)
     ∷ growing large ladder 1 6
     ∷ []
+
+-- The edges that these leave open: rows that need just 1,016 are a bucket and of 1,017 none; where rows that share 8 bits do not fit there is no bucket,
+-- though the ninth bit would part them.
+abbrev pub just : List Row
+just = rows 12 76 0 ++ rows 8 13 20
+
+abbrev pub beyond : List Row
+beyond = rows 12 76 0 ++ rows 7 13 20 ++ rows 1 14 30
+
+abbrev pub edges : List Case
+edges =
+    needing just 1016 true
+    ∷ needing beyond 1017 false
+    ∷ parting just (pre 0 0 ∷ []) 0 (named 1 0 0)
+    ∷ parting beyond [] 0 (none ∷ [])
+    ∷ parting (thirteen ++ rows 1 76 88) [] 0 (none ∷ [])
+    ∷ []
