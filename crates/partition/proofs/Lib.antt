@@ -16,3 +16,5 @@ pub mod Maps
 pub mod Rising
 pub mod Members
 pub mod Listed
+pub mod Index
+pub mod Cases
