@@ -23,7 +23,7 @@ use Rattle.ground.proofs.Ladders.{each}
 use Rattle.store.proofs.Kept.{accepted-again}
 use Rattle.store.proofs.Unique.{read-zero, page-long}
 
-every-append : (l m : List Rule) → Every l → Every m → Every (l ++ m)
+pub every-append : (l m : List Rule) → Every l → Every m → Every (l ++ m)
 every-append [] m a b = b
 every-append (r ∷ l) m a b = (a .0, every-append l m (a .1) b)
 
@@ -32,7 +32,7 @@ unfolding tab
 every-tab f zero h = tt
 every-tab f (suc n) h = (h zero (omega arith), every-tab (λ i. f (suc i)) n (λ i l. h (suc i) (omega arith)))
 
-every-up : (n : ℕ) (P : ℕ → Type 0) → ((p : ℕ) → 2 ≤ p → p < n → P p) → Every (upward n P)
+pub every-up : (n : ℕ) (P : ℕ → Type 0) → ((p : ℕ) → 2 ≤ p → p < n → P p) → Every (upward n P)
 every-up n P h = every-tab (λ i. rule (i + 2) (P (i + 2))) (n - 2) (λ i l. h (i + 2) (omega arith) (omega arith))
 
 rows-free : (f : ℕ → Page) (n : ℕ) → ((i : ℕ) → i < n → f i ≡ free) → rowsIn (tab f n) ≡ []
