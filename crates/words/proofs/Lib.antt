@@ -1,2 +1,3 @@
 pub mod Bytes
 pub mod Orders
+pub mod Zeros
