@@ -1,2 +1,4 @@
 pub mod Stops
 pub mod Loads
+pub mod Runs
+pub mod Fills

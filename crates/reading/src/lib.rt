@@ -1,1 +1,2 @@
-// The calls that read a store.
+// The calls that read a store: check, count, lookup, row at place n.
+mod directory;

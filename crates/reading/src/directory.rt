@@ -1,0 +1,80 @@
+// The directory, read once, and runs of its entries.
+ghost use mathlib.Core.Path.{_≡_};
+ghost use Prim.Native.Nat.{_≤_};
+ghost use lib.ListN.{length};
+ghost use Rattle.ground.specs.Says.{Says};
+ghost use Rattle.reading.specs.Directory.{Entries, AllAre, NoneIs, AllBelow, Exactly};
+
+// The directory's entries.
+pub fn entries(s: &[u8], dir: &mut [u32])
+    requires { ⌜ (2048 ≤ length (now s)) × (length (now dir) ≡ 256) ⌝ }
+    ensures { λ _. ⌜ Entries (now (s .entry)) (now (dir .exit)) ⌝ }
+{
+    let mut i = 0;
+    while i < 256 {
+        dir[i] = words::get32(s, 1024 + 4 * i) as u32;
+        i += 1;
+    }
+}
+
+// Whether all entries from a up to b are x.
+pub fn all_are(dir: &[u32], a: usize, b: usize, x: u32) -> bool
+    requires { ⌜ (a ≤ b) × (b ≤ length (now dir)) ⌝ }
+    ensures { λ r. ⌜ Says r (AllAre (now (dir .entry)) a b x) ⌝ }
+{
+    let mut ok = true;
+    let mut i = a;
+    while i < b {
+        if dir[i] != x {
+            ok = false;
+        }
+        i += 1;
+    }
+    ok
+}
+
+// Whether none of the entries from a up to b is x.
+pub fn none_is(dir: &[u32], a: usize, b: usize, x: u32) -> bool
+    requires { ⌜ (a ≤ b) × (b ≤ length (now dir)) ⌝ }
+    ensures { λ r. ⌜ Says r (NoneIs (now (dir .entry)) a b x) ⌝ }
+{
+    let mut ok = true;
+    let mut i = a;
+    while i < b {
+        if dir[i] == x {
+            ok = false;
+        }
+        i += 1;
+    }
+    ok
+}
+
+// Whether all entries from a up to b are below n.
+pub fn all_below(dir: &[u32], a: usize, b: usize, n: u32) -> bool
+    requires { ⌜ (a ≤ b) × (b ≤ length (now dir)) ⌝ }
+    ensures { λ r. ⌜ Says r (AllBelow (now (dir .entry)) a b n) ⌝ }
+{
+    let mut ok = true;
+    let mut i = a;
+    while i < b {
+        if n <= dir[i] {
+            ok = false;
+        }
+        i += 1;
+    }
+    ok
+}
+
+// Whether of the entries up to m exactly those from a up to b are x.
+pub fn exactly(dir: &[u32], m: usize, a: usize, b: usize, x: u32) -> bool
+    requires { ⌜ (m ≤ length (now dir)) × (a ≤ b) × (b ≤ m) ⌝ }
+    ensures { λ r. ⌜ Says r (Exactly (now (dir .entry)) m a b x) ⌝ }
+{
+    if !none_is(dir, 0, a, x) {
+        return false;
+    }
+    if !all_are(dir, a, b, x) {
+        return false;
+    }
+    none_is(dir, b, m, x)
+}
