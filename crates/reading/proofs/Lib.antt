@@ -2,3 +2,4 @@ pub mod Stops
 pub mod Loads
 pub mod Runs
 pub mod Fills
+pub mod Naming

@@ -1,9 +1,10 @@
 // The directory, read once, and runs of its entries.
 ghost use mathlib.Core.Path.{_≡_};
-ghost use Prim.Native.Nat.{_≤_};
+ghost use Prim.Native.Nat.{_≤_, _<_, _^_};
 ghost use lib.ListN.{length};
 ghost use Rattle.ground.specs.Says.{Says};
-ghost use Rattle.reading.specs.Directory.{Entries, AllAre, NoneIs, AllBelow, Exactly};
+ghost use Rattle.reading.specs.Directory.{Entries, AllAre, NoneIs, AllBelow, Exactly, Ranges, Named};
+ghost use Rattle.partition.specs.Bits.{top};
 
 // The directory's entries.
 pub fn entries(s: &[u8], dir: &mut [u32])
@@ -77,4 +78,36 @@ pub fn exactly(dir: &[u32], m: usize, a: usize, b: usize, x: u32) -> bool
         return false;
     }
     none_is(dir, b, m, x)
+}
+
+pub fn two_to(k: u32) -> usize
+    requires { ⌜ k ≤ 8 ⌝ }
+    ensures { λ r. ⌜ (r ≡ 2 ^ k) × (r ≤ 256) ⌝ }
+{
+    1 << k
+}
+
+// Whether the entries are in range for n pages, and zero from m on.
+pub fn ranges(dir: &[u32], n: u32, m: usize) -> bool
+    requires { ⌜ (length (now dir) ≡ 256) × (m ≤ 256) ⌝ }
+    ensures { λ r. ⌜ Says r (Ranges (now (dir .entry)) n m) ⌝ }
+{
+    if !none_is(dir, 0, 256, 1) {
+        return false;
+    }
+    if !all_below(dir, 0, 256, n) {
+        return false;
+    }
+    all_are(dir, m, 256, 0)
+}
+
+// Whether page p is named by exactly the entries that the first k bits of the hash x call for, in a directory of depth d.
+pub fn named(dir: &[u32], d: u32, k: u32, x: u32, p: u32) -> bool
+    requires { ⌜ (length (now dir) ≡ 256) × (d ≤ 8) × (k ≤ d) × (2 ≤ p) × AllAre (now dir) (2 ^ d) 256 0 ⌝ }
+    ensures { λ r. ⌜ Says r (Named (now (dir .entry)) d k (top k x) p) ⌝ }
+{
+    let m = two_to(d);
+    let w = two_to(d - k);
+    let a = (partition::top_bits(x, k) as usize) * w;
+    exactly(dir, m, a, a + w, p)
 }
