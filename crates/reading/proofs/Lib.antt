@@ -3,3 +3,4 @@ pub mod Loads
 pub mod Runs
 pub mod Fills
 pub mod Naming
+pub mod Heads

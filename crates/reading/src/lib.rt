@@ -1,2 +1,3 @@
 // The calls that read a store: check, count, lookup, row at place n.
 mod directory;
+mod head;
