@@ -1,0 +1,46 @@
+use Rattle.audit.proofs.Marks.{or-zero, zero-or, zeros-none, zeros-more, zeros-till}
+use Rattle.audit.specs.Rules.{Zeros}
+use Rattle.ground.proofs.Tests.{says-eqb}
+use native.Mathlib.Omega.{arith}
+use mathlib.Core.Path.{_≡_, refl}
+use Prim.Native.Nat.{ℕ, _+_, _-_, _≤_, _<_}
+use Rattle.audit.proofs.zeros.Statement.{statement}
+use Rattle.audit.proofs.zeros.Tie as tie
+
+abbrev Inv-loop : tie.InvT-loop
+Inv-loop page a b acc₀ k₀ acc k = (a ≤ k) × (k ≤ b) × (acc ≡ 0 → Zeros page a k) × (Zeros page a k → acc ≡ 0)
+
+abbrev μ-loop : tie.MeasureT-loop
+μ-loop page a b acc₀ k₀ acc k = b - k
+
+loop-holds : tie.Need-loop-holds Inv-loop μ-loop
+loop-holds c = (omega arith, omega arith, (λ _. zeros-none _ _), (λ _. refl))
+
+shared-slice-read-acc : tie.Need-shared-slice-read-acc Inv-loop μ-loop
+shared-slice-read-acc c = omega arith
+
+add-k : tie.Need-add-k Inv-loop μ-loop
+add-k c = omega arith
+
+loop-less : tie.Need-loop-less Inv-loop μ-loop
+loop-less c = omega arith
+
+loop-again : tie.Need-loop-again Inv-loop μ-loop
+loop-again c =
+    let l = c .before .before .loop in (
+      omega arith,
+      omega arith,
+      (λ z. let o = or-zero _ _ z in zeros-more _ _ _ (l .inv .2 (o .0)) (o .1)),
+      (λ h. zero-or _ _ (l .inv .3 (zeros-till _ _ _ h)) (h .at (l .k) (omega arith) (omega arith))),
+    )
+
+returns : tie.Need-returns Inv-loop μ-loop
+returns c =
+    let l = c .before .loop in
+    let e : l .k ≡ c .before .before .args .b = omega arith in
+    says-eqb (l .acc) 0 (λ z. rw e at (l .inv .2 z)) (λ h. l .inv .3 (rw e h))
+
+pub zeros-spec : {M : Type 1} → statement M
+zeros-spec =
+    tie.close
+    (tie.spec Inv-loop μ-loop loop-holds shared-slice-read-acc add-k loop-less loop-again returns)
