@@ -4,9 +4,9 @@ use mathlib.Core.Path.{_≡_, refl, sym, ap, _∙_}
 use mathlib.Core.Logic.{⊎-elim}
 use mathlib.Core.List.{List}
 use native.Mathlib.Omega.{arith}
-use native.Mathlib.Nat.{add-zero, add-assoc}
+use native.Mathlib.Nat.{zero-add, add-zero, add-assoc}
 use lib.ListN.{length, getD, set, length-set}
-use lib.Seq.{getD-set-same, getD-set-other}
+use lib.Seq.{getD-set-same, getD-set-other, ext-getD}
 use Rattle.ground.specs.Lists.{byte, part}
 use Rattle.ground.proofs.Sides.{side}
 use Rattle.ground.proofs.Parts.{part-is}
@@ -143,3 +143,7 @@ le32-byte p q k j hp hq e h =
   where
     at : (x : ℕ) → k + j ≡ x → byte p x ≡ byte q x → byte p (k + j) ≡ byte q (k + j)
     at x f b = rw f b
+
+-- a list copied over one as long
+pub copied-whole : {p q s : List ℕ} → Wrote p 0 (length s) (λ i. byte s i) q → length p ≡ length s → q ≡ s
+copied-whole {p} {q} {s} w h = let l : length q ≡ length s = w .old .len ∙ h in ext-getD 0 q s l (λ i m. rw zero-add at (w .new i (omega arith)))
