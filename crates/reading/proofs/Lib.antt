@@ -4,3 +4,4 @@ pub mod Runs
 pub mod Fills
 pub mod Naming
 pub mod Heads
+pub mod Sums

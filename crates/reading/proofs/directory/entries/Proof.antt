@@ -10,7 +10,7 @@ use Rattle.reading.proofs.directory.entries.Lts as lts
 use Rattle.words.proofs.get32.Reads as get32-reads
 
 abbrev Inv-loop : tie.InvT-loop
-Inv-loop s dir₀ i₀ dir i = (i ≤ 256) × Filled (entryAt S1024 s) 256 0 i dir
+Inv-loop s dir₀ i₀ dir i = (i ≤ 256) × Filled (λ k v. v ≡ entryAt S1024 s k) 256 0 i dir
 
 abbrev μ-loop : tie.MeasureT-loop
 μ-loop s dir₀ i₀ dir i = 256 - i
