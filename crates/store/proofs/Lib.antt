@@ -1,4 +1,5 @@
 pub mod Rules
+pub mod Shows
 pub mod Unique
 pub mod Settled
 pub mod Kept
