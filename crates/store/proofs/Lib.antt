@@ -1,5 +1,6 @@
 pub mod Rules
 pub mod Shows
+pub mod Shown
 pub mod Unique
 pub mod Settled
 pub mod Kept
@@ -9,3 +10,7 @@ pub mod Sorted
 pub mod Plan
 pub mod Over
 pub mod Owner
+pub mod Showing
+pub mod Named
+pub mod Afresh
+pub mod Accepting
