@@ -39,34 +39,6 @@ load-pages h f (suc n) j v =
     ∙ needs-append (rowsOf h (rowsOn (f zero)) j v) (rowsOf h (rowsIn (tab (λ i. f (suc i)) n)) j v)
     ∙ ap (λ m. needs (rowsOf h (rowsOn (f zero)) j v) + m) (load-pages h (λ i. f (suc i)) n j v)
 
-pub map-tab {ℓ ℓ′} : {A : Type ℓ} {B : Type ℓ′} (g : A → B) (f : ℕ → A) (n : ℕ) → map g (tab f n) ≡ tab (λ i. g (f i)) n
-unfolding tab
-map-tab g f zero = refl
-map-tab g f (suc n) = ap (λ l. g (f zero) ∷ l) (map-tab g (λ i. f (suc i)) n)
-
-tab-member : {A : Type 0} (f : ℕ → A) (n : ℕ) (x : A) → List·Memᴰ x (tab f n) → (i : ℕ) × (i < n) × (x ≡ f i)
-unfolding tab
-tab-member f zero x m = absurd (List·Memᴰ·not-nil m)
-tab-member f (suc n) x m = go (List·Memᴰ·cases-cons m) (tab-member (λ i. f (suc i)) n x)
-  where
-    go : (x ≡ f zero) ⊎ List·Memᴰ x (tab (λ i. f (suc i)) n) → (List·Memᴰ x (tab (λ i. f (suc i)) n) → (i : ℕ) × (i < n) × (x ≡ f (suc i))) → (i : ℕ) × (i < suc n) × (x ≡ f i)
-    go (inl e) r = (zero, omega arith, e)
-    go (inr t) r = let y = r t in (suc (y .0), omega (arith, y .1), y .2)
-
--- what the rows of a page need
-needs-tab : (f : ℕ → Row) (n : ℕ) → needs (tab f n) ≡ total (λ i. needOf (f i)) n
-unfolding tab needs total
-needs-tab f zero = refl
-needs-tab f (suc n) = ap (λ m. needOf (f zero) + m) (needs-tab (λ i. f (suc i)) n)
-
-pub page-needs : (g : List ℕ) → Slotted g → Rattle.page.specs.Page.free g + needs (map asRow (rows g)) ≡ length g - 8
-unfolding needOf
-page-needs g b =
-    let e : needs (map asRow (rows g)) ≡ total (need g) (count g) =
-    ap needs (map-tab asRow (rowAt g) (count g)) ∙ needs-tab (λ i. asRow (rowAt g i)) (count g)
-    ∙ total-same _ (need g) (count g) (λ i l. let x = len-of-code g i b l in omega arith) in
-    omega (arith, b .unused)
-
 -- shorter prefixes of hashes that have one prefix are one
 pub shorter : (a b j k : ℕ) → j ≤ k → top k a ≡ top k b → top j a ≡ top j b
 shorter a b j k l e =
@@ -75,15 +47,15 @@ shorter a b j k l e =
     sym (cut a) ∙ ap (λ n. n / 2 ^ (k - j)) e ∙ cut b
 
 -- a bucket's rows, by its slots
-module _ (h : List ℕ → ℕ) (g : List ℕ) (j v : ℕ) where
+module _ (h : List ℕ → ℕ) (g : List ℕ) (b : BucketPage g) (j v : ℕ) where
   all-on : ((i : ℕ) → i < count g → top j (h (code g i)) ≡ v) → rowsOf h (map asRow (rows g)) j v ≡ map asRow (rows g)
   all-on f = rows-every h (map asRow (rows g)) j v (λ r m.
-      let y = tab-member (λ i. asRow (rowAt g i)) (count g) r (subst (λ l. List·Memᴰ r l) (map-tab asRow (rowAt g) (count g)) m) in
+      let y = page-row g b r m in
       ap (λ q. top j (h (q .code))) (y .2) ∙ f (y .0) (y .1))
 
   all-off : ((i : ℕ) → i < count g → top j (h (code g i)) ≡ v → ⊥) → rowsOf h (map asRow (rows g)) j v ≡ []
   all-off f = rows-none h (map asRow (rows g)) j v (λ r m e.
-      let y = tab-member (λ i. asRow (rowAt g i)) (count g) r (subst (λ l. List·Memᴰ r l) (map-tab asRow (rowAt g) (count g)) m) in
+      let y = page-row g b r m in
       f (y .0) (y .1) (sym (ap (λ q. top j (h (q .code))) (y .2)) ∙ e))
 
 pick-none : (b : Bool) → _≡_ {A = ℕ} (pick b 0 0) 0
@@ -127,7 +99,7 @@ module _ (S : Shape) (h : List ℕ → ℕ) (sized : Sized S) (hash : Hash h) (s
         some = omega (arith, b .rules .some)
 
         gone : ((i : ℕ) → i < count g → top j (h (code g i)) ≡ w → ⊥) → Goal
-        gone off = ap needs (all-off h g j w off) ∙ sym (ap (λ t. pick t (needs (map asRow (rows g))) 0) (ne-eqb (top j (first q)) w (off 0 some)))
+        gone off = ap needs (all-off h g (b .rules) j w off) ∙ sym (ap (λ t. pick t (needs (map asRow (rows g))) 0) (ne-eqb (top j (first q)) w (off 0 some)))
 
         lower : depth g < j → Goal
         lower l = gone (λ i m. apart q i Q (b .rules .rules .one) l m)
@@ -137,7 +109,7 @@ module _ (S : Shape) (h : List ℕ → ℕ) (sized : Sized S) (hash : Hash h) (s
 
         upper : j ≤ depth g → Goal
         upper l = ⊎-elim
-            (λ e. ap needs (all-on h g j w (λ i m. like l i m ∙ e)) ∙ sym (ap (λ t. pick t (needs (map asRow (rows g))) 0) (eq-eqb (top j (first q)) w e)))
+            (λ e. ap needs (all-on h g (b .rules) j w (λ i m. like l i m ∙ e)) ∙ sym (ap (λ t. pick t (needs (map asRow (rows g))) 0) (eq-eqb (top j (first q)) w e)))
             (λ n. gone (λ i m e. n (sym (like l i m) ∙ e)))
             (same (top j (first q)) w)
 

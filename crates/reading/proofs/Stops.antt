@@ -8,7 +8,7 @@ use Rattle.ground.specs.Lists.{tab}
 use Rattle.partition.specs.Partition.{Shape}
 use Rattle.store.specs.Pages.{pages}
 use Rattle.store.specs.Accepted.{GoodLength, Page0, Page1, Stands, Parted, Deepest, Rule, rule, rules, upward, Every, Stops, Broken, Accepted}
-use Rattle.store.proofs.Format.{every-append, every-up}
+use Rattle.store.proofs.Rules.{Opened, up-every, closed}
 use Rattle.reading.specs.First.{FirstBad, Judged}
 
 stops-left : (l m : List Rule) (p : ℕ) → Stops l p → Stops (l ++ m) p
@@ -69,7 +69,7 @@ module _ (S : Shape) (h : List ℕ → ℕ) (s : List ℕ) (long : GoodLength S 
             zeroth,
             inr (
               first,
-              stops-right up (again ++ end) p (every-up (pages S s) (Stands S h s) stands)
+              stops-right up (again ++ end) p (up-every (pages S s) (Stands S h s) stands)
                   (stops-left again end p (stops-up (pages S s) (Parted S h s) p f l)),
             ),
           );
@@ -84,26 +84,15 @@ module _ (S : Shape) (h : List ℕ → ℕ) (s : List ℕ) (long : GoodLength S 
               zeroth,
               inr (
                 first,
-                stops-right up (again ++ end) 0 (every-up (pages S s) (Stands S h s) stands)
-                    (stops-right again end 0 (every-up (pages S s) (Parted S h s) parted) (inl (n, refl))),
+                stops-right up (again ++ end) 0 (up-every (pages S s) (Stands S h s) stands)
+                    (stops-right again end 0 (up-every (pages S s) (Parted S h s) parted) (inl (n, refl))),
               ),
             );
             sound = λ l. absurd (omega (arith, long .least));
           }
 
           pub all-sound : Deepest S s → Judged S h s (pages S s)
-          unfolding rules up again end
           all-sound d = record {
             bad = λ l. absurd (omega arith);
-            sound = λ _. record {
-              long = long;
-              keeps = (
-                zeroth,
-                (
-                  first,
-                  every-append up (again ++ end) (every-up (pages S s) (Stands S h s) stands)
-                      (every-append again end (every-up (pages S s) (Parted S h s) parted) (d, tt)),
-                ),
-              );
-            };
+            sound = λ _. closed S h s (record { long = long; page0 = zeroth; page1 = first; stands = stands; parted = parted; deepest = d });
           }
