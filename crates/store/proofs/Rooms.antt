@@ -2,24 +2,24 @@
 -- Assumes nothing.
 use mathlib.Core.Path.{_≡_, refl, sym, ap, ap₂, subst, _∙_}
 use mathlib.Core.Bool.{true}
-use mathlib.Core.List.{List, [], _∷_, List·Memᴰ, List·Memᴰ·head, List·Memᴰ·tail, List·Memᴰ·not-nil, List·Memᴰ·cases-cons}
+use mathlib.Core.List.{List, [], _∷_, _++_, List·Memᴰ, List·Memᴰ·head, List·Memᴰ·tail, List·Memᴰ·not-nil, List·Memᴰ·cases-cons, List·Memᴰ·append-cases}
 use mathlib.Core.Logic.{_⊎_, inl, inr, _≢_}
 use Prim.Native.Nat.{ℕ, zero, suc, _+_, _^_, _≤_, _<_}
 use native.Mathlib.Omega.{arith}
 use native.Mathlib.Decide.{ℕ-discrete}
-use lib.ListN.{length, getD, set}
+use lib.ListN.{length, getD, set, length-append}
 use lib.Seq.{getD-set-same, getD-set-other}
 use Rattle.page.specs.Page.{Record}
-use Rattle.partition.specs.Partition.{Shape, Row, Prefix, IsBucket, buckets}
+use Rattle.partition.specs.Partition.{Shape, Row, Prefix, IsBucket, Fine, buckets}
 use Rattle.partition.proofs.Tree.{pfx}
 use Rattle.partition.proofs.Rows.{listed}
 use Rattle.partition.proofs.Laws.{in-order}
 use Rattle.partition.proofs.Store.{not-deeper}
-use Rattle.partition.proofs.Members.{Distinct, no-longer, asc-distinct}
+use Rattle.partition.proofs.Members.{Distinct, no-longer, distinct-append, asc-distinct}
 use Rattle.store.specs.Pages.{Page, free, bucket}
 use Rattle.store.specs.Moves.{find, isFree}
 use Rattle.store.proofs.Shows.{prefixOn, OnPage, Holding, Shows}
-use Rattle.store.proofs.Shown.{free-not, within-pages, find-passes, find-least, Part, paged}
+use Rattle.store.proofs.Shown.{free-not, within-pages, find-passes, find-least, Part, Any, paged, whole}
 
 -- ---- one page written
 
@@ -132,20 +132,6 @@ frees [] = 0
 frees (free ∷ gs) = suc (frees gs)
 frees (bucket k rs ∷ gs) = frees gs
 
-pub fill-frees : (gs : List Page) (i k : ℕ) (rs : List Record) → i < length gs → getD gs i free ≡ free → suc (frees (set gs i (bucket k rs))) ≡ frees gs
-fill-frees [] i k rs b e = absurd (omega arith)
-fill-frees (free ∷ gs) zero k rs b e = refl
-fill-frees (bucket l qs ∷ gs) zero k rs b e = absurd (free-not (sym e))
-fill-frees (free ∷ gs) (suc i) k rs b e = ap suc (fill-frees gs i k rs (omega arith) e)
-fill-frees (bucket l qs ∷ gs) (suc i) k rs b e = fill-frees gs i k rs (omega arith) e
-
-pub clear-frees : (gs : List Page) (i k : ℕ) (rs : List Record) → Holding gs i k rs → frees (set gs i free) ≡ suc (frees gs)
-clear-frees [] i k rs e = absurd (free-not e)
-clear-frees (free ∷ gs) zero k rs e = absurd (free-not e)
-clear-frees (bucket l qs ∷ gs) zero k rs e = refl
-clear-frees (free ∷ gs) (suc i) k rs e = ap suc (clear-frees gs i k rs e)
-clear-frees (bucket l qs ∷ gs) (suc i) k rs e = clear-frees gs i k rs e
-
 free-there : (gs : List Page) → 0 < frees gs → (i : ℕ) × (i < length gs) × (getD gs i free ≡ free)
 free-there [] l = absurd (omega arith)
 free-there (free ∷ gs) l = (0, omega arith, refl)
@@ -203,21 +189,38 @@ module _ (h : List ℕ → ℕ) where
     distinct gs (λ i j k rs qs a b e. let z : suc i ≡ suc j = f (suc i) (suc j) k rs qs a b e in omega arith),
   )
 
--- THE COUNT. Each bucket takes one page, and the others are free
-pub rooms : (S : Shape) (h : List ℕ → ℕ) → ((c : List ℕ) → h c < 2 ^ 32) → (rows : List Row) (gs : List Page) → Shows S h rows gs → length (buckets S h rows) + frees gs ≡ length gs
-rooms S h small rows gs s =
-    let a : length (shown h gs) ≤ length (buckets S h rows) = no-longer (shown h gs) (buckets S h rows) (distinct h gs (s .apart)) into in
-    let b : length (buckets S h rows) ≤ length (shown h gs) = no-longer (buckets S h rows) (shown h gs) (asc-distinct (S .deepest) 0 (2 ^ S .deepest) (buckets S h rows) (in-order S h rows)) back in
-    omega (arith, in-use h gs)
-  where
-    into : (x : Prefix) → List·Memᴰ x (shown h gs) → List·Memᴰ x (buckets S h rows)
-    into x m =
-        let w = which h gs x m in
-        let o = s .page (w .0) (w .1) (w .2) (w .3) in
-        subst (λ y. List·Memᴰ y (buckets S h rows)) (sym (w .4))
-        (listed S h small rows (w .1) (prefixOn h (w .1) (w .2)) .1 (o .is, not-deeper S h rows (s .fine) (w .1) (prefixOn h (w .1) (w .2)) (o .is)))
+module _ (S : Shape) (h : List ℕ → ℕ) (small : (c : List ℕ) → h c < 2 ^ 32) (rows : List Row) (fine : Fine S h rows) where
+  in-list : (k v : ℕ) → IsBucket S h rows k v → List·Memᴰ (pfx k v) (buckets S h rows)
+  in-list k v b = listed S h small rows k v .1 (b, not-deeper S h rows fine k v b)
 
-    back : (x : Prefix) → List·Memᴰ x (buckets S h rows) → List·Memᴰ x (shown h gs)
-    back x m =
-        let w = paged S h rows gs s (x .bits) (x .value) (listed S h small rows (x .bits) (x .value) .0 m .0) in
-        subst (λ v. List·Memᴰ (pfx (x .bits) v) (shown h gs)) (w .3) (is-shown h gs (w .0) (x .bits) (w .1) (w .2))
+  module _ (P : ℕ → ℕ → Type 0) (gs : List Page) (p : Part S h rows P gs) where
+    shown-in : (x : Prefix) → List·Memᴰ x (shown h gs) → IsBucket S h rows (x .bits) (x .value) × P (x .bits) (x .value)
+    shown-in x m =
+        let w = which h gs x m in
+        let o = p .page (w .0) (w .1) (w .2) (w .3) in
+        subst (λ y. IsBucket S h rows (y .bits) (y .value) × P (y .bits) (y .value)) (sym (w .4)) (o .0 .is, o .1)
+
+    -- THE ROOM TEST. Where there are pages for all buckets of the rows, a page is free for each that is not shown yet
+    pub enough : (ps : List Prefix) → Distinct ps → ((x : Prefix) → List·Memᴰ x ps → IsBucket S h rows (x .bits) (x .value) × (P (x .bits) (x .value) → ⊥))
+        → length (buckets S h rows) ≤ length gs → length ps ≤ frees gs
+    enough ps d new room =
+        let a : length (shown h gs ++ ps) ≤ length (buckets S h rows) =
+        no-longer (shown h gs ++ ps) (buckets S h rows) (distinct-append (shown h gs) ps (distinct h gs (p .apart)) d (λ x m n. new x n .1 (shown-in x m .1)))
+        (λ x m. both x (List·Memᴰ·append-cases (shown h gs) m)) in
+        omega (arith, in-use h gs, length-append (shown h gs) ps)
+      where
+        both : (x : Prefix) → List·Memᴰ x (shown h gs) ⊎ List·Memᴰ x ps → List·Memᴰ x (buckets S h rows)
+        both x (inl m) = in-list (x .bits) (x .value) (shown-in x m .0)
+        both x (inr m) = in-list (x .bits) (x .value) (new x m .0)
+
+  -- THE COUNT. Each bucket takes one page, and the others are free
+  pub rooms : (gs : List Page) → Shows S h rows gs → length (buckets S h rows) + frees gs ≡ length gs
+  rooms gs s =
+      let a : length (shown h gs) ≤ length (buckets S h rows) = no-longer (shown h gs) (buckets S h rows) (distinct h gs (s .apart)) (λ x m. in-list (x .bits) (x .value) (shown-in Any gs (whole S h rows gs s) x m .0)) in
+      let b : length (buckets S h rows) ≤ length (shown h gs) = no-longer (buckets S h rows) (shown h gs) (asc-distinct (S .deepest) 0 (2 ^ S .deepest) (buckets S h rows) (in-order S h rows)) back in
+      omega (arith, in-use h gs)
+    where
+      back : (x : Prefix) → List·Memᴰ x (buckets S h rows) → List·Memᴰ x (shown h gs)
+      back x m =
+          let w = paged S h rows gs s (x .bits) (x .value) (listed S h small rows (x .bits) (x .value) .0 m .0) in
+          subst (λ v. List·Memᴰ (pfx (x .bits) v) (shown h gs)) (w .3) (is-shown h gs (w .0) (x .bits) (w .1) (w .2))
