@@ -3,6 +3,7 @@ pub mod Shows
 pub mod Shown
 pub mod Rooms
 pub mod Records
+pub mod Written
 pub mod Unique
 pub mod Settled
 pub mod Kept
