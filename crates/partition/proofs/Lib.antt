@@ -12,3 +12,4 @@ pub mod Store
 pub mod Pages
 pub mod Sorted
 pub mod Members
+pub mod Below

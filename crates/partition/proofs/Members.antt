@@ -7,11 +7,12 @@ use mathlib.Core.Logic.{_⊎_, inl, inr, _≢_}
 use mathlib.Core.List.{List, [], _∷_, _++_, List·Memᴰ, List·Memᴰ·head, List·Memᴰ·tail, List·Memᴰ·not-nil, List·Memᴰ·cases-cons, List·Memᴰ·append-cases, Memᴰ·append-left, Memᴰ·append-right, Memᴰ·cast}
 use mathlib.Core.Option.{Option, some, none}
 use Prim.Native.Nat.{ℕ, suc, _+_, _≤_, _<_, zero-le, Ordering, Ordering·lt, Ordering·eq, Ordering·gt}
+use native.Mathlib.Nat.{add-left-comm}
 use native.Mathlib.Omega.{arith}
 use lib.ListN.{length, length-append}
 use Rattle.words.specs.Codes.{order}
 use Rattle.words.proofs.Orders.{order-refl, order-eq}
-use Rattle.partition.specs.Partition.{Row, Prefix, Reordered, empty, front, swap, chain, after, Ascending}
+use Rattle.partition.specs.Partition.{Row, Prefix, need, needs, Reordered, empty, front, swap, chain, after, Ascending}
 use Rattle.partition.specs.Listing.{by, insert, inOrder, placeOf, Once}
 use Rattle.partition.proofs.Order.{asc-first, first-lt-after}
 use Rattle.partition.proofs.Pages.{same-order, to-front, turned}
@@ -87,6 +88,13 @@ mem-reordered (swap {rs = rs} {qs = qs} a b p) {r} m = go (List·Memᴰ·cases-c
     go (inl e) rest = List·Memᴰ·tail (List·Memᴰ·head e)
     go (inr t) rest = past (List·Memᴰ·cases-cons t) rest
 mem-reordered (chain p q) m = mem-reordered q (mem-reordered p m)
+
+pub needs-reordered : {rs qs : List Row} → Reordered rs qs → needs rs ≡ needs qs
+unfolding needs
+needs-reordered empty = refl
+needs-reordered (front r p) = ap (λ n. need r + n) (needs-reordered p)
+needs-reordered (swap {rs = rs} {qs = qs} r q p) = ap (λ n. need r + (need q + n)) (needs-reordered p) ∙ add-left-comm (need r) (need q) (needs qs)
+needs-reordered (chain p q) = needs-reordered p ∙ needs-reordered q
 
 insert-reordered : (r : Row) (l : List Row) → Reordered (insert (λ q. q .code) r l) (r ∷ l)
 unfolding insert

@@ -4,6 +4,7 @@ pub mod Shown
 pub mod Rooms
 pub mod Records
 pub mod Written
+pub mod PutShows
 pub mod Unique
 pub mod Settled
 pub mod Kept
