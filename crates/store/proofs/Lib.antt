@@ -5,6 +5,7 @@ pub mod Rooms
 pub mod Records
 pub mod Written
 pub mod PutShows
+pub mod PutKept
 pub mod Unique
 pub mod Settled
 pub mod Kept
@@ -12,5 +13,6 @@ pub mod Format
 pub mod Same
 pub mod Sorted
 pub mod Plan
+pub mod PutRows
 pub mod Over
 pub mod Owner
