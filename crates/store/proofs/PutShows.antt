@@ -22,7 +22,8 @@ use Rattle.partition.proofs.Frame.{dec-under, inside-of}
 use Rattle.partition.proofs.Rows.{load, load-mono, load-on, rows-on, to-load, listed}
 use Rattle.partition.proofs.Laws.{Shallowest, bucket-shallowest, reordered, outside, inside, add-stays, add-appears, left-joined, has-bucket, in-order}
 use Rattle.partition.proofs.Store.{fine-add, home, outside-rows, not-deeper, no-need}
-use Rattle.partition.proofs.Members.{Distinct, asc-distinct, in-order-reordered, needs-reordered}
+use Rattle.partition.proofs.Members.{Distinct, asc-distinct, in-order-reordered}
+use Rattle.partition.proofs.Reorders.{needs-same}
 use Rattle.partition.proofs.Below.{load-same, order-below, below}
 use Rattle.store.specs.Pages.{Page, free, bucket, asRow, rowsIn}
 use Rattle.store.specs.Moves.{pick, find, isFree, holds, bucketOf, packFrom, packed, added, written, newBucket, putOn, putNew}
@@ -114,7 +115,7 @@ module _ (S : Shape) (h : List ℕ → ℕ) (small : (c : List ℕ) → h c < 2 
 
       all-need : needs (r ∷ map asRow rs) ≡ need r + needs (rowsOf h rows k v)
       unfolding needs
-      all-need = ap (λ n. need r + n) (needs-reordered same)
+      all-need = ap (λ n. need r + n) (needs-same same)
 
       others : Part S h (r ∷ rows) (Out k) cleared
       others =
