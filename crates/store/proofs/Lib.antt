@@ -16,3 +16,8 @@ pub mod Plan
 pub mod PutRows
 pub mod Over
 pub mod Owner
+pub mod Showing
+pub mod Named
+pub mod Afresh
+pub mod Accepting
+pub mod Reading
