@@ -13,10 +13,10 @@ pub mod Format
 pub mod Same
 pub mod Sorted
 pub mod Plan
-pub mod PutRows
 pub mod Over
 pub mod Owner
 pub mod Showing
+pub mod PutRows
 pub mod Named
 pub mod Afresh
 pub mod Accepting
