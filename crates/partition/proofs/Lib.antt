@@ -15,6 +15,7 @@ pub mod Sorted
 pub mod Maps
 pub mod Rising
 pub mod Members
+pub mod Below
 pub mod Listed
 pub mod Index
 pub mod Cases

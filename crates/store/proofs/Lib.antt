@@ -1,6 +1,11 @@
 pub mod Rules
 pub mod Shows
 pub mod Shown
+pub mod Rooms
+pub mod Records
+pub mod Written
+pub mod PutShows
+pub mod PutKept
 pub mod Unique
 pub mod Settled
 pub mod Kept
@@ -11,6 +16,7 @@ pub mod Plan
 pub mod Over
 pub mod Owner
 pub mod Showing
+pub mod PutRows
 pub mod Named
 pub mod Afresh
 pub mod Accepting
