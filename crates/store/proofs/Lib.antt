@@ -1,5 +1,6 @@
 pub mod Rules
 pub mod Shows
+pub mod Built
 pub mod Unique
 pub mod Settled
 pub mod Kept
@@ -8,4 +9,5 @@ pub mod Same
 pub mod Sorted
 pub mod Plan
 pub mod Over
+pub mod OverShows
 pub mod Owner
