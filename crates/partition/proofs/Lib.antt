@@ -2,6 +2,7 @@ pub mod Tree
 pub mod Path
 pub mod Frame
 pub mod Bits
+pub mod Reorders
 pub mod Rows
 pub mod Order
 pub mod Laws
@@ -11,3 +12,4 @@ pub mod Sum
 pub mod Store
 pub mod Pages
 pub mod Sorted
+pub mod Maps

@@ -14,18 +14,8 @@ use Rattle.partition.specs.Bits.{top}
 use Rattle.partition.specs.Partition.{Shape, Row, Prefix, Reordered, empty, front, swap, chain, keep, rowsOf, buckets}
 use Rattle.partition.specs.Listing.{by, insert, inOrder, listing, placeOf, Once}
 use Rattle.partition.proofs.Laws.{reordered}
-use Rattle.partition.proofs.Pages.{turned}
-
--- a map's step, by the outcome of a comparison
-there : (o : Ordering) (m : Option (List ℕ)) (b : List ℕ) → by o m (some b) m ≡ none → (o ≡ Ordering·eq → ⊥) × (m ≡ none)
-there Ordering·lt m b e = ((λ f. let n : _≡_ {A = ℕ} 0 1 = cc in omega arith), e)
-there Ordering·eq m b e = absurd (let n : _≡_ {A = ℕ} 0 1 = cc in omega arith)
-there Ordering·gt m b e = ((λ f. let n : _≡_ {A = ℕ} 0 1 = cc in omega arith), e)
-
-skip : (o : Ordering) (m : Option (List ℕ)) (b : List ℕ) → (o ≡ Ordering·eq → ⊥) → by o m (some b) m ≡ m
-skip Ordering·lt m b f = refl
-skip Ordering·eq m b f = absurd (f refl)
-skip Ordering·gt m b f = refl
+use Rattle.partition.proofs.Reorders.{rows-same}
+use Rattle.partition.proofs.Maps.{skip, passed}
 
 crossed : (o p : Ordering) (m : Option (List ℕ)) (a b : List ℕ) → (o ≡ Ordering·eq → p ≡ Ordering·eq → ⊥)
     → by o (by p m (some b) m) (some a) (by p m (some b) m) ≡ by p (by o m (some a) m) (some b) (by o m (some a) m)
@@ -47,7 +37,7 @@ same-map (front r p) o =
     ((sym (i .1 (r .code)) ∙ o .0, i .0), (λ c. ap (λ m. by (order c (r .code)) m (some (r .place)) m) (i .1 c)))
 same-map (swap {rs = rs} {qs = qs} r q p) o =
     let i = same-map p (o .1 .1) in
-    let t = there (order (r .code) (q .code)) (placeOf rs (r .code)) (q .place) (o .0) in
+    let t = passed (order (r .code) (q .code)) (placeOf rs (r .code)) (q .place) (o .0) in
     let apart : (c : List ℕ) → order c (r .code) ≡ Ordering·eq → order c (q .code) ≡ Ordering·eq → ⊥
     = λ c x y. t .0 (subst (λ d. order d (q .code) ≡ Ordering·eq) (order-eq c (r .code) x) y) in (
       (
@@ -145,23 +135,6 @@ module _ (h : List ℕ → ℕ) (k v : ℕ) where
   some-once [] o = tt
   some-once (q ∷ rs) o = keep-once (eqb (top k (h (q .code))) v) q (rowsOf h rs k v) (some-none rs (q .code) (o .0)) (some-once rs (o .1))
 
-  keep-front : (t : Bool) (q : Row) {m n : List Row} → Reordered m n → Reordered (keep t q m) (keep t q n)
-  keep-front true q p = front q p
-  keep-front false q p = p
-
-  keep-swap : (t u : Bool) (r q : Row) {m n : List Row} → Reordered m n → Reordered (keep t r (keep u q m)) (keep u q (keep t r n))
-  keep-swap true true r q p = swap r q p
-  keep-swap true false r q p = front r p
-  keep-swap false true r q p = front q p
-  keep-swap false false r q p = p
-
-  some-reordered : {rs qs : List Row} → Reordered rs qs → Reordered (rowsOf h rs k v) (rowsOf h qs k v)
-  unfolding rowsOf
-  some-reordered empty = empty
-  some-reordered (front r p) = keep-front (eqb (top k (h (r .code))) v) r (some-reordered p)
-  some-reordered (swap r q p) = keep-swap (eqb (top k (h (r .code))) v) (eqb (top k (h (q .code))) v) r q (some-reordered p)
-  some-reordered (chain p q) = chain (some-reordered p) (some-reordered q)
-
 -- the first of two rows has another code than the second
 differ : (r q : Row) (rs : List Row) → placeOf (q ∷ rs) (r .code) ≡ none → order (r .code) (q .code) ≡ Ordering·eq → ⊥
 unfolding placeOf
@@ -178,7 +151,7 @@ order-same (swap {rs = rs} {qs = qs} r q p) o =
 order-same (chain p q) o = order-same p o ∙ order-same q (same-map p o .0)
 
 pub bucket-same : (h : List ℕ → ℕ) (rs qs : List Row) → Reordered rs qs → Once rs → (k v : ℕ) → inOrder (rowsOf h rs k v) ≡ inOrder (rowsOf h qs k v)
-bucket-same h rs qs p o k v = order-same (some-reordered h k v p) (some-once h k v rs o)
+bucket-same h rs qs p o k v = order-same (rows-same h k v p) (some-once h k v rs o)
 
 flat-same : (f g : Prefix → List Row) → ((p : Prefix) → f p ≡ g p) → (ps : List Prefix) → flatMap f ps ≡ flatMap g ps
 unfolding flatMap

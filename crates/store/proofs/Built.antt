@@ -14,7 +14,7 @@ use Rattle.partition.specs.Bits.{top}
 use Rattle.partition.specs.Partition.{Shape, Row, keep, rowsOf, IsBucket, Fine, Reordered, empty, front, swap, chain}
 use Rattle.partition.specs.Listing.{by, insert, inOrder, Once}
 use Rattle.partition.proofs.Laws.{no-overlap, load-reordered}
-use Rattle.partition.proofs.Pages.{same-order, to-front, turned}
+use Rattle.partition.proofs.Reorders.{same-order, to-front, turned, append-same}
 use Rattle.partition.proofs.Rows.{load, to-load, of-load}
 use Rattle.partition.proofs.Sorted.{same-map, bucket-same}
 use Rattle.partition.proofs.Store.{fine-reordered}
@@ -38,12 +38,6 @@ pub sorted : (l : List Row) → Reordered (inOrder l) l
 unfolding inOrder
 sorted [] = empty
 sorted (r ∷ l) = chain (insert-front r (inOrder l)) (front r (sorted l))
-
-pub both : {s s′ t t′ : List Row} → Reordered s s′ → Reordered t t′ → Reordered (s ++ t) (s′ ++ t′)
-both empty q = q
-both (front r p) q = front r (both p q)
-both (swap {rs = m} {qs = m′} r u p) q = swap r u (both p q)
-both (chain p p′) q = chain (both p q) (both p′ (same-order _))
 
 -- ---- rows of a prefix, and the rest
 
@@ -123,7 +117,7 @@ module _ (h : List ℕ → ℕ) where
           go zero e = absurd (let z : _≡_ {A = ℕ} 0 1 = cc in omega arith)
           go (suc i) e = record { at = i; depth = p .depth; records = p .records; there = e; begins = p .begins }
   gathered (bucket k rs ∷ gs) rows full one every =
-      chain (both (subst (λ l. Reordered l (rowsOf h rows k v)) (sym (full 0 k rs refl)) (sorted (rowsOf h rows k v)))
+      chain (append-same (subst (λ l. Reordered l (rowsOf h rows k v)) (sym (full 0 k rs refl)) (sorted (rowsOf h rows k v)))
       (gathered gs (restOf rows k v)
       (λ i l qs e. full (suc i) l qs e ∙ ap inOrder (sym (rest-rows rows k v l (prefixOn h l qs) (other i l qs e))))
       (λ i j m l qs us a b x y z. let e = one (suc i) (suc j) m l qs us a b x y z in omega arith)

@@ -13,7 +13,9 @@ use Rattle.store.specs.Accepted.{Accepted}
 use Rattle.store.specs.Moves.{placeOn, overwriteOn, overwritten}
 use Rattle.partition.specs.Listing.{Once}
 use Rattle.words.proofs.Orders.{order-eq}
-use Rattle.store.proofs.Plan.{OverRows, AcceptedIsAfresh, cut, cut-none, same-rows}
+use Rattle.partition.proofs.Reorders.{same-order}
+use Rattle.partition.proofs.Maps.{cut, cut-none}
+use Rattle.store.proofs.Plan.{OverRows, AcceptedIsAfresh}
 
 abbrev pub over : Row → Row → Row
 over r q = by (order (r .code) (q .code)) q r q
@@ -55,19 +57,18 @@ none-over r (q ∷ rs) e = go (order (r .code) (q .code)) e (none-over r rs)
     go Ordering·gt x f = ap (λ l. q ∷ l) (f x)
 
 pub known-over : (r : Row) (rs : List Row) (old : List ℕ) → Once rs → placeOf rs (r .code) ≡ some old → Reordered (map (over r) rs) (r ∷ cut (r .code) rs)
-unfolding placeOf cut without
+unfolding placeOf without
 known-over r [] old o e = absurd (let n : _≡_ {A = ℕ} 0 1 = cc in omega arith)
 known-over r (q ∷ rs) old o e = go (order (r .code) (q .code)) refl e (known-over r rs old (o .1))
   where
     go : (p : Ordering) → order (r .code) (q .code) ≡ p → by p (placeOf rs (r .code)) (some (q .place)) (placeOf rs (r .code)) ≡ some old
         → (placeOf rs (r .code) ≡ some old → Reordered (map (over r) rs) (r ∷ cut (r .code) rs))
         → Reordered (by p q r q ∷ map (over r) rs) (r ∷ by p (q ∷ cut (r .code) rs) (cut (r .code) rs) (q ∷ cut (r .code) rs))
-    go Ordering·lt f x i = chain (front q (i x)) (swap q r (same-rows (cut (r .code) rs)))
-    go Ordering·gt f x i = chain (front q (i x)) (swap q r (same-rows (cut (r .code) rs)))
+    go Ordering·lt f x i = chain (front q (i x)) (swap q r (same-order (cut (r .code) rs)))
+    go Ordering·gt f x i = chain (front q (i x)) (swap q r (same-order (cut (r .code) rs)))
     go Ordering·eq f x i =
         let z : placeOf rs (r .code) ≡ none = subst (λ c. placeOf rs c ≡ none) (sym (order-eq (r .code) (q .code) f)) (o .0) in
-        front r (subst (λ l. Reordered l (cut (r .code) rs)) (sym (none-over r rs z)) (subst (λ l. Reordered rs l) (sym (cut-none (r .code) rs z)) (same-rows rs)))
+        front r (subst (λ l. Reordered l (cut (r .code) rs)) (sym (none-over r rs z)) (subst (λ l. Reordered rs l) (sym (cut-none (r .code) rs z)) (same-order rs)))
 
 pub over-rows : (S : Shape) (h : List ℕ → ℕ) → AcceptedIsAfresh S h → OverRows S h
-unfolding cut
 over-rows S h fresh s r old a e = subst (λ l. Reordered l (r ∷ cut (r .code) (rowsHeld S s))) (sym (rows-over r (contents S s))) (known-over r (rowsHeld S s) old (fresh s a .0) e)

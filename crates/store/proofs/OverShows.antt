@@ -20,7 +20,6 @@ use Rattle.store.specs.Moves.{placeOn, overwriteOn, overwritten}
 use Rattle.store.proofs.Shows.{firstCode, prefixOn, OnPage, Holding, Shows}
 use Rattle.store.proofs.Built.{same-bucket, shows-reordered}
 use Rattle.store.proofs.Over.{over, many-over, rows-over, known-over}
-use Rattle.store.proofs.Plan.{cut, same-rows}
 
 -- ---- rows that change and keep their codes
 
@@ -141,5 +140,4 @@ module _ (S : Shape) (h : List ℕ → ℕ) (r : Row) where
   -- PUT on a known code
   pub over-shows : (rows : List Row) (gs : List Page) (old : List ℕ) → Shows S h rows gs → placeOf rows (r .code) ≡ some old
       → Shows S h (r ∷ without (λ q. q .code) (r .code) rows) (overwritten gs r)
-  unfolding cut
   over-shows rows gs old s e = shows-reordered S h (known-over r rows old (s .once) e) (all-over rows gs s)

@@ -20,10 +20,9 @@ use Rattle.store.specs.Tables.{Out, formatted, Refusal6, Refusal7, Becom
 use Rattle.partition.specs.Listing.{Once}
 use Rattle.store.specs.Demands.{Sized, Call, format, check, count, lookup, remove, put, rowAt, Made, ok, after, surviving, directory, afresh, Afresh, History, begin, next, AfreshAlways, map-of, update, answerOf, putAnswer, PutIsMap, RemoveIsMap}
 use Rattle.ground.proofs.Ladders.{each}
-use Rattle.store.proofs.Rules.{accepted-whole}
 use Rattle.partition.proofs.Sorted.{same-map}
-use Rattle.partition.proofs.Pages.{turned as back}
-use Rattle.words.proofs.Orders.{order-eq, order-refl}
+use Rattle.partition.proofs.Reorders.{same-order}
+use Rattle.partition.proofs.Maps.{cut, cut-none, cut-same, map-remove, map-put}
 use Rattle.partition.proofs.Sorted.{listing-same}
 use Rattle.store.proofs.Sorted.{afresh-same}
 use Rattle.store.proofs.Kept.{nothing-there, clash, refusal-keeps}
@@ -48,55 +47,9 @@ module _ (S : Shape) (h : List ℕ → ℕ) where
   RemoveRows = (s c old : List ℕ) → Accepted S h s → placeOf (rowsHeld S s) c ≡ some old
       → Reordered (rowsIn (removed S h (contents S s) c)) (without (λ q. q .code) c (rowsHeld S s))
 
--- ---- rows
-
-pub same-rows : (rs : List Row) → Reordered rs rs
-same-rows [] = empty
-same-rows (r ∷ rs) = front r (same-rows rs)
-
-unfoldable pub cut : List ℕ → List Row → List Row
-cut c rs = without (λ q. q .code) c rs
-
-pub cut-none : (c : List ℕ) (rs : List Row) → placeOf rs c ≡ none → cut c rs ≡ rs
-unfolding cut without placeOf
-cut-none c [] e = refl
-cut-none c (q ∷ rs) e = go (order c (q .code)) e (cut-none c rs)
-  where
-    go : (o : Ordering) → by o (placeOf rs c) (some (q .place)) (placeOf rs c) ≡ none → (placeOf rs c ≡ none → cut c rs ≡ rs)
-        → by o (q ∷ cut c rs) (cut c rs) (q ∷ cut c rs) ≡ q ∷ rs
-    go Ordering·lt x f = ap (λ l. q ∷ l) (f x)
-    go Ordering·eq x f = absurd (let n : _≡_ {A = ℕ} 0 1 = cc in omega arith)
-    go Ordering·gt x f = ap (λ l. q ∷ l) (f x)
-
-by-front : (o : Ordering) (q : Row) {m n : List Row} → Reordered m n → Reordered (by o (q ∷ m) m (q ∷ m)) (by o (q ∷ n) n (q ∷ n))
-by-front Ordering·lt q p = front q p
-by-front Ordering·eq q p = p
-by-front Ordering·gt q p = front q p
-
-step : Ordering → Row → List Row → List Row
-step o q m = by o (q ∷ m) m (q ∷ m)
-
-by-swap : (o o′ : Ordering) (r q : Row) {m n : List Row} → Reordered m n → Reordered (step o r (step o′ q m)) (step o′ q (step o r n))
-unfolding step
-by-swap Ordering·lt Ordering·lt r q p = swap r q p
-by-swap Ordering·lt Ordering·eq r q p = front r p
-by-swap Ordering·lt Ordering·gt r q p = swap r q p
-by-swap Ordering·eq Ordering·lt r q p = front q p
-by-swap Ordering·eq Ordering·eq r q p = p
-by-swap Ordering·eq Ordering·gt r q p = front q p
-by-swap Ordering·gt Ordering·lt r q p = swap r q p
-by-swap Ordering·gt Ordering·eq r q p = front r p
-by-swap Ordering·gt Ordering·gt r q p = swap r q p
-
-cut-same : (c : List ℕ) {rs qs : List Row} → Reordered rs qs → Reordered (cut c rs) (cut c qs)
-unfolding cut without step
-cut-same c empty = empty
-cut-same c (front r p) = by-front (order c (r .code)) r (cut-same c p)
-cut-same c (swap r q p) = by-swap (order c (r .code)) (order c (q .code)) r q (cut-same c p)
-cut-same c (chain p q) = chain (cut-same c p) (cut-same c q)
+-- ---- the rows that a call leaves
 
 after-same : (c : Call) {rs qs : List Row} → Reordered rs qs → Reordered (after c rs) (after c qs)
-unfolding cut
 after-same format p = empty
 after-same check p = p
 after-same count p = p
@@ -113,7 +66,6 @@ survives : (c : Call) (o : Out) {rs qs : List Row} → Reordered rs qs → Reord
 survives c o p = picked (ok o) c p
 
 to-cut : (c : List ℕ) (rs : List Row) (r : Row) (gs : List Row) → placeOf rs c ≡ none → Reordered gs (r ∷ rs) → Reordered gs (r ∷ without (λ q. q .code) c rs)
-unfolding cut
 to-cut c rs r gs e p = subst (λ l. Reordered gs (r ∷ l)) (sym (cut-none c rs e)) p
 
 module _ (S : Shape) (h : List ℕ → ℕ) where
@@ -122,7 +74,7 @@ module _ (S : Shape) (h : List ℕ → ℕ) where
 
   kept : (c : Call) (s : List ℕ) (x : Out × List ℕ) (o : Out) → x ≡ (o, s) → ok o ≡ false → Left c s x
   unfolding Left
-  kept c s x o e f = subst (λ (y : Out × List ℕ). Left c s y) (sym e) (subst (λ b. Reordered (rowsHeld S s) (pick b (after c (rowsHeld S s)) (rowsHeld S s))) (sym f) (same-rows (rowsHeld S s)))
+  kept c s x o e f = subst (λ (y : Out × List ℕ). Left c s y) (sym e) (subst (λ b. Reordered (rowsHeld S s) (pick b (after c (rowsHeld S s)) (rowsHeld S s))) (sym f) (same-order (rowsHeld S s)))
 
   moved : (c : Call) (s : List ℕ) (x : Out × List ℕ) (o : Out) (gs : List Page) → x .0 ≡ o → ok o ≡ true → Becomes S h s gs (x .1)
       → Reordered (rowsIn gs) (after c (rowsHeld S s)) → Left c s x
@@ -183,8 +135,8 @@ module _ (S : Shape) (h : List ℕ → ℕ) where
     )
 
     reads-left : (s t : List ℕ) (b : Bool) → t ≡ s → Reordered (rowsHeld S t) (pick b (rowsHeld S s) (rowsHeld S s))
-    reads-left s t true e = subst (λ x. Reordered (rowsHeld S x) (rowsHeld S s)) (sym e) (same-rows (rowsHeld S s))
-    reads-left s t false e = subst (λ x. Reordered (rowsHeld S x) (rowsHeld S s)) (sym e) (same-rows (rowsHeld S s))
+    reads-left s t true e = subst (λ x. Reordered (rowsHeld S x) (rowsHeld S s)) (sym e) (same-order (rowsHeld S s))
+    reads-left s t false e = subst (λ x. Reordered (rowsHeld S x) (rowsHeld S s)) (sym e) (same-order (rowsHeld S s))
 
     left : (c : Call) (s : List ℕ) (o : Out) (t : List ℕ) → Accepted S h s → Made S h c s o t → Reordered (rowsHeld S t) (surviving c o (rowsHeld S s))
     unfolding Left
@@ -218,51 +170,13 @@ module _ (S : Shape) (h : List ℕ → ℕ) where
 
 -- ---- demand 2's map, from the same statements
 
-same-code : (c x : List ℕ) (q : Row) → order c (q .code) ≡ Ordering·eq → (order x c ≡ Ordering·eq → ⊥) → order x (q .code) ≡ Ordering·eq → ⊥
-same-code c x q e n f = n (subst (λ d. order x d ≡ Ordering·eq) (sym (order-eq c (q .code) e)) f)
-
-skip : (o : Ordering) (m : Option (List ℕ)) (b : List ℕ) → (o ≡ Ordering·eq → ⊥) → by o m (some b) m ≡ m
-skip Ordering·lt m b f = refl
-skip Ordering·eq m b f = absurd (f refl)
-skip Ordering·gt m b f = refl
-
-cut-other : (c x : List ℕ) (rs : List Row) → (order x c ≡ Ordering·eq → ⊥) → placeOf (cut c rs) x ≡ placeOf rs x
-unfolding cut without placeOf
-cut-other c x [] n = refl
-cut-other c x (q ∷ rs) n = go (order c (q .code)) refl (cut-other c x rs n)
-  where
-    go : (o : Ordering) → order c (q .code) ≡ o → placeOf (cut c rs) x ≡ placeOf rs x → placeOf (by o (q ∷ cut c rs) (cut c rs) (q ∷ cut c rs)) x ≡ placeOf (q ∷ rs) x
-    go Ordering·lt e i = ap (λ m. by (order x (q .code)) m (some (q .place)) m) i
-    go Ordering·eq e i = i ∙ sym (skip (order x (q .code)) (placeOf rs x) (q .place) (same-code c x q e n))
-    go Ordering·gt e i = ap (λ m. by (order x (q .code)) m (some (q .place)) m) i
-
-cut-gone : (c : List ℕ) (rs : List Row) → placeOf (cut c rs) c ≡ none
-unfolding cut without placeOf
-cut-gone c [] = refl
-cut-gone c (q ∷ rs) = go (order c (q .code)) refl (cut-gone c rs)
-  where
-    go : (o : Ordering) → order c (q .code) ≡ o → placeOf (cut c rs) c ≡ none → placeOf (by o (q ∷ cut c rs) (cut c rs) (q ∷ cut c rs)) c ≡ none
-    go Ordering·lt e i = ap (λ o. by o (placeOf (cut c rs) c) (some (q .place)) (placeOf (cut c rs) c)) e ∙ i
-    go Ordering·eq e i = i
-    go Ordering·gt e i = ap (λ o. by o (placeOf (cut c rs) c) (some (q .place)) (placeOf (cut c rs) c)) e ∙ i
-
 update-cut : (c x : List ℕ) (rs : List Row) → placeOf (cut c rs) x ≡ update (placeOf rs) c none x
 unfolding update
-update-cut c x rs = go (order x c) refl
-  where
-    go : (o : Ordering) → order x c ≡ o → placeOf (cut c rs) x ≡ by o (placeOf rs x) none (placeOf rs x)
-    go Ordering·lt e = cut-other c x rs (λ f. let z : Ordering·lt ≡ Ordering·eq = sym e ∙ f in let n : _≡_ {A = ℕ} 0 1 = cc in omega arith)
-    go Ordering·eq e = subst (λ y. placeOf (cut c rs) y ≡ none) (sym (order-eq x c e)) (cut-gone c rs)
-    go Ordering·gt e = cut-other c x rs (λ f. let z : Ordering·gt ≡ Ordering·eq = sym e ∙ f in let n : _≡_ {A = ℕ} 0 1 = cc in omega arith)
+update-cut c x rs = map-remove c x rs
 
 update-put : (r : Row) (x : List ℕ) (rs : List Row) → placeOf (r ∷ cut (r .code) rs) x ≡ update (placeOf rs) (r .code) (some (r .place)) x
-unfolding update placeOf
-update-put r x rs = go (order x (r .code)) refl
-  where
-    go : (o : Ordering) → order x (r .code) ≡ o → by o (placeOf (cut (r .code) rs) x) (some (r .place)) (placeOf (cut (r .code) rs) x) ≡ by o (placeOf rs x) (some (r .place)) (placeOf rs x)
-    go Ordering·lt e = cut-other (r .code) x rs (λ f. let z : Ordering·lt ≡ Ordering·eq = sym e ∙ f in let n : _≡_ {A = ℕ} 0 1 = cc in omega arith)
-    go Ordering·eq e = refl
-    go Ordering·gt e = cut-other (r .code) x rs (λ f. let z : Ordering·gt ≡ Ordering·eq = sym e ∙ f in let n : _≡_ {A = ℕ} 0 1 = cc in omega arith)
+unfolding update
+update-put r x rs = map-put r x rs
 
 module _ (S : Shape) (h : List ℕ → ℕ) (sized : Sized S) (fresh : AcceptedIsAfresh S h) (puts : PutRows S h) (over : OverRows S h) (removes : RemoveRows S h) where
   put-answer : (s c : List ℕ) (p : Place) → Accepted S h s → (x : Out × List ℕ) → Answers (putTable S h s c p) x → ok (x .0) ≡ true → x .0 ≡ putAnswer (map-of S s c)
@@ -315,14 +229,12 @@ module _ (S : Shape) (h : List ℕ → ℕ) (sized : Sized S) (fresh : AcceptedI
       same-map (left S h sized puts over removes c s o t a m) (fresh t b .0) .1 x ∙ ap (λ k. placeOf (pick k (after c (rowsHeld S s)) (rowsHeld S s)) x) f
 
   pub put-is-map : PutIsMap S h
-  unfolding cut
   put-is-map s c p o t a m = (
     (λ f. (put-answer s c p a (o, t) m f, (λ x. map-after (put c p) s o t a m f x ∙ update-put (record { code = c; place = stored p }) x (rowsHeld S s)))),
     refusal-keeps S h (put c p) s o t m,
   )
 
   pub remove-is-map : RemoveIsMap S h
-  unfolding cut
   remove-is-map s c o t a m = (
     (λ f. (remove-answer s c a (o, t) m f, (λ x. map-after (remove c) s o t a m f x ∙ update-cut c x (rowsHeld S s)))),
     refusal-keeps S h (remove c) s o t m,
