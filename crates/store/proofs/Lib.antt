@@ -1,6 +1,7 @@
 pub mod Rules
 pub mod Shows
 pub mod Built
+pub mod BucketOf
 pub mod Unique
 pub mod Settled
 pub mod Kept
