@@ -13,3 +13,4 @@ pub mod Store
 pub mod Pages
 pub mod Sorted
 pub mod Maps
+pub mod Members

@@ -121,7 +121,7 @@ keep-none false q m m′ c e f = go (order c (q .code)) e
     go Ordering·gt x = f x
 
 module _ (h : List ℕ → ℕ) (k v : ℕ) where
-  some-none : (rs : List Row) (c : List ℕ) → placeOf rs c ≡ none → placeOf (rowsOf h rs k v) c ≡ none
+  pub some-none : (rs : List Row) (c : List ℕ) → placeOf rs c ≡ none → placeOf (rowsOf h rs k v) c ≡ none
   unfolding rowsOf
   some-none [] c e = e
   some-none (q ∷ rs) c e = keep-none (eqb (top k (h (q .code))) v) q rs (rowsOf h rs k v) c e (some-none rs c)
@@ -130,7 +130,7 @@ module _ (h : List ℕ → ℕ) (k v : ℕ) where
   keep-once true q m e o = (e, o)
   keep-once false q m e o = o
 
-  some-once : (rs : List Row) → Once rs → Once (rowsOf h rs k v)
+  pub some-once : (rs : List Row) → Once rs → Once (rowsOf h rs k v)
   unfolding rowsOf
   some-once [] o = tt
   some-once (q ∷ rs) o = keep-once (eqb (top k (h (q .code))) v) q (rowsOf h rs k v) (some-none rs (q .code) (o .0)) (some-once rs (o .1))

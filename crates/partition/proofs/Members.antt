@@ -1,0 +1,152 @@
+-- Members of lists. Rows in another order have the same members, and rows with no code twice are settled by their members up to order.
+-- A list that repeats nothing is no longer than one that has all its members.
+-- Assumes nothing.
+use mathlib.Core.Path.{_≡_, refl, sym, ap, _∙_, subst}
+use mathlib.Core.Bool.{Bool, true, false}
+use mathlib.Core.Logic.{_⊎_, inl, inr, _≢_}
+use mathlib.Core.List.{List, [], _∷_, _++_, List·Memᴰ, List·Memᴰ·head, List·Memᴰ·tail, List·Memᴰ·not-nil, List·Memᴰ·cases-cons, List·Memᴰ·append-cases, Memᴰ·append-left, Memᴰ·append-right, Memᴰ·cast}
+use mathlib.Core.Option.{Option, some, none}
+use Prim.Native.Nat.{ℕ, suc, _+_, _≤_, _<_, zero-le, Ordering, Ordering·lt, Ordering·eq, Ordering·gt}
+use native.Mathlib.Omega.{arith}
+use lib.ListN.{length, length-append}
+use Rattle.words.specs.Codes.{order}
+use Rattle.words.proofs.Orders.{order-refl, order-eq}
+use Rattle.partition.specs.Partition.{Row, Prefix, Reordered, empty, front, swap, chain, after, Ascending}
+use Rattle.partition.specs.Listing.{by, insert, inOrder, placeOf, Once}
+use Rattle.partition.proofs.Order.{asc-first, first-lt-after}
+use Rattle.partition.proofs.Pages.{same-order, to-front, turned}
+use Rattle.partition.proofs.Sorted.{same-map}
+use Rattle.partition.proofs.Maps.{skip, passed as unplaced}
+
+-- ---- lists that repeat nothing
+
+module _ {A : Type 0} where
+  abbrev pub Distinct : List A → Type 0
+  Distinct [] = Unit {0}
+  Distinct (x ∷ xs) = (List·Memᴰ x xs → ⊥) × Distinct xs
+
+  -- a list around one of its members
+  pub around : {x : A} (l : List A) → List·Memᴰ x l → (a : List A) × (b : List A) × (l ≡ a ++ x ∷ b)
+  around [] m = absurd (List·Memᴰ·not-nil m)
+  around {x} (y ∷ l) m = go (List·Memᴰ·cases-cons m) (around l)
+    where
+      go : (x ≡ y) ⊎ List·Memᴰ x l → (List·Memᴰ x l → (a : List A) × (b : List A) × (l ≡ a ++ x ∷ b)) → (a : List A) × (b : List A) × (y ∷ l ≡ a ++ x ∷ b)
+      go (inl e) rest = ([], l, ap (λ z. z ∷ l) (sym e))
+      go (inr t) rest = let w = rest t in (y ∷ w .0, w .1, ap (λ z. y ∷ z) (w .2))
+
+  -- another member than that one is before or behind it
+  pub beside : {x y : A} (a b : List A) → List·Memᴰ y (a ++ x ∷ b) → (y ≡ x → ⊥) → List·Memᴰ y (a ++ b)
+  beside {x} {y} a b m n = go (List·Memᴰ·append-cases a m)
+    where
+      past : (y ≡ x) ⊎ List·Memᴰ y b → List·Memᴰ y (a ++ b)
+      past (inl e) = absurd (n e)
+      past (inr t) = Memᴰ·append-right a t
+
+      go : List·Memᴰ y a ⊎ List·Memᴰ y (x ∷ b) → List·Memᴰ y (a ++ b)
+      go (inl t) = Memᴰ·append-left b t
+      go (inr t) = past (List·Memᴰ·cases-cons t)
+
+  pub no-longer : (s t : List A) → Distinct s → ((x : A) → List·Memᴰ x s → List·Memᴰ x t) → length s ≤ length t
+  no-longer [] t d f = zero-le
+  no-longer (x ∷ s) t d f =
+      let w = around t (f x (List·Memᴰ·head refl)) in
+      let e : length t ≡ length (w .0) + suc (length (w .1)) = ap length (w .2) ∙ length-append (w .0) (x ∷ w .1) in
+      let i : length s ≤ length (w .0 ++ w .1) =
+      no-longer s (w .0 ++ w .1) (d .1)
+      (λ y m. beside (w .0) (w .1) (subst (λ l. List·Memᴰ y l) (w .2) (f y (List·Memᴰ·tail m))) (λ q. d .0 (Memᴰ·cast (sym q) m))) in
+      omega (arith, length-append (w .0) (w .1))
+
+pub asc-distinct : (d lo hi : ℕ) (l : List Prefix) → Ascending d lo hi l → Distinct l
+asc-distinct d lo hi [] a = tt
+asc-distinct d lo hi (p ∷ ps) a =
+    ((λ m. omega (arith, asc-first d (after d p) hi ps (a .1) p m, first-lt-after d p)), asc-distinct d (after d p) hi ps (a .1))
+
+-- ---- rows in another order
+
+pub mem-reordered : {rs qs : List Row} → Reordered rs qs → {r : Row} → List·Memᴰ r rs → List·Memᴰ r qs
+mem-reordered empty m = m
+mem-reordered (front {rs = rs} {qs = qs} q p) {r} m = go (List·Memᴰ·cases-cons m) (λ t. mem-reordered p t)
+  where
+    go : (r ≡ q) ⊎ List·Memᴰ r rs → (List·Memᴰ r rs → List·Memᴰ r qs) → List·Memᴰ r (q ∷ qs)
+    go (inl e) rest = List·Memᴰ·head e
+    go (inr t) rest = List·Memᴰ·tail (rest t)
+mem-reordered (swap {rs = rs} {qs = qs} a b p) {r} m = go (List·Memᴰ·cases-cons m) (λ t. mem-reordered p t)
+  where
+    past : (r ≡ b) ⊎ List·Memᴰ r rs → (List·Memᴰ r rs → List·Memᴰ r qs) → List·Memᴰ r (b ∷ a ∷ qs)
+    past (inl e) rest = List·Memᴰ·head e
+    past (inr t) rest = List·Memᴰ·tail (List·Memᴰ·tail (rest t))
+
+    go : (r ≡ a) ⊎ List·Memᴰ r (b ∷ rs) → (List·Memᴰ r rs → List·Memᴰ r qs) → List·Memᴰ r (b ∷ a ∷ qs)
+    go (inl e) rest = List·Memᴰ·tail (List·Memᴰ·head e)
+    go (inr t) rest = past (List·Memᴰ·cases-cons t) rest
+mem-reordered (chain p q) m = mem-reordered q (mem-reordered p m)
+
+insert-reordered : (r : Row) (l : List Row) → Reordered (insert (λ q. q .code) r l) (r ∷ l)
+unfolding insert
+insert-reordered r [] = same-order (r ∷ [])
+insert-reordered r (q ∷ l) = go (order (r .code) (q .code)) (insert-reordered r l)
+  where
+    go : (o : Ordering) → Reordered (insert (λ q. q .code) r l) (r ∷ l) → Reordered (by o (r ∷ q ∷ l) (r ∷ q ∷ l) (q ∷ insert (λ q. q .code) r l)) (r ∷ q ∷ l)
+    go Ordering·lt i = same-order (r ∷ q ∷ l)
+    go Ordering·eq i = same-order (r ∷ q ∷ l)
+    go Ordering·gt i = chain (front q i) (swap q r (same-order l))
+
+pub in-order-reordered : (rs : List Row) → Reordered (inOrder rs) rs
+unfolding inOrder
+in-order-reordered [] = empty
+in-order-reordered (r ∷ rs) = chain (insert-reordered r (inOrder rs)) (front r (in-order-reordered rs))
+
+-- ---- rows with no code twice
+
+-- a code is nowhere exactly when no row has it
+pub absent : (rs : List Row) (c : List ℕ) → placeOf rs c ≡ none → (r : Row) → List·Memᴰ r rs → c ≢ r .code
+unfolding placeOf
+absent [] c e r m f = List·Memᴰ·not-nil m
+absent (q ∷ rs) c e r m f = go (unplaced (order c (q .code)) (placeOf rs c) (q .place) e) (List·Memᴰ·cases-cons m) (absent rs c)
+  where
+    go : (order c (q .code) ≡ Ordering·eq → ⊥) × (placeOf rs c ≡ none) → (r ≡ q) ⊎ List·Memᴰ r rs
+        → (placeOf rs c ≡ none → (r : Row) → List·Memᴰ r rs → c ≢ r .code) → ⊥
+    go t (inl x) rest = t .0 (subst (λ d. order c d ≡ Ordering·eq) (f ∙ ap (λ y. y .code) x) (order-refl c))
+    go t (inr x) rest = rest (t .1) r x f
+
+pub missing : (rs : List Row) (c : List ℕ) → ((r : Row) → List·Memᴰ r rs → c ≢ r .code) → placeOf rs c ≡ none
+unfolding placeOf
+missing [] c f = refl
+missing (q ∷ rs) c f =
+    skip (order c (q .code)) (placeOf rs c) (q .place) (λ e. f q (List·Memᴰ·head refl) (order-eq c (q .code) e)) ∙ missing rs c (λ r m. f r (List·Memᴰ·tail m))
+
+pub once-append : (s t : List Row) → Once s → Once t → ((r q : Row) → List·Memᴰ r s → List·Memᴰ q t → r .code ≢ q .code) → Once (s ++ t)
+once-append [] t o p f = p
+once-append (r ∷ s) t o p f = (
+  missing (s ++ t) (r .code) (λ q m. other q (List·Memᴰ·append-cases s m)),
+  once-append s t (o .1) p (λ a b m n. f a b (List·Memᴰ·tail m) n),
+)
+  where
+    other : (q : Row) → List·Memᴰ q s ⊎ List·Memᴰ q t → r .code ≢ q .code
+    other q (inl m) = absent s (r .code) (o .0) q m
+    other q (inr m) = f r q (List·Memᴰ·head refl) m
+
+pub once-ext : (s t : List Row) → Once s → Once t → ((r : Row) → List·Memᴰ r s → List·Memᴰ r t) → ((r : Row) → List·Memᴰ r t → List·Memᴰ r s) → Reordered s t
+once-ext [] [] o p f g = empty
+once-ext [] (q ∷ t) o p f g = absurd (List·Memᴰ·not-nil (g q (List·Memᴰ·head refl)))
+once-ext (x ∷ s) t o p f g =
+    subst (λ l. Reordered (x ∷ s) l) (sym (w .2)) (chain (front x (once-ext s rest (o .1) (only .1) into back)) (turned (to-front (w .0) x (w .1))))
+  where
+    w : (a : List Row) × (b : List Row) × (t ≡ a ++ x ∷ b)
+    w = around t (f x (List·Memᴰ·head refl))
+
+    rest : List Row
+    rest = w .0 ++ w .1
+
+    only : Once (x ∷ rest)
+    only = same-map (to-front (w .0) x (w .1)) (subst Once (w .2) p) .0
+
+    into : (r : Row) → List·Memᴰ r s → List·Memᴰ r rest
+    into r m = beside (w .0) (w .1) (subst (λ l. List·Memᴰ r l) (w .2) (f r (List·Memᴰ·tail m))) (λ e. absent s (x .code) (o .0) r m (ap (λ y. y .code) (sym e)))
+
+    back : (r : Row) → List·Memᴰ r rest → List·Memᴰ r s
+    back r m = go (List·Memᴰ·cases-cons (g r (subst (λ l. List·Memᴰ r l) (sym (w .2)) (mem-reordered (turned (to-front (w .0) x (w .1))) (List·Memᴰ·tail m)))))
+      where
+        go : (r ≡ x) ⊎ List·Memᴰ r s → List·Memᴰ r s
+        go (inl e) = absurd (absent rest (x .code) (only .0) r m (ap (λ y. y .code) (sym e)))
+        go (inr n) = n
