@@ -1,6 +1,6 @@
 pub mod Rules
 pub mod Shows
-pub mod Built
+pub mod Shown
 pub mod BucketOf
 pub mod Unique
 pub mod Settled

@@ -4,7 +4,7 @@ use mathlib.Core.Path.{_≡_, refl, sym, ap, ap₂, subst, _∙_}
 use mathlib.Core.Bool.{Bool, true, false}
 use mathlib.Core.List.{List, [], _∷_, map}
 use mathlib.Core.Option.{Option, some, none}
-use Prim.Native.Nat.{ℕ, _+_, _≤_, _<_, Ordering, Ordering·lt, Ordering·eq, Ordering·gt}
+use Prim.Native.Nat.{ℕ, _+_, _/_, _≤_, _<_, Ordering, Ordering·lt, Ordering·eq, Ordering·gt}
 use native.Mathlib.Omega.{arith}
 use lib.Dec.{eqb}
 use lib.ListN.{length, getD, length-map, List·getD-map}
@@ -14,11 +14,12 @@ use Rattle.page.specs.Page.{Record}
 use Rattle.partition.specs.Bits.{top}
 use Rattle.partition.specs.Partition.{Shape, Row, need, needs, keep, rowsOf, IsBucket, Fine, Reordered, empty, front, swap, chain}
 use Rattle.partition.specs.Listing.{by, insert, without, inOrder, placeOf, Once}
-use Rattle.partition.proofs.Rows.{load}
+use Rattle.partition.proofs.Rows.{load, to-load, of-load}
+use Rattle.partition.proofs.Tree.{Bucket}
 use Rattle.store.specs.Pages.{Page, free, bucket, asRow, rowsIn}
 use Rattle.store.specs.Moves.{placeOn, overwriteOn, overwritten}
 use Rattle.store.proofs.Shows.{firstCode, prefixOn, OnPage, Holding, Shows}
-use Rattle.store.proofs.Built.{same-bucket, shows-reordered}
+use Rattle.store.proofs.Shown.{shows-reordered}
 use Rattle.store.proofs.Over.{over, many-over, rows-over, known-over}
 
 -- ---- rows that change and keep their codes
@@ -113,6 +114,12 @@ was r gs i k qs e = go (getD gs i free) refl (sym (List·getD-map (overwriteOn r
     go (bucket l rs) p q = record { records = rs; there = p ∙ ap (λ n. bucket n rs) (cc); now = cc }
 
 module _ (S : Shape) (h : List ℕ → ℕ) (r : Row) where
+  -- rows that need the same under each prefix have the same buckets
+  same-bucket : (rows qs : List Row) → ((k v : ℕ) → load h rows k v ≡ load h qs k v) → (k v : ℕ) → IsBucket S h rows k v → IsBucket S h qs k v
+  same-bucket rows qs e k v b =
+      let a : Bucket (S .capacity) (load h rows) k v = to-load S h rows k v b in
+      of-load S h qs k v (record { pos = rw e at (a .pos); fit = rw e at (a .fit); split = λ j q. subst (λ n. S .capacity < n) (e j (v / 2)) (a .split j q) })
+
   prefix-over : (k : ℕ) (rs : List Record) → prefixOn h k (map (placeOn r) rs) ≡ prefixOn h k rs
   prefix-over k rs = ap (λ c. top k (h c)) (first-over r rs)
 
@@ -122,7 +129,7 @@ module _ (S : Shape) (h : List ℕ → ℕ) (r : Row) where
   page-shows : (rows : List Row) (k : ℕ) (rs : List Record) → OnPage S h rows k rs → OnPage S h (map (over r) rows) k (map (placeOn r) rs)
   page-shows rows k rs o = record {
     some = subst (λ n. 0 < n) (sym (length-map rs (placeOn r))) (o .some);
-    is = subst (λ v. IsBucket S h (map (over r) rows) k v) (sym (prefix-over k rs)) (same-bucket S h rows (map (over r) rows) (load-over rows) k (prefixOn h k rs) (o .is));
+    is = subst (λ v. IsBucket S h (map (over r) rows) k v) (sym (prefix-over k rs)) (same-bucket rows (map (over r) rows) (load-over rows) k (prefixOn h k rs) (o .is));
     ordered = many-over r rs ∙ ap (map (over r)) (o .ordered) ∙ sym (map-order (over r) (same-code r) (rowsOf h rows k (prefixOn h k rs)))
         ∙ ap inOrder (sym (map-rows (over r) (same-code r) h rows k (prefixOn h k rs))) ∙ ap (λ v. inOrder (rowsOf h (map (over r) rows) k v)) (sym (prefix-over k rs));
   }
@@ -140,4 +147,4 @@ module _ (S : Shape) (h : List ℕ → ℕ) (r : Row) where
   -- PUT on a known code
   pub over-shows : (rows : List Row) (gs : List Page) (old : List ℕ) → Shows S h rows gs → placeOf rows (r .code) ≡ some old
       → Shows S h (r ∷ without (λ q. q .code) (r .code) rows) (overwritten gs r)
-  over-shows rows gs old s e = shows-reordered S h (known-over r rows old (s .once) e) (all-over rows gs s)
+  over-shows rows gs old s e = shows-reordered S h (overwritten gs r) (known-over r rows old (s .once) e) (all-over rows gs s)

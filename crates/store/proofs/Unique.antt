@@ -23,6 +23,7 @@ use Rattle.store.specs.Accepted.{GoodLength, Page0, Page1, Bucket, Zero,
 use Rattle.store.specs.Tables.{Becomes}
 use Rattle.store.specs.Demands.{Sized}
 use Rattle.store.proofs.Rules.{Opened, opened}
+use Rattle.store.proofs.Shown.{free-not}
 
 pub read-zero : (g : List ℕ) → Zero g → read g ≡ free
 unfolding read
@@ -31,9 +32,6 @@ read-zero g z = ap (λ b. reading b g) (z 0)
 read-bucket : (h : List ℕ → ℕ) (g : List ℕ) → Bucket h g → read g ≡ bucket (depth g) (rows g)
 unfolding read
 read-bucket h g b = ap (λ b. reading b g) (b .rules .rules .one)
-
-free-not : {k : ℕ} {rs : List Rattle.page.specs.Page.Record} → free ≡ bucket k rs → ⊥
-free-not e = let z : _≡_ {A = ℕ} 0 1 = cc in omega arith
 
 zero-not-one : (g : List ℕ) → Zero g → byte g 0 ≡ 1 → ⊥
 zero-not-one g z e = omega (arith, z 0)
