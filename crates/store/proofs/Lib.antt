@@ -2,6 +2,7 @@ pub mod Rules
 pub mod Shows
 pub mod Shown
 pub mod BucketOf
+pub mod Known
 pub mod Unique
 pub mod Settled
 pub mod Kept

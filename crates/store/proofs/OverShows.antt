@@ -2,12 +2,14 @@
 -- Assumes nothing.
 use mathlib.Core.Path.{_≡_, refl, sym, ap, ap₂, subst, _∙_}
 use mathlib.Core.Bool.{Bool, true, false}
-use mathlib.Core.List.{List, [], _∷_, map}
+use mathlib.Core.List.{List, [], _∷_, map, List·Memᴰ, List·Memᴰ·head, List·Memᴰ·tail}
 use mathlib.Core.Option.{Option, some, none}
 use Prim.Native.Nat.{ℕ, _+_, _/_, _≤_, _<_, Ordering, Ordering·lt, Ordering·eq, Ordering·gt}
+use native.Mathlib.Decide.{ℕ-discrete}
 use native.Mathlib.Omega.{arith}
 use lib.Dec.{eqb}
-use lib.ListN.{length, getD, length-map, List·getD-map}
+use lib.ListN.{length, getD, set, length-map, length-set, List·getD-map}
+use lib.Seq.{ext-getD, getD-set-same, getD-set-other}
 use Rattle.words.specs.Codes.{order}
 use Rattle.words.proofs.Orders.{order-eq}
 use Rattle.page.specs.Page.{Record}
@@ -17,9 +19,10 @@ use Rattle.partition.specs.Listing.{by, insert, without, inOrder, placeOf, Once
 use Rattle.partition.proofs.Rows.{load, to-load, of-load}
 use Rattle.partition.proofs.Tree.{Bucket}
 use Rattle.store.specs.Pages.{Page, free, bucket, asRow, rowsIn}
-use Rattle.store.specs.Moves.{placeOn, overwriteOn, overwritten}
+use Rattle.store.specs.Moves.{find, holds, placeOn, overwriteOn, overwritten}
 use Rattle.store.proofs.Shows.{firstCode, prefixOn, OnPage, Holding, Shows}
 use Rattle.store.proofs.Shown.{shows-reordered}
+use Rattle.store.proofs.Known.{only-page}
 use Rattle.store.proofs.Over.{over, many-over, rows-over, known-over}
 
 -- ---- rows that change and keep their codes
@@ -148,3 +151,42 @@ module _ (S : Shape) (h : List ℕ → ℕ) (r : Row) where
   pub over-shows : (rows : List Row) (gs : List Page) (old : List ℕ) → Shows S h rows gs → placeOf rows (r .code) ≡ some old
       → Shows S h (r ∷ without (λ q. q .code) (r .code) rows) (overwritten gs r)
   over-shows rows gs old s e = shows-reordered S h (overwritten gs r) (known-over r rows old (s .once) e) (all-over rows gs s)
+
+  -- ---- as the code writes it: one page
+
+  none-on : (rs : List Record) → ((q : Row) → List·Memᴰ q (map asRow rs) → q .code ≡ r .code → ⊥) → map (placeOn r) rs ≡ rs
+  none-on [] n = refl
+  none-on (q ∷ rs) n = go (order (r .code) (q .code)) refl (none-on rs (λ y m. n y (List·Memᴰ·tail m)))
+    where
+      go : (o : Ordering) → order (r .code) (q .code) ≡ o → map (placeOn r) rs ≡ rs → by o q (record { start = q .start; place = r .place; code = r .code }) q ∷ map (placeOn r) rs ≡ q ∷ rs
+      go Ordering·lt e i = ap (λ l. q ∷ l) i
+      go Ordering·eq e i = absurd (n (asRow q) (List·Memᴰ·head refl) (sym (order-eq (r .code) (q .code) e)))
+      go Ordering·gt e i = ap (λ l. q ∷ l) i
+
+  module _ (rows : List Row) (gs : List Page) (s : Shows S h rows gs) where
+    abbrev here : ℕ
+    here = find (holds h (h (r .code))) gs
+
+    -- a page without the code keeps its records
+    kept-page : (j : ℕ) (g : Page) → getD gs j free ≡ g → (j ≡ here → ⊥) → overwriteOn r g ≡ g
+    kept-page j free e n = refl
+    kept-page j (bucket k rs) e n = ap (bucket k) (none-on rs (λ q m y. n (sym (only-page S h rows gs s j k rs e q m) ∙ ap (λ c. find (holds h (h c)) gs) y)))
+
+    pub over-others : (j : ℕ) → (j ≡ here → ⊥) → getD (overwritten gs r) j free ≡ getD gs j free
+    unfolding overwritten
+    over-others j n = List·getD-map (overwriteOn r) gs j free ∙ kept-page j (getD gs j free) refl n
+
+    pub over-one : overwritten gs r ≡ set gs here (overwriteOn r (getD gs here free))
+    unfolding overwritten
+    over-one =
+        ext-getD free (overwritten gs r) (set gs here (overwriteOn r (getD gs here free))) (length-map gs (overwriteOn r) ∙ sym (length-set gs here (overwriteOn r (getD gs here free)))) at
+      where
+        at : (j : ℕ) → j < length (overwritten gs r) → getD (overwritten gs r) j free ≡ getD (set gs here (overwriteOn r (getD gs here free))) j free
+        at j l = go (ℕ-discrete j here)
+          where
+            go : Dec (j ≡ here) → getD (overwritten gs r) j free ≡ getD (set gs here (overwriteOn r (getD gs here free))) j free
+            go (no n) = over-others j n ∙ sym (getD-set-other gs here j (overwriteOn r (getD gs here free)) free n)
+            go (yes e) =
+                let m : here < length gs = omega (arith, length-map gs (overwriteOn r)) in
+                List·getD-map (overwriteOn r) gs j free ∙ ap (λ i. overwriteOn r (getD gs i free)) e
+                ∙ sym (getD-set-same gs here (overwriteOn r (getD gs here free)) free m) ∙ ap (λ i. getD (set gs here (overwriteOn r (getD gs here free))) i free) (sym e)
