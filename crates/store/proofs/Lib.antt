@@ -3,6 +3,7 @@ pub mod Shows
 pub mod Shown
 pub mod BucketOf
 pub mod Known
+pub mod Fewer
 pub mod Unique
 pub mod Settled
 pub mod Kept

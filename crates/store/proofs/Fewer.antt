@@ -1,0 +1,179 @@
+-- One row fewer, on pages: j is the depth of the shallowest prefix of the row's hash whose other rows fit. All pages of that prefix are cleared but one, which
+-- takes the rows left, if there are any; the pages then show the rows without it.
+-- Assumes nothing.
+use mathlib.Core.Path.{_≡_, refl, sym, ap, subst, subst₂, _∙_}
+use mathlib.Core.Bool.{Bool, true, false}
+use mathlib.Core.List.{List, [], _∷_, map, List·Memᴰ, List·Memᴰ·head}
+use mathlib.Core.Logic.{_⊎_, inl, inr, _≢_, _↔_}
+use Prim.Native.Nat.{ℕ, zero, suc, _+_, _-_, _/_, _^_, _≤_, _<_}
+use native.Mathlib.Decide.{ℕ-discrete}
+use native.Mathlib.Nat.{add-zero, div-one}
+use native.Mathlib.Omega.{arith}
+use lib.Dec.{T, eqb, eqb→eq, eqb-refl}
+use lib.ListN.{length, getD, length-map}
+use Rattle.ground.proofs.Sides.{side}
+use Rattle.page.specs.Page.{Record}
+use Rattle.partition.specs.Bits.{top}
+use Rattle.partition.specs.Partition.{Shape, Row, need, needs, rowsOf, IsBucket}
+use Rattle.partition.specs.Listing.{inOrder}
+use Rattle.partition.proofs.Bits.{top-step}
+use Rattle.partition.proofs.Frame.{dec-under}
+use Rattle.partition.proofs.Laws.{Shallowest, no-overlap, outside, inside, left-joined}
+use Rattle.partition.proofs.Members.{mem-reordered, in-order-reordered}
+use Rattle.partition.proofs.Path.{path-cut, path-under, fit-above}
+use Rattle.partition.proofs.Reorders.{length-same}
+use Rattle.partition.proofs.Rows.{load, load-mono, load-on, to-load, test}
+use Rattle.partition.proofs.Store.{fine-drop, outside-rows}
+use Rattle.partition.proofs.Sum.{of-prefix}
+use Rattle.partition.proofs.Tree.{Under}
+use Rattle.store.specs.Pages.{Page, free, bucket, asRow}
+use Rattle.store.specs.Moves.{pick, within}
+use Rattle.store.proofs.Shows.{firstCode, prefixOn, OnPage, Holding, Shows}
+use Rattle.store.proofs.Shown.{free-not, Part, Every, shows-of, paged}
+
+module _ (h : List ℕ → ℕ) where
+  pub within-on : (j v k : ℕ) (rs : List Record) → 0 < length rs → (within h j v (bucket k rs) ≡ true) ↔ (prefixOn h j rs ≡ v)
+  within-on j v k [] l = absurd (omega arith)
+  within-on j v k (r ∷ rs) l = (
+    (λ e. eqb→eq (top j (h (r .code))) v (subst T (sym e) tt)),
+    (λ e. test (eqb (top j (h (r .code))) v) (subst (λ n. T (eqb (top j (h (r .code))) n)) e (eqb-refl (top j (h (r .code)))))),
+  )
+
+not-true : (b : Bool) → (b ≡ true → ⊥) → b ≡ false
+not-true true n = absurd (n refl)
+not-true false n = refl
+
+-- hashes that share k bits share fewer
+pub share-fewer : (x y j k : ℕ) → j ≤ k → top k x ≡ top k y → top j x ≡ top j y
+share-fewer x y j k l e =
+    let q : j + (k - j) ≡ k = omega arith in
+    sym (path-cut (λ i. top i x) (top-step x) (k - j) j) ∙ ap (λ n. top n x / 2 ^ (k - j)) q ∙ ap (λ n. n / 2 ^ (k - j)) e ∙ sym (ap (λ n. top n y / 2 ^ (k - j)) q) ∙ path-cut (λ i. top i y) (top-step y) (k - j) j
+
+module _ (S : Shape) (h : List ℕ → ℕ) where
+  -- records that are the rows of a bucket in code order make its page
+  pub makes-page : (rows : List Row) (k v : ℕ) (rs : List Record) → IsBucket S h rows k v → map asRow rs ≡ inOrder (rowsOf h rows k v) → OnPage S h rows k rs × (prefixOn h k rs ≡ v)
+  makes-page rows k v rs b e = (record { some = long; is = subst (λ n. IsBucket S h rows k n) (sym p) b; ordered = e ∙ ap (λ n. inOrder (rowsOf h rows k n)) (sym p) }, p)
+    where
+      long : 0 < length rs
+      long = omega (arith, b .has, length-map rs asRow, ap length e, length-same (in-order-reordered (rowsOf h rows k v)))
+
+      first : (qs : List Record) → 0 < length qs → ((q : Row) → List·Memᴰ q (map asRow qs) → top k (h (q .code)) ≡ v) → prefixOn h k qs ≡ v
+      first [] l f = absurd (omega arith)
+      first (q ∷ qs) l f = f (asRow q) (List·Memᴰ·head refl)
+
+      p : prefixOn h k rs ≡ v
+      p = first rs long (λ q m. of-prefix S h rows k v q (mem-reordered (in-order-reordered (rowsOf h rows k v)) (subst (λ l. List·Memᴰ q l) e m)) .1)
+
+  module _ (small : (c : List ℕ) → h c < 2 ^ 32) (r : Row) (W : List Row) (gs : List Page) (s : Shows S h (r ∷ W) gs) (j : ℕ) (f : Shallowest S h W (h (r .code)) j) where
+    abbrev x : ℕ
+    x = h (r .code)
+
+    -- a bucket that holds the row's hash is at least so deep
+    pub at-least : (k : ℕ) → IsBucket S h (r ∷ W) k (top k x) → j ≤ k
+    at-least k b = go (side k j)
+      where
+        go : (k < j) ⊎ (j ≤ k) → j ≤ k
+        go (inr l) = l
+        go (inl l) = absurd (omega (arith, fit-above (λ i. top i x) (top-step x) (S .capacity) (load h W) (load-mono h W) j k f l, load-on h r W k, b .fit))
+
+    -- the pages of the prefix are those at or below it
+    pub within-under : (i k : ℕ) (rs : List Record) → Holding gs i k rs → (within h j (top j x) (bucket k rs) ≡ true) ↔ Under j (top j x) k (prefixOn h k rs)
+    within-under i k rs e = (there, back)
+      where
+        o : OnPage S h (r ∷ W) k rs
+        o = s .page i k rs e
+
+        y : ℕ
+        y = h (firstCode rs)
+
+        there : within h j (top j x) (bucket k rs) ≡ true → Under j (top j x) k (prefixOn h k rs)
+        there t = go (side k j)
+          where
+            z : top j y ≡ top j x
+            z = within-on h j (top j x) k rs (o .some) .0 t
+
+            go : (k < j) ⊎ (j ≤ k) → Under j (top j x) k (prefixOn h k rs)
+            go (inr l) = subst (λ v. Under j v k (top k y)) z (path-under (λ n. top n y) (top-step y) j k l)
+            go (inl l) = absurd (omega (arith, at-least k (subst (λ v. IsBucket S h (r ∷ W) k v) (share-fewer y x k j (omega arith) z) (o .is))))
+
+        back : Under j (top j x) k (prefixOn h k rs) → within h j (top j x) (bucket k rs) ≡ true
+        back u = within-on h j (top j x) k rs (o .some) .1
+            (sym (path-cut (λ n. top n y) (top-step y) (u .more) j) ∙ ap (λ n. top n y / 2 ^ u .more) (sym (u .deep)) ∙ u .cut)
+
+    -- the one page that the prefix has then
+    pub data Left : Page → Type 0 where
+      cleared : needs (rowsOf h W j (top j x)) ≡ 0 → Left free
+      filled : (rs : List Record) → OnPage S h W j rs → prefixOn h j rs ≡ top j x → Left (bucket j rs)
+
+    -- the pages afterwards: page m is that one, of the others those of the prefix are free
+    pub record Fewer (m : ℕ) (hs : List Page) : Type 0 where
+      pub was : within h j (top j x) (getD gs m free) ≡ true
+      pub left : Left (getD hs m free)
+      pub others : (i : ℕ) → i ≢ m → getD hs i free ≡ pick (within h j (top j x) (getD gs i free)) free (getD gs i free)
+
+    module _ (m : ℕ) (hs : List Page) (w : Fewer m hs) where
+      -- a page then
+      data Now (i k : ℕ) (rs : List Record) : Type 0 where
+        the-one : i ≡ m → k ≡ j → OnPage S h W k rs → prefixOn h k rs ≡ top j x → Now i k rs
+        same : i ≢ m → Holding gs i k rs → (Under j (top j x) k (prefixOn h k rs) → ⊥) → Now i k rs
+
+      now : (i k : ℕ) (rs : List Record) → Holding hs i k rs → Now i k rs
+      now i k rs e = go (ℕ-discrete i m)
+        where
+          one : (g : Page) → Left g → g ≡ bucket k rs → i ≡ m → Now i k rs
+          one free (cleared z) y q = absurd (free-not y)
+          one (bucket _ qs) (filled _ o p) y q =
+              let a : j ≡ k = cc in
+              let b : qs ≡ rs = cc in
+              the-one q (sym a) (subst (λ n. OnPage S h W n rs) a (subst (OnPage S h W j) b o)) (ap (λ n. prefixOn h n rs) (sym a) ∙ ap (prefixOn h j) (sym b) ∙ p)
+
+          other : (b : Bool) → within h j (top j x) (getD gs i free) ≡ b → pick b free (getD gs i free) ≡ bucket k rs → i ≢ m → Now i k rs
+          other true t y n = absurd (free-not y)
+          other false t y n = same n y (λ u. let z : false ≡ true = sym t ∙ ap (within h j (top j x)) y ∙ within-under i k rs y .1 u in let c : _≡_ {A = ℕ} 0 1 = cc in omega arith)
+
+          go : Dec (i ≡ m) → Now i k rs
+          go (yes q) = one (getD hs m free) (w .left) (subst (λ n. Holding hs n k rs) q e) q
+          go (no n) = other (within h j (top j x) (getD gs i free)) refl (sym (w .others i n) ∙ e) n
+
+      self : Under j (top j x) j (top j x)
+      self = record { more = 0; deep = sym (add-zero j); cut = div-one (top j x) }
+
+      -- what is outside the prefix stays a page
+      stays : (k : ℕ) (rs : List Record) → (Under j (top j x) k (prefixOn h k rs) → ⊥) → OnPage S h (r ∷ W) k rs → OnPage S h W k rs
+      stays k rs n o = record {
+        some = o .some;
+        is = outside S h r W j f k (prefixOn h k rs) n .1 (o .is);
+        ordered = o .ordered ∙ ap inOrder (outside-rows S h small r W j f k (prefixOn h k rs) n (o .is));
+      }
+
+      page : (i k : ℕ) (rs : List Record) → Now i k rs → OnPage S h W k rs
+      page i k rs (the-one _ _ o _) = o
+      page i k rs (same _ e n) = stays k rs n (s .page i k rs e)
+
+      apart : (i i′ k : ℕ) (rs qs : List Record) → prefixOn h k rs ≡ prefixOn h k qs → Now i k rs → Now i′ k qs → i ≡ i′
+      apart i i′ k rs qs e (the-one a _ _ _) (the-one b _ _ _) = a ∙ sym b
+      apart i i′ k rs qs e (the-one _ a _ p) (same _ _ n) = absurd (n (subst (λ d. Under j (top j x) d (prefixOn h k qs)) (sym a) (subst (λ v. Under j (top j x) j v) (sym p ∙ e) self)))
+      apart i i′ k rs qs e (same _ _ n) (the-one _ a _ p) = absurd (n (subst (λ d. Under j (top j x) d (prefixOn h k rs)) (sym a) (subst (λ v. Under j (top j x) j v) (sym p ∙ sym e) self)))
+      apart i i′ k rs qs e (same _ a _) (same _ b _) = s .apart i i′ k rs qs a b e
+
+      all : (k v : ℕ) → IsBucket S h W k v → (i : ℕ) × (rs : List Record) × Holding hs i k rs × (prefixOn h k rs ≡ v)
+      all k v b = go (dec-under j (top j x) k v)
+        where
+          here : (k ≡ j) × (v ≡ top j x) → (g : Page) → getD hs m free ≡ g → Left g → (i : ℕ) × (rs : List Record) × Holding hs i k rs × (prefixOn h k rs ≡ v)
+          here q free e (cleared z) = absurd (omega (arith, z, subst₂ (λ d n. 0 < load h W d n) (q .0) (q .1) (to-load S h W k v b .pos)))
+          here q (bucket _ rs) e (filled _ o p) = (m, rs, subst (λ d. Holding hs m d rs) (sym (q .0)) e, ap (λ d. prefixOn h d rs) (q .0) ∙ p ∙ sym (q .1))
+
+          go : Dec (Under j (top j x) k v) → (i : ℕ) × (rs : List Record) × Holding hs i k rs × (prefixOn h k rs ≡ v)
+          go (yes u) = here (inside S h r W j f k v u b) (getD hs m free) refl (w .left)
+          go (no n) =
+              let t = paged S h (r ∷ W) gs s k v (outside S h r W j f k v n .0 b) in
+              let out : within h j (top j x) (bucket k (t .1)) ≡ true → ⊥ = λ y. n (subst (Under j (top j x) k) (t .3) (within-under (t .0) k (t .1) (t .2) .0 y)) in
+              let far : t .0 ≢ m = λ q. out (ap (within h j (top j x)) (sym (t .2)) ∙ ap (λ d. within h j (top j x) (getD gs d free)) q ∙ w .was) in
+              (t .0, t .1, w .others (t .0) far ∙ ap (λ g. pick (within h j (top j x) g) free g) (t .2) ∙ ap (λ y. pick y free (bucket k (t .1))) (not-true (within h j (top j x) (bucket k (t .1))) out), t .3)
+
+      pub fewer-shows : Shows S h W hs
+      fewer-shows = shows-of S h W hs (s .once .1) (fine-drop S h r W (s .fine)) record {
+        page = λ i k rs e. (page i k rs (now i k rs e), tt);
+        apart = λ i i′ k rs qs a b e. apart i i′ k rs qs e (now i k rs a) (now i′ k qs b);
+        all = λ k v b _. all k v b;
+      }
