@@ -2,8 +2,10 @@ pub mod Rules
 pub mod Shows
 pub mod Shown
 pub mod BucketOf
+pub mod Records
 pub mod Known
 pub mod Fewer
+pub mod RemoveShows
 pub mod Unique
 pub mod Settled
 pub mod Kept
