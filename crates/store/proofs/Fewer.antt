@@ -29,7 +29,7 @@ use Rattle.partition.proofs.Tree.{Under}
 use Rattle.store.specs.Pages.{Page, free, bucket, asRow}
 use Rattle.store.specs.Moves.{pick, within}
 use Rattle.store.proofs.Shows.{firstCode, prefixOn, OnPage, Holding, Shows}
-use Rattle.store.proofs.Shown.{free-not, Part, Every, shows-of, paged}
+use Rattle.store.proofs.Shown.{free-not, shows-of, paged}
 
 module _ (h : List ℕ → ℕ) where
   pub within-on : (j v k : ℕ) (rs : List Record) → 0 < length rs → (within h j v (bucket k rs) ≡ true) ↔ (prefixOn h j rs ≡ v)

@@ -7,7 +7,6 @@ pub mod Known
 pub mod Fewer
 pub mod RemoveShows
 pub mod Rooms
-pub mod Records
 pub mod Unique
 pub mod Settled
 pub mod Kept

@@ -16,7 +16,7 @@ use Rattle.words.specs.Codes.{order}
 use Rattle.words.proofs.Orders.{order-refl}
 use Rattle.page.specs.Page.{Record}
 use Rattle.partition.specs.Bits.{top}
-use Rattle.partition.specs.Partition.{Shape, Row, Prefix, needs, rowsOf, IsBucket, Reordered, buckets}
+use Rattle.partition.specs.Partition.{Shape, Row, Prefix, needs, rowsOf, IsBucket, Fine, Reordered, buckets}
 use Rattle.partition.specs.Listing.{by, insert, without, inOrder, placeOf}
 use Rattle.partition.proofs.Bits.{top-step}
 use Rattle.partition.proofs.Laws.{Shallowest, no-overlap, bucket-shallowest}
@@ -143,9 +143,9 @@ module _ (S : Shape) (h : List ℕ → ℕ) (small : (c : List ℕ) → h c < 2 
   pub clears : needs (rowsOf h W j (top j x)) ≡ 0 → Then (set gs here free)
   clears z = (here, one-page (its-own z) free (cleared z))
 
-  module _ (l : j ≤ S .deepest) (p : 0 < needs (rowsOf h W j (top j x))) where
+  module _ (p : 0 < needs (rowsOf h W j (top j x))) where
     left-bucket : IsBucket S h W j (top j x)
-    left-bucket = shallowest-bucket S h small W x j l f p
+    left-bucket = shallowest-bucket S h W x j f p
 
     fills : (rs : List Record) → map asRow rs ≡ inOrder (rowsOf h W j (top j x)) → Left S h small r W gs s j f (bucket j rs)
     fills rs e = let m = makes-page S h W j (top j x) rs left-bucket e in filled rs (m .0) (m .1)
@@ -200,14 +200,17 @@ module _ (S : Shape) (h : List ℕ → ℕ) (small : (c : List ℕ) → h c < 2 
         go false e = joins
 
   -- REMOVE, by what is left of the prefix
-  pub removes : j ≤ S .deepest → Then (removeOn h gs (r .code) W here (bucketOf x (buckets S h W)))
-  removes l = go (side 0 (needs (rowsOf h W j (top j x))))
+  pub removes : Then (removeOn h gs (r .code) W here (bucketOf x (buckets S h W)))
+  removes = go (side 0 (needs (rowsOf h W j (top j x))))
     where
+      left-fine : Fine S h W
+      left-fine = fine-drop S h r W (s .fine)
+
       go : (0 < needs (rowsOf h W j (top j x))) ⊎ (needs (rowsOf h W j (top j x)) ≤ 0) → Then (removeOn h gs (r .code) W here (bucketOf x (buckets S h W)))
-      go (inl p) = subst (λ o. Then (removeOn h gs (r .code) W here o)) (sym (bucket-of-some S h small W x j l f .1 p)) (some-left l p)
+      go (inl p) = subst (λ o. Then (removeOn h gs (r .code) W here o)) (sym (bucket-of-some S h W x j f small left-fine (pfx j (top j x)) .1 (refl, p))) (some-left p)
       go (inr n) =
           let z : needs (rowsOf h W j (top j x)) ≡ 0 = omega arith in
-          subst (λ o. Then (removeOn h gs (r .code) W here o)) (sym (bucket-of-none S h small W x j l f .1 z)) (clears z)
+          subst (λ o. Then (removeOn h gs (r .code) W here o)) (sym (bucket-of-none S h W x j f small left-fine .1 z)) (clears z)
 
 -- REMOVE of a known code
 pub remove-shows : (S : Shape) (h : List ℕ → ℕ) → ((c : List ℕ) → h c < 2 ^ 32) → (rows : List Row) (gs : List Page) (c old : List ℕ)
@@ -219,5 +222,5 @@ remove-shows S h small rows gs c old s e =
     let r : Row = record { code = c; place = old } in
     let front : Shows S h (r ∷ cut c (rowsIn gs)) gs = shows-reordered S h gs (cut-front c old (rowsIn gs) (held .once) there) held in
     let j = home S h (cut c (rowsIn gs)) (fine-drop S h r (cut c (rowsIn gs)) (front .fine)) (h c) in
-    let t = removes S h small r (cut c (rowsIn gs)) gs front (j .0) (j .2) (j .1) in
+    let t = removes S h small r (cut c (rowsIn gs)) gs front (j .0) (j .2) in
     shows-reordered S h (removed S h gs c) (cut-same c (s .same)) (fewer-shows S h small r (cut c (rowsIn gs)) gs front (j .0) (j .2) (t .0) (removed S h gs c) (t .1))
