@@ -5,11 +5,10 @@ use mathlib.Core.Path.{_≡_, refl, sym, ap, subst, subst₂, _∙_}
 use mathlib.Core.Bool.{Bool, true, false}
 use mathlib.Core.List.{List, [], _∷_, map, List·Memᴰ, List·Memᴰ·head}
 use mathlib.Core.Logic.{_⊎_, inl, inr, _≢_, _↔_}
-use Prim.Native.Nat.{ℕ, zero, suc, _+_, _-_, _/_, _^_, _≤_, _<_}
+use Prim.Native.Nat.{ℕ, _^_, _≤_, _<_}
 use native.Mathlib.Decide.{ℕ-discrete}
 use native.Mathlib.Nat.{add-zero, div-one}
 use native.Mathlib.Omega.{arith}
-use lib.Dec.{T, eqb, eqb→eq, eqb-refl}
 use lib.ListN.{length, getD, length-map}
 use Rattle.ground.proofs.Sides.{side}
 use Rattle.page.specs.Page.{Record}
@@ -18,36 +17,23 @@ use Rattle.partition.specs.Partition.{Shape, Row, need, needs, rowsOf, IsBucket
 use Rattle.partition.specs.Listing.{inOrder}
 use Rattle.partition.proofs.Bits.{top-step}
 use Rattle.partition.proofs.Frame.{dec-under}
-use Rattle.partition.proofs.Laws.{Shallowest, no-overlap, outside, inside, left-joined}
+use Rattle.partition.proofs.Laws.{Shallowest, outside, inside}
 use Rattle.partition.proofs.Members.{mem-reordered, in-order-reordered}
-use Rattle.partition.proofs.Path.{path-cut, path-under, fit-above}
+use Rattle.partition.proofs.Path.{fit-above}
 use Rattle.partition.proofs.Reorders.{length-same}
-use Rattle.partition.proofs.Rows.{load, load-mono, load-on, to-load, test}
+use Rattle.partition.proofs.Rows.{load, load-mono, load-on, to-load}
 use Rattle.partition.proofs.Store.{fine-drop, outside-rows}
 use Rattle.partition.proofs.Sum.{of-prefix}
 use Rattle.partition.proofs.Tree.{Under}
 use Rattle.store.specs.Pages.{Page, free, bucket, asRow}
 use Rattle.store.specs.Moves.{pick, within}
-use Rattle.store.proofs.Shows.{firstCode, prefixOn, OnPage, Holding, Shows}
+use Rattle.store.proofs.Shows.{prefixOn, OnPage, Holding, Shows}
 use Rattle.store.proofs.Shown.{free-not, shows-of, paged}
-
-module _ (h : List ℕ → ℕ) where
-  pub within-on : (j v k : ℕ) (rs : List Record) → 0 < length rs → (within h j v (bucket k rs) ≡ true) ↔ (prefixOn h j rs ≡ v)
-  within-on j v k [] l = absurd (omega arith)
-  within-on j v k (r ∷ rs) l = (
-    (λ e. eqb→eq (top j (h (r .code))) v (subst T (sym e) tt)),
-    (λ e. test (eqb (top j (h (r .code))) v) (subst (λ n. T (eqb (top j (h (r .code))) n)) e (eqb-refl (top j (h (r .code)))))),
-  )
+use Rattle.store.proofs.Within.{within-under}
 
 not-true : (b : Bool) → (b ≡ true → ⊥) → b ≡ false
 not-true true n = absurd (n refl)
 not-true false n = refl
-
--- hashes that share k bits share fewer
-pub share-fewer : (x y j k : ℕ) → j ≤ k → top k x ≡ top k y → top j x ≡ top j y
-share-fewer x y j k l e =
-    let q : j + (k - j) ≡ k = omega arith in
-    sym (path-cut (λ i. top i x) (top-step x) (k - j) j) ∙ ap (λ n. top n x / 2 ^ (k - j)) q ∙ ap (λ n. n / 2 ^ (k - j)) e ∙ sym (ap (λ n. top n y / 2 ^ (k - j)) q) ∙ path-cut (λ i. top i y) (top-step y) (k - j) j
 
 module _ (S : Shape) (h : List ℕ → ℕ) where
   -- records that are the rows of a bucket in code order make its page
@@ -76,29 +62,8 @@ module _ (S : Shape) (h : List ℕ → ℕ) where
         go (inr l) = l
         go (inl l) = absurd (omega (arith, fit-above (λ i. top i x) (top-step x) (S .capacity) (load h W) (load-mono h W) j k f l, load-on h r W k, b .fit))
 
-    -- the pages of the prefix are those at or below it
-    pub within-under : (i k : ℕ) (rs : List Record) → Holding gs i k rs → (within h j (top j x) (bucket k rs) ≡ true) ↔ Under j (top j x) k (prefixOn h k rs)
-    within-under i k rs e = (there, back)
-      where
-        o : OnPage S h (r ∷ W) k rs
-        o = s .page i k rs e
-
-        y : ℕ
-        y = h (firstCode rs)
-
-        there : within h j (top j x) (bucket k rs) ≡ true → Under j (top j x) k (prefixOn h k rs)
-        there t = go (side k j)
-          where
-            z : top j y ≡ top j x
-            z = within-on h j (top j x) k rs (o .some) .0 t
-
-            go : (k < j) ⊎ (j ≤ k) → Under j (top j x) k (prefixOn h k rs)
-            go (inr l) = subst (λ v. Under j v k (top k y)) z (path-under (λ n. top n y) (top-step y) j k l)
-            go (inl l) = absurd (omega (arith, at-least k (subst (λ v. IsBucket S h (r ∷ W) k v) (share-fewer y x k j (omega arith) z) (o .is))))
-
-        back : Under j (top j x) k (prefixOn h k rs) → within h j (top j x) (bucket k rs) ≡ true
-        back u = within-on h j (top j x) k rs (o .some) .1
-            (sym (path-cut (λ n. top n y) (top-step y) (u .more) j) ∙ ap (λ n. top n y / 2 ^ u .more) (sym (u .deep)) ∙ u .cut)
+    below : (i k : ℕ) (rs : List Record) → Holding gs i k rs → (within h j (top j x) (bucket k rs) ≡ true) ↔ Under j (top j x) k (prefixOn h k rs)
+    below = within-under S h (r ∷ W) gs s x j at-least
 
     -- the one page that the prefix has then
     pub data Left : Page → Type 0 where
@@ -129,7 +94,7 @@ module _ (S : Shape) (h : List ℕ → ℕ) where
 
           other : (b : Bool) → within h j (top j x) (getD gs i free) ≡ b → pick b free (getD gs i free) ≡ bucket k rs → i ≢ m → Now i k rs
           other true t y n = absurd (free-not y)
-          other false t y n = same n y (λ u. let z : false ≡ true = sym t ∙ ap (within h j (top j x)) y ∙ within-under i k rs y .1 u in let c : _≡_ {A = ℕ} 0 1 = cc in omega arith)
+          other false t y n = same n y (λ u. let z : false ≡ true = sym t ∙ ap (within h j (top j x)) y ∙ below i k rs y .1 u in let c : _≡_ {A = ℕ} 0 1 = cc in omega arith)
 
           go : Dec (i ≡ m) → Now i k rs
           go (yes q) = one (getD hs m free) (w .left) (subst (λ n. Holding hs n k rs) q e) q
@@ -167,7 +132,7 @@ module _ (S : Shape) (h : List ℕ → ℕ) where
           go (yes u) = here (inside S h r W j f k v u b) (getD hs m free) refl (w .left)
           go (no n) =
               let t = paged S h (r ∷ W) gs s k v (outside S h r W j f k v n .0 b) in
-              let out : within h j (top j x) (bucket k (t .1)) ≡ true → ⊥ = λ y. n (subst (Under j (top j x) k) (t .3) (within-under (t .0) k (t .1) (t .2) .0 y)) in
+              let out : within h j (top j x) (bucket k (t .1)) ≡ true → ⊥ = λ y. n (subst (Under j (top j x) k) (t .3) (below (t .0) k (t .1) (t .2) .0 y)) in
               let far : t .0 ≢ m = λ q. out (ap (within h j (top j x)) (sym (t .2)) ∙ ap (λ d. within h j (top j x) (getD gs d free)) q ∙ w .was) in
               (t .0, t .1, w .others (t .0) far ∙ ap (λ g. pick (within h j (top j x) g) free g) (t .2) ∙ ap (λ y. pick y free (bucket k (t .1))) (not-true (within h j (top j x) (bucket k (t .1))) out), t .3)
 

@@ -4,6 +4,7 @@ pub mod Shown
 pub mod BucketOf
 pub mod Records
 pub mod Known
+pub mod Within
 pub mod Fewer
 pub mod RemoveShows
 pub mod Rooms

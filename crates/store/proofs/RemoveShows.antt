@@ -35,7 +35,8 @@ use Rattle.store.proofs.Shown.{within-pages, find-passes, find-least, s
 use Rattle.store.proofs.Records.{rows-packed}
 use Rattle.store.proofs.BucketOf.{shallowest-bucket, bucket-of-some, bucket-of-none}
 use Rattle.store.proofs.Known.{Known, known}
-use Rattle.store.proofs.Fewer.{within-on, share-fewer, makes-page, at-least, Left, cleared, filled, Fewer, fewer-shows}
+use Rattle.store.proofs.Within.{within-on, share-fewer}
+use Rattle.store.proofs.Fewer.{makes-page, at-least, Left, cleared, filled, Fewer, fewer-shows}
 
 -- ---- a record goes, a row goes
 
