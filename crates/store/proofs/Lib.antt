@@ -7,6 +7,7 @@ pub mod Known
 pub mod Within
 pub mod Fewer
 pub mod RemoveShows
+pub mod RemoveCases
 pub mod Rooms
 pub mod Unique
 pub mod Settled
