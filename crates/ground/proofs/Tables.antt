@@ -4,7 +4,7 @@ use mathlib.Core.Path.{_≡_, refl, sym, ap, _∙_}
 use mathlib.Core.List.{List, [], _∷_, _++_}
 use native.Mathlib.Omega.{arith}
 use native.Mathlib.Nat.{le-of-suc-le-suc, not-suc-le-zero}
-use lib.ListN.{length, getD, take, drop}
+use lib.ListN.{length, getD, take, drop, set}
 use Rattle.ground.specs.Lists.{tab, total, insertAt, removeAt}
 
 pub length-tab {ℓ} : {A : Type ℓ} (f : ℕ → A) (n : ℕ) → length (tab f n) ≡ n
@@ -53,3 +53,11 @@ tab-remove f g n zero h lo hi = tab-same g (λ i. f (suc i)) n (λ i l. hi i zer
 tab-remove f g zero (suc s) h lo hi = absurd (not-suc-le-zero h)
 tab-remove f g (suc n) (suc s) h lo hi = λ k. lo zero (suc-le-suc zero-le) k
     ∷ tab-remove (λ i. f (suc i)) (λ i. g (suc i)) n s (le-of-suc-le-suc h) (λ i l. lo (suc i) (suc-le-suc l)) (λ i l m. hi (suc i) (suc-le-suc l) (suc-le-suc m)) k
+
+-- g is f with another at s
+pub tab-set {ℓ} : {A : Type ℓ} (f g : ℕ → A) (n s : ℕ) → s < n → ((i : ℕ) → i < n → (i ≡ s → ⊥) → g i ≡ f i) → tab g n ≡ set (tab f n) s (g s)
+unfolding tab
+tab-set f g zero s h o = absurd (not-suc-le-zero h)
+tab-set f g (suc n) zero h o = ap (λ l. g zero ∷ l) (tab-same (λ i. g (suc i)) (λ i. f (suc i)) n (λ i l. o (suc i) (suc-le-suc l) (λ e. omega (arith, e))))
+tab-set f g (suc n) (suc s) h o = λ k. o zero (suc-le-suc zero-le) (λ e. omega (arith, e)) k
+    ∷ tab-set (λ i. f (suc i)) (λ i. g (suc i)) n s (le-of-suc-le-suc h) (λ i l e. o (suc i) (suc-le-suc l) (λ x. e (omega (arith, x)))) k

@@ -1,10 +1,11 @@
 pub mod Slots
 pub mod Writes
 pub mod Painted
-pub mod Insert
+pub mod Inserting
 pub mod Unique
 pub mod Tops
-pub mod Remove
+pub mod Removing
+pub mod Overwriting
 pub mod Sums
 pub mod Packs
 pub mod Settled

@@ -5,7 +5,7 @@ use mathlib.Core.List.{List}
 use native.Mathlib.Omega.{arith}
 use Rattle.ground.specs.Lists.{tab}
 use Rattle.page.specs.Page.{Slotted, rows, rowAt, count}
-use Rattle.page.specs.Steps.{Inserted, Removed}
+use Rattle.page.specs.Steps.{Inserted, Removed, Overwritten}
 use Rattle.ground.proofs.Tables.{tab-same}
 use Rattle.page.proofs.Unique.{unique}
 use Rattle.page.specs.Packed.{PackedTo, Started}
@@ -26,3 +26,7 @@ packed-one {p} {q} {r} {n} a b =
       code = (a .each i h .coded ∙ sym (b .each i h .coded)) k;
     }) in
     unique q r (a .page) (b .page) (a .long ∙ sym (b .long)) (a .deep ∙ sym (b .deep)) (rw (a .counted, b .counted) e)
+
+pub overwritten-one : {p pl q r : List ℕ} {s : ℕ} → Overwritten p s pl q → Overwritten p s pl r → q ≡ r
+overwritten-one {p} {pl} {q} {r} a b =
+    unique q r (a .page) (b .page) (a .long ∙ sym (b .long)) (a .deep ∙ sym (b .deep)) (a .rowsOf ∙ sym (b .rowsOf))

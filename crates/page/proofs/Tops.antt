@@ -16,22 +16,21 @@ pub len-lt : (p : List ℕ) (i : ℕ) → len p i < 16384
 unfolding len
 len-lt p i = omega arith
 
-pub top-one : {p : List ℕ} {r : ℕ} → r ≡ off p 0 + len p 0 → Top p 1 r
-top-one {p} {r} e = record {
-  most = λ i h. let z : i ≡ 0 = omega arith in rw z (omega arith);
-  reached = (0, omega arith, sym e);
-}
+pub top-none : (p : List ℕ) → Top p 0 8
+top-none p = record { least = omega arith; most = λ i h. absurd (omega arith); reached = λ h. absurd (omega arith) }
 
 -- a slot that ends no later
 pub top-keep : {p : List ℕ} {n r e : ℕ} → Top p n r → e ≡ off p n + len p n → e ≤ r → Top p (n + 1) r
 top-keep {p} {n} {r} {e} t f h = record {
+  least = t .least;
   most = λ i l. ⊎-elim (λ lt. t .most i lt) (λ ge. let z : i ≡ n = omega arith in rw z (omega arith)) (side i n);
-  reached = (t .reached .0, omega (arith, t .reached .1), t .reached .2);
+  reached = λ a. (t .reached a .0, omega (arith, t .reached a .1), t .reached a .2);
 }
 
 -- a slot that ends later
 pub top-new : {p : List ℕ} {n r e : ℕ} → Top p n r → e ≡ off p n + len p n → r < e → Top p (n + 1) e
 top-new {p} {n} {r} {e} t f h = record {
+  least = omega (arith, t .least);
   most = λ i l. ⊎-elim (λ lt. omega (arith, t .most i lt)) (λ ge. let z : i ≡ n = omega arith in rw z (omega arith)) (side i n);
-  reached = (n, omega arith, sym f);
+  reached = λ a. (n, omega arith, sym f);
 }

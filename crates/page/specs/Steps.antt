@@ -2,11 +2,11 @@
 use Prim.Native.Nat.{ℕ, _+_, _*_, _-_, _≤_, _<_}
 use mathlib.Core.Path.{_≡_}
 use mathlib.Core.List.{List}
-use lib.ListN.{length}
+use lib.ListN.{length, set}
 use Rattle.ground.specs.Lists.{byte, part}
 use Rattle.words.specs.Moves.{Frame}
 use Rattle.ground.specs.Lists.{insertAt, removeAt}
-use Rattle.page.specs.Page.{Slotted, Belongs, Natural, Record, rows, count, frontier, free, depth, slotAt, word, off, len}
+use Rattle.page.specs.Page.{Slotted, Belongs, Natural, Record, rows, count, frontier, free, depth, slotAt, word, off, len, code}
 
 -- a record written at f
 pub record Recorded (p : List ℕ) (f : ℕ) (pl c q : List ℕ) : Type 0 where
@@ -44,10 +44,11 @@ pub record Inserted (p : List ℕ) (s : ℕ) (c pl q : List ℕ) : Type 0 where
   pub deep : depth q ≡ depth p
   pub rowsOf : rows q ≡ insertAt s (record { start = frontier p; place = pl; code = c }) (rows p)
 
--- r is the largest record end of n slots
+-- r is the largest of 8 and n slots' record ends
 pub record Top (p : List ℕ) (n r : ℕ) : Type 0 where
+  pub least : 8 ≤ r
   pub most : (i : ℕ) → i < n → off p i + len p i ≤ r
-  pub reached : (i : ℕ) × (i < n) × (off p i + len p i ≡ r)
+  pub reached : 8 < r → (i : ℕ) × (i < n) × (off p i + len p i ≡ r)
 
 -- of n slots those after s moved up by one, over slot s, and the last cleared
 pub record Closed (p : List ℕ) (n s : ℕ) (q : List ℕ) : Type 0 where
@@ -55,15 +56,27 @@ pub record Closed (p : List ℕ) (n s : ℕ) (q : List ℕ) : Type 0 where
   pub moved : (i : ℕ) → s ≤ i → i + 1 < n → word q i ≡ word p (i + 1)
   pub gone : (k : ℕ) → length p - 4 * n ≤ k → k < length p - 4 * (n - 1) → byte q k ≡ 0
 
--- p has slot s, and another
+-- p has slot s
 pub record Removable (p : List ℕ) (s : ℕ) : Type 0 where
   pub page : Slotted p
   pub within : s < count p
-  pub more : 2 ≤ count p
 
--- q is p without slot s
+-- q is p without slot s; without its last row it is a page of no rows
 pub record Removed (p : List ℕ) (s : ℕ) (q : List ℕ) : Type 0 where
   pub page : Slotted q
   pub long : length q ≡ length p
   pub deep : depth q ≡ depth p
   pub rowsOf : rows q ≡ removeAt s (rows p)
+
+-- p has slot s, and pl is a place of which no part is negative
+pub record Overwritable (p : List ℕ) (s : ℕ) (pl : List ℕ) : Type 0 where
+  pub page : Slotted p
+  pub within : s < count p
+  pub natural : Natural pl
+
+-- q is p with the 8 bytes of place in slot s overwritten
+pub record Overwritten (p : List ℕ) (s : ℕ) (pl q : List ℕ) : Type 0 where
+  pub page : Slotted q
+  pub long : length q ≡ length p
+  pub deep : depth q ≡ depth p
+  pub rowsOf : rows q ≡ set (rows p) s (record { start = off p s; place = pl; code = code p s })

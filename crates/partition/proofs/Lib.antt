@@ -13,4 +13,5 @@ pub mod Store
 pub mod Pages
 pub mod Sorted
 pub mod Maps
+pub mod Rising
 pub mod Members

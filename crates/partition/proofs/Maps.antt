@@ -1,7 +1,7 @@
 -- Rows as a map from code to place: what put (`r ∷ cut (r .code) rs`) and remove (`cut c rs`) do to it; no code twice; members and map.
 -- Assumes nothing.
 use mathlib.Core.Path.{_≡_, refl, sym, ap, subst, _∙_}
-use mathlib.Core.Logic.{_⊎_, inl, inr, _↔_}
+use mathlib.Core.Logic.{_⊎_, inl, inr, _≢_, _↔_}
 use mathlib.Core.List.{List, [], _∷_, List·Memᴰ, List·Memᴰ·head, List·Memᴰ·tail, List·Memᴰ·not-nil, List·Memᴰ·cases-cons}
 use mathlib.Core.Option.{Option, some, none}
 use Prim.Native.Nat.{ℕ, suc, Ordering, Ordering·lt, Ordering·eq, Ordering·gt}
@@ -155,25 +155,22 @@ found c b (q ∷ rs) e = go (order c (q .code)) refl e (found c b rs)
         List·Memᴰ·head (λ i. record { code = order-eq c (q .code) t i; place = sym y i })
     go Ordering·gt t x f = List·Memᴰ·tail (f x)
 
--- a code that the map does not have is no row's
-pub absent : (c : List ℕ) (rs : List Row) → placeOf rs c ≡ none → (r : Row) → List·Memᴰ r rs → r .code ≡ c → ⊥
+-- a code is nowhere exactly when no row has it
+pub absent : (rs : List Row) (c : List ℕ) → placeOf rs c ≡ none → (r : Row) → List·Memᴰ r rs → c ≢ r .code
 unfolding placeOf
-absent c [] e r m t = List·Memᴰ·not-nil m
-absent c (q ∷ rs) e r m t = go (List·Memᴰ·cases-cons m) (absent c rs (p .1) r)
+absent [] c e r m f = List·Memᴰ·not-nil m
+absent (q ∷ rs) c e r m f = go (passed (order c (q .code)) (placeOf rs c) (q .place) e) (List·Memᴰ·cases-cons m) (absent rs c)
   where
-    p : (order c (q .code) ≡ Ordering·eq → ⊥) × (placeOf rs c ≡ none)
-    p = passed (order c (q .code)) (placeOf rs c) (q .place) e
+    go : (order c (q .code) ≡ Ordering·eq → ⊥) × (placeOf rs c ≡ none) → (r ≡ q) ⊎ List·Memᴰ r rs
+        → (placeOf rs c ≡ none → (r : Row) → List·Memᴰ r rs → c ≢ r .code) → ⊥
+    go t (inl x) rest = t .0 (subst (λ d. order c d ≡ Ordering·eq) (f ∙ ap (λ y. y .code) x) (order-refl c))
+    go t (inr x) rest = rest (t .1) r x f
 
-    go : (r ≡ q) ⊎ List·Memᴰ r rs → (List·Memᴰ r rs → r .code ≡ c → ⊥) → ⊥
-    go (inl y) f = p .0 (subst (λ d. order c d ≡ Ordering·eq) (sym t ∙ ap (λ (z : Row). z .code) y) (order-refl c))
-    go (inr y) f = f y t
-
-pub absent-of : (c : List ℕ) (rs : List Row) → ((r : Row) → List·Memᴰ r rs → r .code ≡ c → ⊥) → placeOf rs c ≡ none
-absent-of c rs n = go (placeOf rs c) refl
-  where
-    go : (m : Option (List ℕ)) → placeOf rs c ≡ m → m ≡ none
-    go none e = refl
-    go (some b) e = absurd (n (record { code = c; place = b }) (found c b rs e) refl)
+pub missing : (rs : List Row) (c : List ℕ) → ((r : Row) → List·Memᴰ r rs → c ≢ r .code) → placeOf rs c ≡ none
+unfolding placeOf
+missing [] c f = refl
+missing (q ∷ rs) c f =
+    skip (order c (q .code)) (placeOf rs c) (q .place) (λ e. f q (List·Memᴰ·head refl) (order-eq c (q .code) e)) ∙ missing rs c (λ r m. f r (List·Memᴰ·tail m))
 
 -- where no code is there twice, the map has exactly the rows
 pub placed : (rs : List Row) → Once rs → (r : Row) → List·Memᴰ r rs → placeOf rs (r .code) ≡ some (r .place)
@@ -186,7 +183,7 @@ placed (q ∷ rs) o r m = go (List·Memᴰ·cases-cons m) (placed rs (o .1) r)
         subst (λ (z : Row). placeOf (q ∷ rs) (z .code) ≡ some (z .place)) (sym e)
         (ap (λ p. by p (placeOf rs (q .code)) (some (q .place)) (placeOf rs (q .code))) (order-refl (q .code)))
     go (inr t) f =
-        skip (order (r .code) (q .code)) (placeOf rs (r .code)) (q .place) (λ e. absent (q .code) rs (o .0) r t (order-eq (r .code) (q .code) e)) ∙ f t
+        skip (order (r .code) (q .code)) (placeOf rs (r .code)) (q .place) (λ e. absent rs (q .code) (o .0) r t (sym (order-eq (r .code) (q .code) e))) ∙ f t
 
 pub placed-iff : (rs : List Row) → Once rs → (c b : List ℕ) → (placeOf rs c ≡ some b) ↔ List·Memᴰ (record { code = c; place = b }) rs
 placed-iff rs o c b = (found c b rs, placed rs o (record { code = c; place = b }))

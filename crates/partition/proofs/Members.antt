@@ -1,22 +1,20 @@
--- Members of lists. Rows in another order have the same members, and rows with no code twice are settled by their members up to order.
+-- Members of lists. Rows with no code twice are settled by their members up to order.
 -- A list that repeats nothing is no longer than one that has all its members.
 -- Assumes nothing.
 use mathlib.Core.Path.{_≡_, refl, sym, ap, _∙_, subst}
-use mathlib.Core.Bool.{Bool, true, false}
 use mathlib.Core.Logic.{_⊎_, inl, inr, _≢_}
 use mathlib.Core.List.{List, [], _∷_, _++_, List·Memᴰ, List·Memᴰ·head, List·Memᴰ·tail, List·Memᴰ·not-nil, List·Memᴰ·cases-cons, List·Memᴰ·append-cases, Memᴰ·append-left, Memᴰ·append-right, Memᴰ·cast}
-use mathlib.Core.Option.{Option, some, none}
-use Prim.Native.Nat.{ℕ, suc, _+_, _≤_, _<_, zero-le, Ordering, Ordering·lt, Ordering·eq, Ordering·gt}
+use Prim.Native.Nat.{ℕ, suc, _+_, _≤_, _<_, zero-le}
 use native.Mathlib.Omega.{arith}
 use lib.ListN.{length, length-append}
-use Rattle.words.specs.Codes.{order}
-use Rattle.words.proofs.Orders.{order-refl, order-eq}
-use Rattle.partition.specs.Partition.{Row, Prefix, Reordered, empty, front, swap, chain, after, Ascending}
-use Rattle.partition.specs.Listing.{by, insert, inOrder, placeOf, Once}
+use Rattle.partition.specs.Partition.{Row, Prefix, Reordered, empty, front, chain, after, Ascending}
+use Rattle.partition.specs.Listing.{placeOf, Once}
 use Rattle.partition.proofs.Order.{asc-first, first-lt-after}
-use Rattle.partition.proofs.Pages.{same-order, to-front, turned}
+use Rattle.partition.proofs.Reorders.{to-front, turned}
 use Rattle.partition.proofs.Sorted.{same-map}
-use Rattle.partition.proofs.Maps.{skip, passed as unplaced}
+pub use Rattle.partition.proofs.Reorders.{mem-reordered}
+pub use Rattle.partition.proofs.Maps.{absent, missing}
+pub use Rattle.partition.proofs.Sorted.{in-order-reordered}
 
 -- ---- lists that repeat nothing
 
@@ -69,59 +67,7 @@ asc-distinct d lo hi [] a = tt
 asc-distinct d lo hi (p ∷ ps) a =
     ((λ m. omega (arith, asc-first d (after d p) hi ps (a .1) p m, first-lt-after d p)), asc-distinct d (after d p) hi ps (a .1))
 
--- ---- rows in another order
-
-pub mem-reordered : {rs qs : List Row} → Reordered rs qs → {r : Row} → List·Memᴰ r rs → List·Memᴰ r qs
-mem-reordered empty m = m
-mem-reordered (front {rs = rs} {qs = qs} q p) {r} m = go (List·Memᴰ·cases-cons m) (λ t. mem-reordered p t)
-  where
-    go : (r ≡ q) ⊎ List·Memᴰ r rs → (List·Memᴰ r rs → List·Memᴰ r qs) → List·Memᴰ r (q ∷ qs)
-    go (inl e) rest = List·Memᴰ·head e
-    go (inr t) rest = List·Memᴰ·tail (rest t)
-mem-reordered (swap {rs = rs} {qs = qs} a b p) {r} m = go (List·Memᴰ·cases-cons m) (λ t. mem-reordered p t)
-  where
-    past : (r ≡ b) ⊎ List·Memᴰ r rs → (List·Memᴰ r rs → List·Memᴰ r qs) → List·Memᴰ r (b ∷ a ∷ qs)
-    past (inl e) rest = List·Memᴰ·head e
-    past (inr t) rest = List·Memᴰ·tail (List·Memᴰ·tail (rest t))
-
-    go : (r ≡ a) ⊎ List·Memᴰ r (b ∷ rs) → (List·Memᴰ r rs → List·Memᴰ r qs) → List·Memᴰ r (b ∷ a ∷ qs)
-    go (inl e) rest = List·Memᴰ·tail (List·Memᴰ·head e)
-    go (inr t) rest = past (List·Memᴰ·cases-cons t) rest
-mem-reordered (chain p q) m = mem-reordered q (mem-reordered p m)
-
-insert-reordered : (r : Row) (l : List Row) → Reordered (insert (λ q. q .code) r l) (r ∷ l)
-unfolding insert
-insert-reordered r [] = same-order (r ∷ [])
-insert-reordered r (q ∷ l) = go (order (r .code) (q .code)) (insert-reordered r l)
-  where
-    go : (o : Ordering) → Reordered (insert (λ q. q .code) r l) (r ∷ l) → Reordered (by o (r ∷ q ∷ l) (r ∷ q ∷ l) (q ∷ insert (λ q. q .code) r l)) (r ∷ q ∷ l)
-    go Ordering·lt i = same-order (r ∷ q ∷ l)
-    go Ordering·eq i = same-order (r ∷ q ∷ l)
-    go Ordering·gt i = chain (front q i) (swap q r (same-order l))
-
-pub in-order-reordered : (rs : List Row) → Reordered (inOrder rs) rs
-unfolding inOrder
-in-order-reordered [] = empty
-in-order-reordered (r ∷ rs) = chain (insert-reordered r (inOrder rs)) (front r (in-order-reordered rs))
-
 -- ---- rows with no code twice
-
--- a code is nowhere exactly when no row has it
-pub absent : (rs : List Row) (c : List ℕ) → placeOf rs c ≡ none → (r : Row) → List·Memᴰ r rs → c ≢ r .code
-unfolding placeOf
-absent [] c e r m f = List·Memᴰ·not-nil m
-absent (q ∷ rs) c e r m f = go (unplaced (order c (q .code)) (placeOf rs c) (q .place) e) (List·Memᴰ·cases-cons m) (absent rs c)
-  where
-    go : (order c (q .code) ≡ Ordering·eq → ⊥) × (placeOf rs c ≡ none) → (r ≡ q) ⊎ List·Memᴰ r rs
-        → (placeOf rs c ≡ none → (r : Row) → List·Memᴰ r rs → c ≢ r .code) → ⊥
-    go t (inl x) rest = t .0 (subst (λ d. order c d ≡ Ordering·eq) (f ∙ ap (λ y. y .code) x) (order-refl c))
-    go t (inr x) rest = rest (t .1) r x f
-
-pub missing : (rs : List Row) (c : List ℕ) → ((r : Row) → List·Memᴰ r rs → c ≢ r .code) → placeOf rs c ≡ none
-unfolding placeOf
-missing [] c f = refl
-missing (q ∷ rs) c f =
-    skip (order c (q .code)) (placeOf rs c) (q .place) (λ e. f q (List·Memᴰ·head refl) (order-eq c (q .code) e)) ∙ missing rs c (λ r m. f r (List·Memᴰ·tail m))
 
 pub once-append : (s t : List Row) → Once s → Once t → ((r q : Row) → List·Memᴰ r s → List·Memᴰ q t → r .code ≢ q .code) → Once (s ++ t)
 once-append [] t o p f = p

@@ -37,23 +37,23 @@ append-right (r ∷ s) p = front r (append-right s p)
 pub append-same : {rs qs s t : List Row} → Reordered rs qs → Reordered s t → Reordered (rs ++ s) (qs ++ t)
 append-same {qs = qs} {s = s} p q = chain (append-left s p) (append-right qs q)
 
-pub member-same : {rs qs : List Row} → Reordered rs qs → (r : Row) → List·Memᴰ r rs → List·Memᴰ r qs
-member-same empty x m = m
-member-same (front {qs = qs} r p) x m = go (List·Memᴰ·cases-cons m) (member-same p x)
+pub mem-reordered : {rs qs : List Row} → Reordered rs qs → {r : Row} → List·Memᴰ r rs → List·Memᴰ r qs
+mem-reordered empty m = m
+mem-reordered (front {rs = rs} {qs = qs} q p) {r} m = go (List·Memᴰ·cases-cons m) (λ t. mem-reordered p t)
   where
-    go : {l : List Row} → (x ≡ r) ⊎ List·Memᴰ x l → (List·Memᴰ x l → List·Memᴰ x qs) → List·Memᴰ x (r ∷ qs)
-    go (inl e) f = List·Memᴰ·head e
-    go (inr t) f = List·Memᴰ·tail (f t)
-member-same (swap {rs = rs} {qs = qs} r q p) x m = go (List·Memᴰ·cases-cons m) (member-same p x)
+    go : (r ≡ q) ⊎ List·Memᴰ r rs → (List·Memᴰ r rs → List·Memᴰ r qs) → List·Memᴰ r (q ∷ qs)
+    go (inl e) rest = List·Memᴰ·head e
+    go (inr t) rest = List·Memᴰ·tail (rest t)
+mem-reordered (swap {rs = rs} {qs = qs} a b p) {r} m = go (List·Memᴰ·cases-cons m) (λ t. mem-reordered p t)
   where
-    two : (x ≡ q) ⊎ List·Memᴰ x rs → (List·Memᴰ x rs → List·Memᴰ x qs) → List·Memᴰ x (q ∷ r ∷ qs)
-    two (inl e) f = List·Memᴰ·head e
-    two (inr t) f = List·Memᴰ·tail (List·Memᴰ·tail (f t))
+    past : (r ≡ b) ⊎ List·Memᴰ r rs → (List·Memᴰ r rs → List·Memᴰ r qs) → List·Memᴰ r (b ∷ a ∷ qs)
+    past (inl e) rest = List·Memᴰ·head e
+    past (inr t) rest = List·Memᴰ·tail (List·Memᴰ·tail (rest t))
 
-    go : (x ≡ r) ⊎ List·Memᴰ x (q ∷ rs) → (List·Memᴰ x rs → List·Memᴰ x qs) → List·Memᴰ x (q ∷ r ∷ qs)
-    go (inl e) f = List·Memᴰ·tail (List·Memᴰ·head e)
-    go (inr t) f = two (List·Memᴰ·cases-cons t) f
-member-same (chain p q) x m = member-same q x (member-same p x m)
+    go : (r ≡ a) ⊎ List·Memᴰ r (b ∷ rs) → (List·Memᴰ r rs → List·Memᴰ r qs) → List·Memᴰ r (b ∷ a ∷ qs)
+    go (inl e) rest = List·Memᴰ·tail (List·Memᴰ·head e)
+    go (inr t) rest = past (List·Memᴰ·cases-cons t) rest
+mem-reordered (chain p q) m = mem-reordered q (mem-reordered p m)
 
 pub length-same : {rs qs : List Row} → Reordered rs qs → length rs ≡ length qs
 length-same empty = refl

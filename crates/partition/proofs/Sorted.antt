@@ -1,21 +1,23 @@
--- Reordered rows are the same map, and have the same listing.
+-- Reordered rows are the same map; the rows in order: they are the rows, strictly ascending, whatever order the rows came in.
 -- Assumes nothing.
 use mathlib.Core.Path.{_≡_, refl, sym, ap, subst, _∙_}
 use mathlib.Core.Bool.{Bool, true, false}
-use mathlib.Core.List.{List, [], _∷_, _++_, flatMap}
+use mathlib.Core.List.{List, [], _∷_, _++_, flatMap, List·Memᴰ}
 use mathlib.Core.Logic.{_⊎_, inl, inr}
 use mathlib.Core.Option.{Option, some, none}
 use Prim.Native.Nat.{ℕ, zero, suc, _^_, Ordering, Ordering·lt, Ordering·eq, Ordering·gt}
 use native.Mathlib.Omega.{arith}
 use lib.Dec.{eqb}
-use Rattle.words.specs.Codes.{order}
-use Rattle.words.proofs.Orders.{order-refl, order-eq, after-order, at-most, gt-or, not-gt, is-after, is-before}
+use Rattle.words.specs.Codes.{order, Before}
+use Rattle.words.proofs.Orders.{order-refl, order-eq, irrefl}
 use Rattle.partition.specs.Bits.{top}
 use Rattle.partition.specs.Partition.{Shape, Row, Prefix, Reordered, empty, front, swap, chain, keep, rowsOf, buckets}
 use Rattle.partition.specs.Listing.{by, insert, inOrder, listing, placeOf, Once}
 use Rattle.partition.proofs.Laws.{reordered}
-use Rattle.partition.proofs.Reorders.{rows-same}
-use Rattle.partition.proofs.Maps.{skip, passed}
+use Rattle.partition.proofs.Sum.{prefix-row}
+use Rattle.partition.proofs.Reorders.{rows-same, same-order, turned, mem-reordered}
+use Rattle.partition.proofs.Maps.{skip, passed, cut, cut-same, absent, missing}
+use Rattle.partition.proofs.Rising.{Ahead, Rising, rising-ext, insert-ahead, insert-rising, without-rising}
 
 crossed : (o p : Ordering) (m : Option (List ℕ)) (a b : List ℕ) → (o ≡ Ordering·eq → p ≡ Ordering·eq → ⊥)
     → by o (by p m (some b) m) (some a) (by p m (some b) m) ≡ by p (by o m (some a) m) (some b) (by o m (some a) m)
@@ -49,106 +51,96 @@ same-map (swap {rs = rs} {qs = qs} r q p) o =
     )
 same-map (chain p q) o = let i = same-map p o in let j = same-map q (i .0) in (j .0, (λ c. i .1 c ∙ j .1 c))
 
-ins : Row → List Row → List Row
-ins r l = insert (λ q. q .code) r l
+-- rows go by their codes
+abbrev pub by-code : Row → List ℕ
+by-code q = q .code
 
-by-gt : {A : Type 0} (o : Ordering) (a b c : A) → o ≡ Ordering·gt → by o a b c ≡ c
-by-gt o a b c e = ap (λ p. by p a b c) e
+-- ---- the rows in order
 
-by-le : {A : Type 0} (o : Ordering) (a c : A) → (o ≡ Ordering·gt → ⊥) → by o a a c ≡ a
-by-le Ordering·lt a c n = refl
-by-le Ordering·eq a c n = refl
-by-le Ordering·gt a c n = absurd (n refl)
-
-ins-gt : (r x : Row) (l : List Row) → order (r .code) (x .code) ≡ Ordering·gt → ins r (x ∷ l) ≡ x ∷ ins r l
-unfolding ins insert
-ins-gt r x l e = by-gt (order (r .code) (x .code)) (r ∷ x ∷ l) (r ∷ x ∷ l) (x ∷ ins r l) e
-
-ins-le : (r x : Row) (l : List Row) → (order (r .code) (x .code) ≡ Ordering·gt → ⊥) → ins r (x ∷ l) ≡ r ∷ x ∷ l
-unfolding ins insert
-ins-le r x l n = by-le (order (r .code) (x .code)) (r ∷ x ∷ l) (x ∷ ins r l) n
-
-ins-nil : (r : Row) → ins r [] ≡ r ∷ []
-unfolding ins insert
-ins-nil r = refl
-
--- two rows of different codes go in in either order
-module _ (r q : Row) (ne : order (r .code) (q .code) ≡ Ordering·eq → ⊥) where
-  -- both before what follows
-  top-two : (l : List Row) → ins r l ≡ r ∷ l → ins q l ≡ q ∷ l → ins r (ins q l) ≡ ins q (ins r l)
-  top-two l e f = go (gt-or (r .code) (q .code))
-    where
-      go : (order (r .code) (q .code) ≡ Ordering·gt) ⊎ (order (r .code) (q .code) ≡ Ordering·gt → ⊥) → ins r (ins q l) ≡ ins q (ins r l)
-      go (inl g) =
-          ap (ins r) f ∙ ins-gt r q l g ∙ ap (λ m. q ∷ m) e
-          ∙ sym (ap (ins q) e ∙ ins-le q r l (not-gt (q .code) (r .code) (is-after (r .code) (q .code) g)))
-      go (inr n) =
-          ap (ins r) f ∙ ins-le r q l n
-          ∙ sym (ap (ins q) e ∙ ins-gt q r l (after-order (q .code) (r .code) (is-before (r .code) (q .code) n ne)) ∙ ap (λ m. r ∷ m) f)
-
-  ins-swap : (l : List Row) → ins r (ins q l) ≡ ins q (ins r l)
-  ins-swap [] = top-two [] (ins-nil r) (ins-nil q)
-  ins-swap (x ∷ l) = go (ins-swap l) (gt-or (r .code) (x .code)) (gt-or (q .code) (x .code))
-    where
-      go : ins r (ins q l) ≡ ins q (ins r l) → (order (r .code) (x .code) ≡ Ordering·gt) ⊎ (order (r .code) (x .code) ≡ Ordering·gt → ⊥)
-          → (order (q .code) (x .code) ≡ Ordering·gt) ⊎ (order (q .code) (x .code) ≡ Ordering·gt → ⊥) → ins r (ins q (x ∷ l)) ≡ ins q (ins r (x ∷ l))
-      go ih (inr n) (inr m) = top-two (x ∷ l) (ins-le r x l n) (ins-le q x l m)
-      go ih (inl g) (inl k) =
-          ap (ins r) (ins-gt q x l k) ∙ ins-gt r x (ins q l) g ∙ ap (λ m. x ∷ m) ih ∙ sym (ap (ins q) (ins-gt r x l g) ∙ ins-gt q x (ins r l) k)
-      go ih (inl g) (inr m) =
-          let w = at-most (q .code) (x .code) (r .code) m (is-after (r .code) (x .code) g) in
-          ap (ins r) (ins-le q x l m) ∙ ins-gt r q (x ∷ l) (after-order (r .code) (q .code) w) ∙ ap (λ t. q ∷ t) (ins-gt r x l g)
-          ∙ sym (ap (ins q) (ins-gt r x l g) ∙ ins-le q x (ins r l) m)
-      go ih (inr n) (inl k) =
-          let w = at-most (r .code) (x .code) (q .code) n (is-after (q .code) (x .code) k) in
-          ap (ins r) (ins-gt q x l k) ∙ ins-le r x (ins q l) n
-          ∙ sym (ap (ins q) (ins-le r x l n) ∙ ins-gt q r (x ∷ l) (after-order (q .code) (r .code) w) ∙ ap (λ t. r ∷ t) (ins-gt q x l k))
-
--- a row that is not there is not there among some of the rows
-keep-none : (t : Bool) (q : Row) (m m′ : List Row) (c : List ℕ) → placeOf (q ∷ m) c ≡ none → (placeOf m c ≡ none → placeOf m′ c ≡ none) → placeOf (keep t q m′) c ≡ none
-unfolding placeOf
-keep-none true q m m′ c e f = go (order c (q .code)) e
+insert-reordered : (r : Row) (l : List Row) → Reordered (insert by-code r l) (r ∷ l)
+unfolding insert
+insert-reordered r [] = same-order (r ∷ [])
+insert-reordered r (q ∷ l) = go (order (r .code) (q .code)) (insert-reordered r l)
   where
-    go : (o : Ordering) → by o (placeOf m c) (some (q .place)) (placeOf m c) ≡ none → by o (placeOf m′ c) (some (q .place)) (placeOf m′ c) ≡ none
-    go Ordering·lt x = f x
-    go Ordering·eq x = x
-    go Ordering·gt x = f x
-keep-none false q m m′ c e f = go (order c (q .code)) e
-  where
-    go : (o : Ordering) → by o (placeOf m c) (some (q .place)) (placeOf m c) ≡ none → placeOf m′ c ≡ none
-    go Ordering·lt x = f x
-    go Ordering·eq x = absurd (let n : _≡_ {A = ℕ} 0 1 = cc in omega arith)
-    go Ordering·gt x = f x
+    go : (o : Ordering) → Reordered (insert by-code r l) (r ∷ l) → Reordered (by o (r ∷ q ∷ l) (r ∷ q ∷ l) (q ∷ insert by-code r l)) (r ∷ q ∷ l)
+    go Ordering·lt i = same-order (r ∷ q ∷ l)
+    go Ordering·eq i = same-order (r ∷ q ∷ l)
+    go Ordering·gt i = chain (front q i) (swap q r (same-order l))
+
+-- they are the rows
+pub in-order-reordered : (rs : List Row) → Reordered (inOrder rs) rs
+unfolding inOrder
+in-order-reordered [] = empty
+in-order-reordered (r ∷ rs) = chain (insert-reordered r (inOrder rs)) (front r (in-order-reordered rs))
+
+-- strictly ascending
+pub order-rising : (rs : List Row) → Once rs → Rising by-code (inOrder rs)
+unfolding inOrder
+order-rising [] o = tt
+order-rising (r ∷ rs) o =
+    insert-rising by-code r (inOrder rs)
+    (λ b m e. absent rs (r .code) (o .0) b (mem-reordered (in-order-reordered rs) m) (order-eq (r .code) (b .code) e))
+    (order-rising rs (o .1))
+
+-- rows that ascend have no code twice, and are their own order
+pub rising-once : (rs : List Row) → Rising by-code rs → Once rs
+rising-once [] u = tt
+rising-once (r ∷ rs) u = (missing rs (r .code) (λ q m e. irrefl (r .code) (subst (λ c. Before (r .code) c) (sym e) (u .0 q m))), rising-once rs (u .1))
+
+pub order-own : (rs : List Row) → Rising by-code rs → inOrder rs ≡ rs
+unfolding inOrder
+order-own [] u = refl
+order-own (r ∷ rs) u = ap (insert by-code r) (order-own rs (u .1)) ∙ insert-ahead by-code r rs (u .0)
+
+-- the order of the rows does not matter
+pub order-same : {rs qs : List Row} → Reordered rs qs → Once rs → inOrder rs ≡ inOrder qs
+order-same {rs} {qs} p o =
+    rising-ext by-code (inOrder rs) (inOrder qs) (order-rising rs o) (order-rising qs (same-map p o .0))
+    (λ a m. mem-reordered (turned (in-order-reordered qs)) (mem-reordered p (mem-reordered (in-order-reordered rs) m)))
+    (λ a m. mem-reordered (turned (in-order-reordered rs)) (mem-reordered (turned p) (mem-reordered (in-order-reordered qs) m)))
+
+-- rows that ascend are the order of their reorderings
+pub order-is : {rs qs : List Row} → Reordered rs qs → Rising by-code qs → inOrder rs ≡ qs
+order-is {rs} {qs} p u = order-same p (same-map (turned p) (rising-once qs u) .0) ∙ order-own qs u
+
+-- a row more goes in at its place, a code less goes out
+pub order-put : (r : Row) (rs : List Row) → inOrder (r ∷ rs) ≡ insert by-code r (inOrder rs)
+unfolding inOrder
+order-put r rs = refl
+
+pub order-cut : (c : List ℕ) (rs : List Row) → Once rs → inOrder (cut c rs) ≡ cut c (inOrder rs)
+order-cut c rs o = order-is (cut-same c (turned (in-order-reordered rs))) (without-rising by-code c (inOrder rs) (order-rising rs o))
+
+-- ---- and of a prefix
 
 module _ (h : List ℕ → ℕ) (k v : ℕ) where
-  pub some-none : (rs : List Row) (c : List ℕ) → placeOf rs c ≡ none → placeOf (rowsOf h rs k v) c ≡ none
-  unfolding rowsOf
-  some-none [] c e = e
-  some-none (q ∷ rs) c e = keep-none (eqb (top k (h (q .code))) v) q rs (rowsOf h rs k v) c e (some-none rs c)
+  within : (rs : List Row) (r : Row) → List·Memᴰ r (rowsOf h rs k v) → List·Memᴰ r rs
+  within rs r m = prefix-row h rs k v r m .0
 
-  keep-once : (t : Bool) (q : Row) (m : List Row) → placeOf m (q .code) ≡ none → Once m → Once (keep t q m)
-  keep-once true q m e o = (e, o)
-  keep-once false q m e o = o
+  pub some-none : (rs : List Row) (c : List ℕ) → placeOf rs c ≡ none → placeOf (rowsOf h rs k v) c ≡ none
+  some-none rs c e = missing (rowsOf h rs k v) c (λ r m. absent rs c e r (within rs r m))
 
   pub some-once : (rs : List Row) → Once rs → Once (rowsOf h rs k v)
   unfolding rowsOf
   some-once [] o = tt
-  some-once (q ∷ rs) o = keep-once (eqb (top k (h (q .code))) v) q (rowsOf h rs k v) (some-none rs (q .code) (o .0)) (some-once rs (o .1))
+  some-once (q ∷ rs) o = go (eqb (top k (h (q .code))) v) (some-none rs (q .code) (o .0)) (some-once rs (o .1))
+    where
+      go : (t : Bool) → placeOf (rowsOf h rs k v) (q .code) ≡ none → Once (rowsOf h rs k v) → Once (keep t q (rowsOf h rs k v))
+      go true e i = (e, i)
+      go false e i = i
 
--- the first of two rows has another code than the second
-differ : (r q : Row) (rs : List Row) → placeOf (q ∷ rs) (r .code) ≡ none → order (r .code) (q .code) ≡ Ordering·eq → ⊥
-unfolding placeOf
-differ r q rs e f =
-    let x : some (q .place) ≡ none = sym (ap (λ o. by o (placeOf rs (r .code)) (some (q .place)) (placeOf rs (r .code))) f) ∙ e in
-    let n : _≡_ {A = ℕ} 0 1 = cc in omega arith
+  pub rising-prefix : (rs : List Row) → Rising by-code rs → Rising by-code (rowsOf h rs k v)
+  unfolding rowsOf
+  rising-prefix [] u = tt
+  rising-prefix (q ∷ rs) u = go (eqb (top k (h (q .code))) v) (λ r m. u .0 r (within rs r m)) (rising-prefix rs (u .1))
+    where
+      go : (t : Bool) → Ahead by-code q (rowsOf h rs k v) → Rising by-code (rowsOf h rs k v) → Rising by-code (keep t q (rowsOf h rs k v))
+      go true a i = (a, i)
+      go false a i = i
 
-pub order-same : {rs qs : List Row} → Reordered rs qs → Once rs → inOrder rs ≡ inOrder qs
-unfolding inOrder ins
-order-same empty o = refl
-order-same (front r p) o = ap (ins r) (order-same p (o .1))
-order-same (swap {rs = rs} {qs = qs} r q p) o =
-    ins-swap r q (differ r q rs (o .0)) (inOrder rs) ∙ ap (λ l. ins q (ins r l)) (order-same p (o .1 .1))
-order-same (chain p q) o = order-same p o ∙ order-same q (same-map p o .0)
+  -- ordered rows need no sort for a prefix
+  pub order-prefix : (rs : List Row) → Once rs → inOrder (rowsOf h rs k v) ≡ rowsOf h (inOrder rs) k v
+  order-prefix rs o = order-is (rows-same h k v (turned (in-order-reordered rs))) (rising-prefix (inOrder rs) (order-rising rs o))
 
 pub bucket-same : (h : List ℕ → ℕ) (rs qs : List Row) → Reordered rs qs → Once rs → (k v : ℕ) → inOrder (rowsOf h rs k v) ≡ inOrder (rowsOf h qs k v)
 bucket-same h rs qs p o k v = order-same (rows-same h k v p) (some-once h k v rs o)

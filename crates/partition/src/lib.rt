@@ -1,7 +1,8 @@
 // The partition worked out afresh, over any hash: definitions and laws; the top bits of a hash, and the bits that two hashes share.
 ghost use mathlib.Core.Path.{_≡_};
-ghost use Prim.Native.Nat.{_≤_};
+ghost use Prim.Native.Nat.{_≤_, _^_};
 ghost use Rattle.partition.specs.Bits.{top, shared};
+ghost use Rattle.partition.specs.Partition.{first, after};
 
 // The number of leading bits in which two hashes agree.
 pub fn shared_bits(a: u32, b: u32) -> u32
@@ -16,4 +17,21 @@ pub fn top_bits(x: u32, k: u32) -> u64
     ensures { λ r. ⌜ r ≡ top k x ⌝ }
 {
     ((x as u64) << k) >> 32
+}
+
+// A run of directory entries: from the first up to the one after the last.
+pub struct Run {
+    pub from: usize,
+    pub to: usize,
+}
+
+// The entries that the prefix of k bits of a hash calls for in a directory of depth d.
+pub fn run_of(x: u32, k: u32, d: u32) -> Run
+    requires { ⌜ (k ≤ d) × (d ≤ 12) ⌝ }
+    ensures { λ r. ⌜ (r .from ≡ first d (record { bits = k; value = top k x })) × (r .to ≡ after d (record { bits = k; value = top k x })) × (r .from ≤ r .to) × (r .to ≤ 2 ^ d) ⌝ }
+{
+    let v = top_bits(x, k) as usize;
+    let w = 1usize << (d - k);
+    let from = v * w;
+    Run { from, to: from + w }
 }

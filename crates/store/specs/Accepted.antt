@@ -6,6 +6,7 @@ use Prim.Native.Nat.{ℕ, suc, _+_, _-_, _*_, _/_, _%_, _^_, _≤_, _<_}
 use lib.ListN.{length}
 use Rattle.ground.specs.Lists.{byte}
 use Rattle.words.specs.Le.{le32}
+pub use Rattle.words.specs.Zeros.{Zero}
 use Rattle.ground.specs.Lists.{tab}
 use Rattle.page.specs.Page.{BucketPage, depth, count, code}
 use Rattle.partition.specs.Bits.{top}
@@ -36,10 +37,6 @@ pub record Page1 (S : Shape) (s : List ℕ) : Type 0 where
 pub record Bucket (h : List ℕ → ℕ) (g : List ℕ) : Type 0 where
   pub rules : BucketPage g
   pub share : (i j : ℕ) → i < count g → j < count g → top (depth g) (h (code g i)) ≡ top (depth g) (h (code g j))
-
--- a free page's: all zero
-abbrev pub Zero : List ℕ → Type 0
-Zero g = (k : ℕ) → byte g k ≡ 0
 
 -- entry i, i below 2^d, names the bucket whose prefix of length k equals the top k of i's d bits
 pub record Calls (d k v i : ℕ) : Type 0 where

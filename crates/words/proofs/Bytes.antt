@@ -1,16 +1,16 @@
 -- Laws of single bytes and of what the writes do. Assumes nothing.
-use Prim.Native.Nat.{ℕ, _+_, _*_, _-_, _/_, _%_, _≤_, _<_}
+use Prim.Native.Nat.{ℕ, zero, suc, _+_, _*_, _-_, _/_, _%_, _≤_, _<_}
 use mathlib.Core.Path.{_≡_, refl, sym, ap, _∙_}
 use mathlib.Core.Logic.{⊎-elim}
-use mathlib.Core.List.{List}
+use mathlib.Core.List.{List, [], _∷_, _++_}
 use native.Mathlib.Omega.{arith}
 use native.Mathlib.Nat.{add-zero, add-assoc}
-use lib.ListN.{length, getD, set, length-set}
+use lib.ListN.{length, getD, set, replicate, length-set}
 use lib.Seq.{getD-set-same, getD-set-other}
 use Rattle.ground.specs.Lists.{byte, part}
 use Rattle.ground.proofs.Sides.{side}
 use Rattle.ground.proofs.Parts.{part-is}
-use Rattle.words.specs.Le.{le16, le32}
+use Rattle.words.specs.Le.{le16, le32, bytes}
 use Rattle.words.specs.Moves.{Frame, Put16, Put32, Wrote, Span}
 
 pub byte-set : (p : List ℕ) (k v : ℕ) → k < length p → byte (set p k v) k ≡ v
@@ -143,3 +143,32 @@ le32-byte p q k j hp hq e h =
   where
     at : (x : ℕ) → k + j ≡ x → byte p x ≡ byte q x → byte p (k + j) ≡ byte q (k + j)
     at x f b = rw f b
+
+-- every number of the list is a byte
+pub record Small (l : List ℕ) : Type 0 where
+  pub at : (i : ℕ) → byte l i < 256
+
+pub small-append : {l m : List ℕ} → Small l → Small m → Small (l ++ m)
+small-append {l} {m} f g = record { at = go l (f .at) }
+  where
+    go : (l : List ℕ) → ((i : ℕ) → byte l i < 256) → (i : ℕ) → byte (l ++ m) i < 256
+    go [] f i = g .at i
+    go (x ∷ l) f zero = f zero
+    go (x ∷ l) f (suc i) = go l (λ j. f (suc j)) i
+
+pub small-bytes : (k n : ℕ) → Small (bytes k n)
+unfolding bytes
+small-bytes k n = record { at = go k n }
+  where
+    go : (k n i : ℕ) → byte (bytes k n) i < 256
+    go zero n i = omega arith
+    go (suc k) n zero = omega arith
+    go (suc k) n (suc i) = go k (n / 256) i
+
+pub small-zeros : (n : ℕ) → Small (replicate n 0)
+small-zeros n = record { at = go n }
+  where
+    go : (n i : ℕ) → byte (replicate n 0) i < 256
+    go zero i = omega arith
+    go (suc n) zero = omega arith
+    go (suc n) (suc i) = go n i

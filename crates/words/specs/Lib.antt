@@ -1,3 +1,4 @@
 pub mod Le
 pub mod Moves
 pub mod Codes
+pub mod Zeros

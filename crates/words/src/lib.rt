@@ -1,10 +1,12 @@
-// Bytes at offsets of a slice: little-endian numbers, a copy, a shift by four.
+// Bytes of a slice: little-endian numbers, copies and shifts, zeros, and the byte order of codes.
 ghost use mathlib.Core.Path.{_≡_};
 ghost use Prim.Native.Nat.{_+_, _≤_, _<_};
 ghost use lib.ListN.{length};
+ghost use Rattle.ground.specs.Says.{Says};
 ghost use Rattle.words.specs.Le.{le16, le32};
 ghost use Rattle.words.specs.Codes.{Ordered};
 ghost use Rattle.words.specs.Moves.{Put16, Put32, Copied, MovedDown, Cleared, MovedUp};
+ghost use Rattle.words.specs.Zeros.{Zero};
 
 // The 16 bits at k.
 pub fn get16(s: &[u8], k: usize) -> usize
@@ -24,6 +26,7 @@ pub fn get32(s: &[u8], k: usize) -> usize
     lo + 65536 * hi
 }
 
+// v in the 16 bits at k.
 pub fn put16(s: &mut [u8], k: usize, v: usize)
     requires { ⌜ (k + 2 ≤ length (now s)) × (v < 65536) ⌝ }
     ensures { λ _. ⌜ Put16 (now (s .entry)) k v (now (s .exit)) ⌝ }
@@ -32,6 +35,7 @@ pub fn put16(s: &mut [u8], k: usize, v: usize)
     s[k + 1] = (v / 256 % 256) as u8;
 }
 
+// v in the 32 bits at k.
 pub fn put32(s: &mut [u8], k: usize, v: usize)
     requires { ⌜ (k + 4 ≤ length (now s)) × (v < 4294967296) ⌝ }
     ensures { λ _. ⌜ Put32 (now (s .entry)) k v (now (s .exit)) ⌝ }
@@ -88,13 +92,26 @@ pub fn move_up(s: &mut [u8], a: usize, b: usize)
     }
 }
 
+// Whether every byte is zero. No way out before the end, so that it vectorises.
+pub fn all_zero(s: &[u8]) -> bool
+    ensures { λ r. ⌜ Says r (Zero (now (s .entry))) ⌝ }
+{
+    let mut acc: u8 = 0;
+    let mut i = 0;
+    while i < s.len() {
+        acc = acc | s[i];
+        i += 1;
+    }
+    acc == 0
+}
+
 pub enum Order {
     Less,
     Equal,
     Greater,
 }
 
-// Two codes in byte order.
+// Two codes in byte order: unsigned, a shorter code before its extensions.
 pub fn compare(a: &[u8], b: &[u8]) -> Order
     ensures { λ r. ⌜ Ordered (now (a .entry)) (now (b .entry)) r ⌝ }
 {

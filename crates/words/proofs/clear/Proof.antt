@@ -8,8 +8,6 @@ use Rattle.words.specs.Moves.{Span}
 use Rattle.words.proofs.Bytes.{span-none, span-up, span-down}
 use Rattle.words.proofs.clear.Statement.{statement}
 use Rattle.words.proofs.clear.Tie as tie
-use Rattle.words.proofs.clear.Reads as reads
-use Rattle.words.proofs.clear.Lts as lts
 
 abbrev Inv-loop : tie.InvT-loop
 Inv-loop s₀ a b i₀ s i = (a ≤ i) × (i ≤ b) × Span s₀ a i (λ x. 0) s × (b ≤ length s) × (length s ≡ length s₀)
@@ -17,33 +15,26 @@ Inv-loop s₀ a b i₀ s i = (a ≤ i) × (i ≤ b) × Span s₀ a i (λ x. 0) s
 abbrev μ-loop : tie.MeasureT-loop
 μ-loop s₀ a b i₀ s i = b - i
 
--- src/lib.rt:72:5
 loop-holds : tie.Need-loop-holds Inv-loop μ-loop
 loop-holds c = (omega arith, omega arith, span-none (c .args .s .now) (c .args .a) (λ x. 0), omega arith, refl)
 
--- src/lib.rt:73:9
 slice-write-s : tie.Need-slice-write-s Inv-loop μ-loop
 slice-write-s c = omega arith
 
--- src/lib.rt:74:9
 add-i : tie.Need-add-i Inv-loop μ-loop
 add-i c = omega arith
 
--- src/lib.rt:72:5
 loop-less : tie.Need-loop-less Inv-loop μ-loop
 loop-less c = omega arith
 
--- src/lib.rt:72:5
 loop-again : tie.Need-loop-again Inv-loop μ-loop
 loop-again c =
     let l = c .before .loop in
     (omega arith, omega arith, span-up 0 (l .inv .2) (omega arith) (omega arith) refl, simp length-set (omega arith), simp length-set (omega arith))
 
--- src/lib.rt:67:1
 same-length : tie.Need-same-length Inv-loop μ-loop
 same-length c = omega arith
 
--- src/lib.rt:67:1
 returns : tie.Need-returns Inv-loop μ-loop
 returns c =
     let l = c .before .loop in

@@ -10,8 +10,6 @@ use Rattle.words.specs.Codes.{Before}
 use Rattle.words.proofs.Orders.{differ-before}
 use Rattle.words.proofs.compare.Statement.{statement}
 use Rattle.words.proofs.compare.Tie as tie
-use Rattle.words.proofs.compare.Reads as reads
-use Rattle.words.proofs.compare.Lts as lts
 
 abbrev Inv-loop : tie.InvT-loop
 Inv-loop a b i₀ i = (i ≤ length a) × (i ≤ length b) × ((k : ℕ) → k < i → byte a k ≡ byte b k)
@@ -19,7 +17,6 @@ Inv-loop a b i₀ i = (i ≤ length a) × (i ≤ length b) × ((k : ℕ) → k <
 abbrev μ-loop : tie.MeasureT-loop
 μ-loop a b i₀ i = length a - i
 
--- src/lib.rt:30:5
 loop-holds : tie.Need-loop-holds Inv-loop μ-loop
 loop-holds c = (omega arith, omega arith, λ k h. absurd (omega arith))
 
@@ -34,43 +31,33 @@ right-first : (c : tie.At-loop Inv-loop μ-loop) → c .loop .i < length (c .bef
     → Before (c .before .args .b .now) (c .before .args .a .now)
 right-first c h l = differ-before _ _ (record { at = c .loop .i; in-s = c .loop .inv .1; in-t = h; agree = λ k m. sym (c .loop .inv .2 k m); less = l })
 
--- src/lib.rt:32:13
 returns : tie.Need-returns Inv-loop μ-loop
 returns c = right-first (c .before .before) (c .before .loop-test .taken) (λ h. omega arith)
 
--- src/lib.rt:34:17
 shared-slice-read-x : tie.Need-shared-slice-read-x Inv-loop μ-loop
 shared-slice-read-x c = omega arith
 
--- src/lib.rt:35:17
 shared-slice-read-y : tie.Need-shared-slice-read-y Inv-loop μ-loop
 shared-slice-read-y c = omega arith
 
--- src/lib.rt:37:13
 returns-2 : tie.Need-returns-2 Inv-loop μ-loop
 returns-2 c = left-first (c .before .before .before .before .before) (omega arith) (λ h. c .if2 .taken)
 
--- src/lib.rt:40:13
 returns-3 : tie.Need-returns-3 Inv-loop μ-loop
 returns-3 c = right-first (c .before .before .before .before .before .before) (omega arith) (λ h. c .if3 .taken)
 
--- src/lib.rt:42:9
 add-i : tie.Need-add-i Inv-loop μ-loop
 add-i c = omega arith
 
--- src/lib.rt:30:5
 loop-less : tie.Need-loop-less Inv-loop μ-loop
 loop-less c = omega arith
 
--- src/lib.rt:30:5
 loop-again : tie.Need-loop-again Inv-loop μ-loop
 loop-again c = (omega arith, omega arith, below-more _ _ (c .before .before .before .before .before .before .loop .inv .2) (omega arith))
 
--- src/lib.rt:45:9
 returns-4 : tie.Need-returns-4 Inv-loop μ-loop
 returns-4 c = left-first (c .before .before) (omega arith) (λ h. omega arith)
 
--- src/lib.rt:26:1
 returns-5 : tie.Need-returns-5 Inv-loop μ-loop
 returns-5 c =
     let l = c .before .before .loop in

@@ -1,3 +1,4 @@
+-- `words::copy_at` meets its contract. Assumes nothing.
 use Prim.Native.Nat.{ℕ, _+_, _-_, _≤_}
 use mathlib.Core.Path.{_≡_, refl}
 use native.Mathlib.Omega.{arith}
@@ -8,8 +9,6 @@ use Rattle.words.specs.Moves.{Wrote}
 use Rattle.words.proofs.Bytes.{wrote-none, wrote-more}
 use Rattle.words.proofs.copy_at.Statement.{statement}
 use Rattle.words.proofs.copy_at.Tie as tie
-use Rattle.words.proofs.copy_at.Reads as reads
-use Rattle.words.proofs.copy_at.Lts as lts
 
 abbrev Inv-loop : tie.InvT-loop
 Inv-loop dst₀ at src i₀ dst i = (i ≤ length src) × (at + length src ≤ length dst₀) × Wrote dst₀ at i (λ j. byte src j) dst × (length dst ≡ length dst₀)
@@ -17,41 +16,32 @@ Inv-loop dst₀ at src i₀ dst i = (i ≤ length src) × (at + length src ≤ l
 abbrev μ-loop : tie.MeasureT-loop
 μ-loop dst₀ at src i₀ dst i = length src - i
 
--- src/lib.rt:48:5
 loop-holds : tie.Need-loop-holds Inv-loop μ-loop
 loop-holds c = (omega arith, c .pre, wrote-none (c .args .dst .now) (c .args .at) (λ j. byte (c .args .src .now) j), refl)
 
--- src/lib.rt:49:23
 shared-slice-read-dst : tie.Need-shared-slice-read-dst Inv-loop μ-loop
 shared-slice-read-dst c = omega arith
 
--- src/lib.rt:49:13
 add-dst : tie.Need-add-dst Inv-loop μ-loop
 add-dst c = omega arith
 
--- src/lib.rt:49:9
 slice-write-dst : tie.Need-slice-write-dst Inv-loop μ-loop
 slice-write-dst c = omega arith
 
--- src/lib.rt:50:9
 add-i : tie.Need-add-i Inv-loop μ-loop
 add-i c = omega arith
 
--- src/lib.rt:48:5
 loop-less : tie.Need-loop-less Inv-loop μ-loop
 loop-less c = omega arith
 
--- src/lib.rt:48:5
 loop-again : tie.Need-loop-again Inv-loop μ-loop
 loop-again c =
     let l = c .before .before .loop in
     (omega arith, l .inv .1, wrote-more (byte (c .before .before .before .args .src .now) (l .i)) (l .inv .2) (omega arith) refl, simp length-set (l .inv .3))
 
--- src/lib.rt:43:1
 same-length : tie.Need-same-length Inv-loop μ-loop
 same-length c = omega arith
 
--- src/lib.rt:43:1
 returns : tie.Need-returns Inv-loop μ-loop
 returns c =
     let l = c .before .loop in

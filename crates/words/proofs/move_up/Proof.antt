@@ -8,8 +8,6 @@ use Rattle.words.specs.Moves.{Span}
 use Rattle.words.proofs.Bytes.{span-none, span-up, span-down}
 use Rattle.words.proofs.move_up.Statement.{statement}
 use Rattle.words.proofs.move_up.Tie as tie
-use Rattle.words.proofs.move_up.Reads as reads
-use Rattle.words.proofs.move_up.Lts as lts
 
 abbrev Inv-loop : tie.InvT-loop
 Inv-loop s₀ a b i₀ s i = (a ≤ i) × (i ≤ b) × Span s₀ i b (λ x. byte s₀ (x - 4)) s × (b ≤ length s) × (length s ≡ length s₀)
@@ -17,31 +15,24 @@ Inv-loop s₀ a b i₀ s i = (a ≤ i) × (i ≤ b) × Span s₀ i b (λ x. byte
 abbrev μ-loop : tie.MeasureT-loop
 μ-loop s₀ a b i₀ s i = i - a
 
--- src/lib.rt:84:5
 loop-holds : tie.Need-loop-holds Inv-loop μ-loop
 loop-holds c = (omega arith, omega arith, span-none (c .args .s .now) (c .args .b) (λ x. byte (c .args .s .now) (x - 4)), omega arith, refl)
 
--- src/lib.rt:85:9
 sub-i : tie.Need-sub-i Inv-loop μ-loop
 sub-i c = omega arith
 
--- src/lib.rt:86:18
 sub-s : tie.Need-sub-s Inv-loop μ-loop
 sub-s c = omega arith
 
--- src/lib.rt:86:16
 slice-read-s : tie.Need-slice-read-s Inv-loop μ-loop
 slice-read-s c = omega arith
 
--- src/lib.rt:86:9
 slice-write-s : tie.Need-slice-write-s Inv-loop μ-loop
 slice-write-s c = omega arith
 
--- src/lib.rt:84:5
 loop-less : tie.Need-loop-less Inv-loop μ-loop
 loop-less c = omega arith
 
--- src/lib.rt:84:5
 loop-again : tie.Need-loop-again Inv-loop μ-loop
 loop-again c =
     let l = c .before .before .loop in
@@ -49,11 +40,9 @@ loop-again c =
     let w = rw (← e) at (l .inv .2) in
     (omega arith, omega arith, span-down (byte (l .s) (l .i - 1 - 4)) w (omega arith) (omega arith) (l .inv .2 .below (l .i - 1 - 4) (omega arith)), simp length-set (omega arith), simp length-set (omega arith))
 
--- src/lib.rt:79:1
 same-length : tie.Need-same-length Inv-loop μ-loop
 same-length c = omega arith
 
--- src/lib.rt:79:1
 returns : tie.Need-returns Inv-loop μ-loop
 returns c =
     let l = c .before .loop in

@@ -7,8 +7,6 @@ use Rattle.words.specs.Le.{le16}
 use Rattle.words.proofs.Bytes.{byte-set, byte-other, frame-set, frame-join}
 use Rattle.words.proofs.put16.Statement.{statement}
 use Rattle.words.proofs.put16.Tie as tie
-use Rattle.words.proofs.put16.Reads as reads
-use Rattle.words.proofs.put16.Lts as lts
 
 cast-s : tie.Need-cast-s
 cast-s c = search needs

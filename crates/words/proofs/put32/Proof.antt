@@ -1,3 +1,4 @@
+-- `words::put32` meets its contract. Assumes nothing.
 use Prim.Native.Nat.{ℕ, _+_}
 use native.Mathlib.Omega.{arith}
 use borrow.Author.Needs.{needs}
@@ -5,27 +6,19 @@ use Rattle.words.specs.Le.{le32}
 use Rattle.words.proofs.Bytes.{frame-join, le16-below}
 use Rattle.words.proofs.put32.Statement.{statement}
 use Rattle.words.proofs.put32.Tie as tie
-use Rattle.words.proofs.put32.Reads as reads
-use Rattle.words.proofs.put32.Lts as lts
-use Rattle.words.proofs.put16.Reads as put16-reads
 
--- src/lib.rt:38:5
 put16-requires : tie.Need-put16-requires
 put16-requires c κs = search needs
 
--- src/lib.rt:39:14
 add-put16 : tie.Need-add-put16
 add-put16 c = search needs
 
--- src/lib.rt:39:5
 put16-requires-2 : tie.Need-put16-requires-2
 put16-requires-2 c κs = search needs
 
--- src/lib.rt:34:1
 same-length : tie.Need-same-length
 same-length c = search needs
 
--- src/lib.rt:34:1
 returns : tie.Need-returns
 unfolding le32
 returns c =

@@ -1,0 +1,57 @@
+// New pages, and pages packed.
+ghost use mathlib.Core.Path.{_≡_};
+ghost use Prim.Native.Nat.{_+_, _≤_, _<_};
+ghost use lib.ListN.{length};
+ghost use Rattle.page.specs.Page.{Slotted, count};
+ghost use Rattle.page.specs.Packed.{Fresh, PackedTo, Packed, Startable, Started};
+use super::insert::insert_at_frontier;
+use super::insert::set_head;
+use super::read::extent_of;
+
+// A page with no rows, whatever the bytes held.
+pub fn new_page(page: &mut [u8], d: u8)
+    requires { ⌜ (16 ≤ length (now page)) × (length (now page) ≤ 16384) ⌝ }
+    ensures { λ _. ⌜ Fresh (now (page .entry)) d (now (page .exit)) ⌝ }
+{
+    let size = page.len();
+    words::clear(page, 0, size);
+    page[0] = 1;
+    page[1] = d;
+    set_head(page, 0, 8, size - 8);
+}
+
+// Row i of a page goes behind the rows of another, which has the i rows before it.
+fn append(page: &mut [u8], from: &[u8], i: usize)
+    requires { ⌜ Slotted (now from) × PackedTo (now from) i (now page) × (i < count (now from)) ⌝ }
+    ensures { λ _. ⌜ PackedTo (now (from .entry)) (i + 1) (now (page .exit)) ⌝ }
+{
+    let e = extent_of(from, i);
+    let o = e.off;
+    let m = o + 8;
+    let t = o + e.len;
+    insert_at_frontier(page, i, &from[m..t], &from[o..m]);
+}
+
+// The rows of a page, packed.
+pub fn pack_into(page: &mut [u8], from: &[u8])
+    requires { ⌜ Slotted (now from) × (length (now page) ≡ length (now from)) ⌝ }
+    ensures { λ _. ⌜ Packed (now (from .entry)) (now (page .exit)) ⌝ }
+{
+    let n = words::get16(from, 2);
+    let d = from[1];
+    new_page(page, d);
+    let mut i = 0;
+    while i < n {
+        append(page, from, i);
+        i += 1;
+    }
+}
+
+// A page of one row.
+pub fn start_page(page: &mut [u8], d: u8, key: &[u8], place: &[u8])
+    requires { ⌜ Startable (now page) (now key) (now place) ⌝ }
+    ensures { λ _. ⌜ Started (now (page .entry)) d (now (key .entry)) (now (place .entry)) (now (page .exit)) ⌝ }
+{
+    new_page(page, d);
+    insert_at_frontier(page, 0, key, place);
+}

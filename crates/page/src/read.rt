@@ -1,0 +1,57 @@
+// Where records lie, and where a code stands.
+ghost use mathlib.Core.Path.{_≡_};
+ghost use Prim.Native.Nat.{_+_, _*_, _≤_, _<_};
+ghost use lib.ListN.{length};
+ghost use Rattle.words.specs.Codes.{Ordered};
+ghost use Rattle.page.specs.Page.{Slotted, off, len, code, count};
+ghost use Rattle.page.specs.Found.{FoundIn};
+use crate::Extent;
+use crate::Found;
+use words::Order;
+
+// Where slot i says that its record lies.
+pub fn extent_of(page: &[u8], i: usize) -> Extent
+    requires { ⌜ (4 * (i + 1) ≤ length (now page)) × (length (now page) ≤ 16384) ⌝ }
+    ensures { λ r. ⌜ (r .off ≡ off (now (page .entry)) i) × (r .len ≡ len (now (page .entry)) i) ⌝ }
+{
+    let w = words::get32(page, page.len() - 4 * (i + 1));
+    Extent {
+        off: w % 16384,
+        len: w / 16384 % 16384,
+    }
+}
+
+// Slot i's code against a code.
+pub fn compare_slot(page: &[u8], i: usize, key: &[u8]) -> Order
+    requires { ⌜ Slotted (now page) × (i < count (now page)) ⌝ }
+    ensures { λ r. ⌜ Ordered (code (now (page .entry)) i) (now (key .entry)) r ⌝ }
+{
+    let e = extent_of(page, i);
+    let from = e.off + 8;
+    let to = e.off + e.len;
+    words::compare(&page[from..to], key)
+}
+
+// Where a code stands, or where it belongs.
+pub fn find_code(page: &[u8], key: &[u8]) -> Found
+    requires { ⌜ Slotted (now page) ⌝ }
+    ensures { λ r. ⌜ FoundIn (now (page .entry)) (now (key .entry)) r ⌝ }
+{
+    let n = words::get16(page, 2);
+    let mut i = 0;
+    while i < n {
+        let o = compare_slot(page, i, key);
+        match o {
+            Order::Less => {
+                i += 1;
+            }
+            Order::Equal => {
+                return Found::At(i);
+            }
+            Order::Greater => {
+                return Found::Absent(i);
+            }
+        }
+    }
+    Found::Absent(n)
+}
