@@ -16,7 +16,9 @@ use Rattle.page.specs.Page.{Record}
 use Rattle.partition.specs.Bits.{top}
 use Rattle.partition.specs.Partition.{Shape, Row, need, needs, keep, rowsOf, IsBucket, Fine, Reordered, empty, front, swap, chain}
 use Rattle.partition.specs.Listing.{by, insert, without, inOrder, placeOf, Once}
+use Rattle.partition.proofs.Rising.{insert-map}
 use Rattle.partition.proofs.Rows.{load, to-load, of-load}
+use Rattle.partition.proofs.Sorted.{by-code}
 use Rattle.partition.proofs.Tree.{Bucket}
 use Rattle.store.specs.Pages.{Page, free, bucket, asRow, rowsIn}
 use Rattle.store.specs.Moves.{find, holds, placeOn, overwriteOn, overwritten}
@@ -49,23 +51,10 @@ module _ (f : Row → Row) (same : (r : Row) → f r .code ≡ r .code) where
   map-needs [] = refl
   map-needs (r ∷ l) = ap₂ (λ (c : List ℕ) (n : ℕ). 12 + length c + n) (same r) (map-needs l)
 
-  map-insert : (r : Row) (l : List Row) → insert (λ q. q .code) (f r) (map f l) ≡ map f (insert (λ q. q .code) r l)
-  unfolding insert
-  map-insert r [] = refl
-  map-insert r (q ∷ l) =
-      ap₂ (λ c d. by (order c d) (f r ∷ f q ∷ map f l) (f r ∷ f q ∷ map f l) (f q ∷ insert (λ q. q .code) (f r) (map f l))) (same r) (same q)
-      ∙ go (order (r .code) (q .code)) (map-insert r l)
-    where
-      go : (o : Ordering) → insert (λ q. q .code) (f r) (map f l) ≡ map f (insert (λ q. q .code) r l)
-          → by o (f r ∷ f q ∷ map f l) (f r ∷ f q ∷ map f l) (f q ∷ insert (λ q. q .code) (f r) (map f l)) ≡ map f (by o (r ∷ q ∷ l) (r ∷ q ∷ l) (q ∷ insert (λ q. q .code) r l))
-      go Ordering·lt i = refl
-      go Ordering·eq i = refl
-      go Ordering·gt i = ap (λ t. f q ∷ t) i
-
   map-order : (l : List Row) → inOrder (map f l) ≡ map f (inOrder l)
   unfolding inOrder
   map-order [] = refl
-  map-order (r ∷ l) = ap (insert (λ q. q .code) (f r)) (map-order l) ∙ map-insert r (inOrder l)
+  map-order (r ∷ l) = ap (insert by-code (f r)) (map-order l) ∙ sym (insert-map by-code by-code f same r (inOrder l))
 
   map-none : (l : List Row) (c : List ℕ) → placeOf l c ≡ none → placeOf (map f l) c ≡ none
   unfolding placeOf

@@ -17,15 +17,15 @@ use Rattle.words.proofs.Orders.{order-refl}
 use Rattle.page.specs.Page.{Record}
 use Rattle.partition.specs.Bits.{top}
 use Rattle.partition.specs.Partition.{Shape, Row, Prefix, needs, rowsOf, IsBucket, Fine, Reordered, buckets}
-use Rattle.partition.specs.Listing.{by, insert, without, inOrder, placeOf}
+use Rattle.partition.specs.Listing.{by, without, inOrder, placeOf}
 use Rattle.partition.proofs.Bits.{top-step}
 use Rattle.partition.proofs.Laws.{Shallowest, no-overlap, bucket-shallowest}
 use Rattle.partition.proofs.Maps.{cut, cut-none, cut-same, cut-front, placed}
-use Rattle.partition.proofs.Members.{in-order-reordered}
 use Rattle.partition.proofs.Path.{fit-above}
 use Rattle.partition.proofs.Reorders.{turned}
 use Rattle.partition.proofs.Rows.{load, load-mono, load-on, rows-on, test, fails}
-use Rattle.partition.proofs.Sorted.{same-map, some-none, some-once}
+use Rattle.partition.proofs.Sorted.{by-code, same-map, some-none, some-once, order-cut}
+use Rattle.partition.proofs.Rising.{without-map}
 use Rattle.partition.proofs.Store.{home, fine-drop}
 use Rattle.partition.proofs.Tree.{pfx}
 use Rattle.store.specs.Pages.{Page, free, bucket, asRow, depthOn, rowsIn}
@@ -38,34 +38,10 @@ use Rattle.store.proofs.Known.{Known, known}
 use Rattle.store.proofs.Within.{within-on, share-fewer}
 use Rattle.store.proofs.Fewer.{makes-page, at-least, Left, cleared, filled, Fewer, fewer-shows}
 
--- ---- a record goes, a row goes
-
-pub rows-without : (c : List ℕ) (rs : List Record) → map asRow (without (λ q. q .code) c rs) ≡ cut c (map asRow rs)
+-- a row's own code goes
+cut-own : (r : Row) (l : List Row) → placeOf l (r .code) ≡ none → cut (r .code) (r ∷ l) ≡ l
 unfolding without
-rows-without c [] = refl
-rows-without c (q ∷ rs) = go (order c (q .code)) (rows-without c rs)
-  where
-    go : (o : Ordering) → map asRow (without (λ q. q .code) c rs) ≡ cut c (map asRow rs)
-        → map asRow (by o (q ∷ without (λ q. q .code) c rs) (without (λ q. q .code) c rs) (q ∷ without (λ q. q .code) c rs)) ≡ by o (asRow q ∷ cut c (map asRow rs)) (cut c (map asRow rs)) (asRow q ∷ cut c (map asRow rs))
-    go Ordering·lt e = ap (λ l. asRow q ∷ l) e
-    go Ordering·eq e = e
-    go Ordering·gt e = ap (λ l. asRow q ∷ l) e
-
--- where a code goes that was put in
-cut-insert : (r : Row) (l : List Row) → placeOf l (r .code) ≡ none → cut (r .code) (insert (λ q. q .code) r l) ≡ l
-unfolding insert without placeOf
-cut-insert r [] e = ap (λ o. by o (r ∷ []) [] (r ∷ [])) (order-refl (r .code))
-cut-insert r (q ∷ l) e = go (order (r .code) (q .code)) refl (cut-insert r l) e
-  where
-    first : cut (r .code) (r ∷ q ∷ l) ≡ cut (r .code) (q ∷ l)
-    first = ap (λ o. by o (r ∷ cut (r .code) (q ∷ l)) (cut (r .code) (q ∷ l)) (r ∷ cut (r .code) (q ∷ l))) (order-refl (r .code))
-
-    go : (o : Ordering) → order (r .code) (q .code) ≡ o → (placeOf l (r .code) ≡ none → cut (r .code) (insert (λ q. q .code) r l) ≡ l)
-        → by o (placeOf l (r .code)) (some (q .place)) (placeOf l (r .code)) ≡ none
-        → cut (r .code) (by o (r ∷ q ∷ l) (r ∷ q ∷ l) (q ∷ insert (λ q. q .code) r l)) ≡ q ∷ l
-    go Ordering·lt p i z = first ∙ cut-none (r .code) (q ∷ l) e
-    go Ordering·eq p i z = absurd (let n : _≡_ {A = ℕ} 0 1 = cc in omega arith)
-    go Ordering·gt p i z = ap (λ o. by o (q ∷ cut (r .code) (insert (λ q. q .code) r l)) (cut (r .code) (insert (λ q. q .code) r l)) (q ∷ cut (r .code) (insert (λ q. q .code) r l))) p ∙ ap (λ t. q ∷ t) (i z)
+cut-own r l e = ap (λ o. by o (r ∷ cut (r .code) l) (cut (r .code) l) (r ∷ cut (r .code) l)) (order-refl (r .code)) ∙ cut-none (r .code) l e
 
 -- ---- the three cases, with r the row and W the rows left
 
@@ -153,14 +129,13 @@ module _ (S : Shape) (h : List ℕ → ℕ) (small : (c : List ℕ) → h c < 2 
 
     -- rows left in the page's own prefix: the record goes
     rows-left : j ≡ its .depth → map asRow (without (λ q. q .code) (r .code) (its .records)) ≡ inOrder (rowsOf h W j (top j x))
-    unfolding inOrder
     rows-left d =
-        rows-without (r .code) (its .records) ∙ ap (cut (r .code)) (its-page .ordered)
+        without-map (λ q. q .code) by-code asRow (λ q. refl) (r .code) (its .records) ∙ ap (cut (r .code)) (its-page .ordered)
         ∙ ap (λ v. cut (r .code) (inOrder (rowsOf h (r ∷ W) (its .depth) v))) (its .begins)
         ∙ ap (λ k. cut (r .code) (inOrder (rowsOf h (r ∷ W) k (top k x)))) (sym d)
-        ∙ ap (λ l. cut (r .code) (inOrder l)) (rows-on h r W j)
-        ∙ cut-insert r (inOrder (rowsOf h W j (top j x)))
-        (sym (same-map (turned (in-order-reordered (rowsOf h W j (top j x)))) (some-once h j (top j x) W (s .once .1)) .1 (r .code)) ∙ some-none h j (top j x) W (r .code) (s .once .0))
+        ∙ sym (order-cut (r .code) (rowsOf h (r ∷ W) j (top j x)) (some-once h j (top j x) (r ∷ W) (s .once)))
+        ∙ ap (λ l. inOrder (cut (r .code) l)) (rows-on h r W j)
+        ∙ ap inOrder (cut-own r (rowsOf h W j (top j x)) (some-none h j (top j x) W (r .code) (s .once .0)))
 
     pub loses : j ≡ its .depth → Then (set gs here (clearedOn (r .code) (getD gs here free)))
     loses d =
