@@ -15,3 +15,4 @@ pub mod Sorted
 pub mod Maps
 pub mod Rising
 pub mod Members
+pub mod Below

@@ -9,6 +9,9 @@ pub mod Fewer
 pub mod RemoveShows
 pub mod RemoveCases
 pub mod Rooms
+pub mod Written
+pub mod PutShows
+pub mod PutKept
 pub mod Unique
 pub mod Settled
 pub mod Kept
@@ -16,6 +19,7 @@ pub mod Format
 pub mod Same
 pub mod Sorted
 pub mod Plan
+pub mod PutRows
 pub mod Over
 pub mod OverShows
 pub mod Owner

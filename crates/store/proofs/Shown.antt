@@ -14,7 +14,7 @@ use Rattle.partition.specs.Bits.{top}
 use Rattle.partition.specs.Partition.{Shape, Row, Prefix, IsBucket, Fine, Reordered, chain, rowsOf, buckets, orElse}
 use Rattle.partition.specs.Listing.{inOrder, Once}
 use Rattle.partition.proofs.Tree.{pfx}
-use Rattle.partition.proofs.Rows.{to-load, of-load, test, listed}
+use Rattle.partition.proofs.Rows.{test, same-bucket, listed}
 use Rattle.partition.proofs.Laws.{no-overlap, held, load-reordered}
 use Rattle.partition.proofs.Sum.{of-prefix, head-of}
 use Rattle.partition.proofs.Store.{every-row, fine-reordered, not-deeper}
@@ -210,13 +210,7 @@ module _ (S : Shape) (h : List ℕ → ℕ) where
   -- ---- the order of the rows does not matter
 
   pub bucket-reordered : {rs qs : List Row} → Reordered rs qs → (k v : ℕ) → IsBucket S h rs k v → IsBucket S h qs k v
-  bucket-reordered {rs} {qs} p k v b =
-      let l = to-load S h rs k v b in
-      of-load S h qs k v (record {
-        pos = rw (← load-reordered S h p k v) (l .pos);
-        fit = rw (← load-reordered S h p k v) (l .fit);
-        split = λ j e. rw (← load-reordered S h p j (v / 2)) (l .split j e);
-      })
+  bucket-reordered {rs} {qs} p k v = same-bucket S h rs qs k v (load-reordered S h p k v) (λ j e. load-reordered S h p j (v / 2))
 
   pub shows-reordered : {rows qs : List Row} (gs : List Page) → Reordered rows qs → Shows S h rows gs → Shows S h qs gs
   shows-reordered {rows} {qs} gs p s = record {
