@@ -18,7 +18,7 @@ use Rattle.partition.specs.Listing.{inOrder}
 use Rattle.partition.proofs.Bits.{top-step}
 use Rattle.partition.proofs.Frame.{dec-under}
 use Rattle.partition.proofs.Laws.{Shallowest, outside, inside}
-use Rattle.partition.proofs.Members.{mem-reordered, in-order-reordered}
+use Rattle.partition.proofs.Members.{mem-reordered, in-order-reordered, absent}
 use Rattle.partition.proofs.Path.{fit-above}
 use Rattle.partition.proofs.Reorders.{length-same}
 use Rattle.partition.proofs.Rows.{load, load-mono, load-on, to-load}
@@ -28,7 +28,9 @@ use Rattle.partition.proofs.Tree.{Under}
 use Rattle.store.specs.Pages.{Page, free, bucket, asRow}
 use Rattle.store.specs.Moves.{pick, within}
 use Rattle.store.proofs.Shows.{prefixOn, OnPage, Holding, Shows}
-use Rattle.store.proofs.Shown.{free-not, shows-of, paged}
+use Rattle.store.proofs.Shown.{free-not, page-row, shows-of, paged}
+use Rattle.store.proofs.Rooms.{bucket-one}
+use Rattle.store.proofs.PutKept.{Kept, same-prefix}
 use Rattle.store.proofs.Within.{within-under}
 
 not-true : (b : Bool) → (b ≡ true → ⊥) → b ≡ false
@@ -142,3 +144,17 @@ module _ (S : Shape) (h : List ℕ → ℕ) where
         apart = λ i i′ k rs qs a b e. apart i i′ k rs qs e (now i k rs a) (now i′ k qs b);
         all = λ k v b _. all k v b;
       }
+
+      -- a bucket whose depth and rows come out the same keeps its page and its records
+      pub fewer-kept : Kept gs hs
+      fewer-kept p q k rs qs a b e = go (now q k qs b)
+        where
+          v : prefixOn h k rs ≡ prefixOn h k qs
+          v = same-prefix h k rs qs e
+
+          go : Now q k qs → (p ≡ q) × (rs ≡ qs)
+          go (same _ c _) = let z : p ≡ q = s .apart p q k rs qs a c v in (z, bucket-one (sym a ∙ subst (λ i. Holding gs i k qs) (sym z) c) .1)
+          go (the-one _ d o t) =
+              let u : top k x ≡ prefixOn h k rs = ap (λ i. top i x) d ∙ sym t ∙ sym v in
+              let l : List·Memᴰ r (map asRow rs) = page-row S h (r ∷ W) k rs (s .page p k rs a) r .1 (List·Memᴰ·head refl, u) in
+              absurd (absent W (r .code) (s .once .0) r (page-row S h W k qs o r .0 (subst (λ y. List·Memᴰ r y) e l) .0) refl)

@@ -22,4 +22,5 @@ pub mod Plan
 pub mod PutRows
 pub mod Over
 pub mod OverShows
+pub mod OverKept
 pub mod Owner

@@ -112,7 +112,7 @@ module _ (S : Shape) (h : List ℕ → ℕ) (r : Row) where
       let a : Bucket (S .capacity) (load h rows) k v = to-load S h rows k v b in
       of-load S h qs k v (record { pos = rw e at (a .pos); fit = rw e at (a .fit); split = λ j q. subst (λ n. S .capacity < n) (e j (v / 2)) (a .split j q) })
 
-  prefix-over : (k : ℕ) (rs : List Record) → prefixOn h k (map (placeOn r) rs) ≡ prefixOn h k rs
+  pub prefix-over : (k : ℕ) (rs : List Record) → prefixOn h k (map (placeOn r) rs) ≡ prefixOn h k rs
   prefix-over k rs = ap (λ c. top k (h c)) (first-over r rs)
 
   load-over : (rows : List Row) (k v : ℕ) → load h rows k v ≡ load h (map (over r) rows) k v

@@ -33,10 +33,11 @@ use Rattle.store.specs.Moves.{pick, find, within, holds, bucketOf, packF
 use Rattle.store.proofs.Shows.{firstCode, prefixOn, OnPage, Holding, Shows}
 use Rattle.store.proofs.Shown.{within-pages, find-passes, find-least, shows-reordered}
 use Rattle.store.proofs.Records.{rows-packed}
+use Rattle.store.proofs.PutKept.{Kept}
 use Rattle.store.proofs.BucketOf.{shallowest-bucket, bucket-of-some, bucket-of-none}
 use Rattle.store.proofs.Known.{Known, known}
 use Rattle.store.proofs.Within.{within-on, share-fewer}
-use Rattle.store.proofs.Fewer.{makes-page, at-least, Left, cleared, filled, Fewer, fewer-shows}
+use Rattle.store.proofs.Fewer.{makes-page, at-least, Left, cleared, filled, Fewer, fewer-shows, fewer-kept}
 
 -- a row's own code goes
 cut-own : (r : Row) (l : List Row) → placeOf l (r .code) ≡ none → cut (r .code) (r ∷ l) ≡ l
@@ -189,14 +190,27 @@ module _ (S : Shape) (h : List ℕ → ℕ) (small : (c : List ℕ) → h c < 2 
           subst (λ o. Then (removeOn h gs (r .code) W here o)) (sym (bucket-of-none S h W x j f small left-fine .1 z)) (clears z)
 
 -- REMOVE of a known code
-pub remove-shows : (S : Shape) (h : List ℕ → ℕ) → ((c : List ℕ) → h c < 2 ^ 32) → (rows : List Row) (gs : List Page) (c old : List ℕ)
-    → Shows S h rows gs → placeOf rows c ≡ some old → Shows S h (without (λ q. q .code) c rows) (removed S h gs c)
-unfolding removed
-remove-shows S h small rows gs c old s e =
-    let held : Shows S h (rowsIn gs) gs = shows-reordered S h gs (turned (s .same)) s in
-    let there : placeOf (rowsIn gs) c ≡ some old = same-map (s .same) (held .once) .1 c ∙ e in
-    let r : Row = record { code = c; place = old } in
-    let front : Shows S h (r ∷ cut c (rowsIn gs)) gs = shows-reordered S h gs (cut-front c old (rowsIn gs) (held .once) there) held in
-    let j = home S h (cut c (rowsIn gs)) (fine-drop S h r (cut c (rowsIn gs)) (front .fine)) (h c) in
-    let t = removes S h small r (cut c (rowsIn gs)) gs front (j .0) (j .2) in
-    shows-reordered S h (removed S h gs c) (cut-same c (s .same)) (fewer-shows S h small r (cut c (rowsIn gs)) gs front (j .0) (j .2) (t .0) (removed S h gs c) (t .1))
+module _ (S : Shape) (h : List ℕ → ℕ) (small : (c : List ℕ) → h c < 2 ^ 32) (rows : List Row) (gs : List Page) (c old : List ℕ) (s : Shows S h rows gs) (e : placeOf rows c ≡ some old) where
+  held : Shows S h (rowsIn gs) gs
+  held = shows-reordered S h gs (turned (s .same)) s
+
+  abbrev row : Row
+  row = record { code = c; place = old }
+
+  front : Shows S h (row ∷ cut c (rowsIn gs)) gs
+  front = shows-reordered S h gs (cut-front c old (rowsIn gs) (held .once) (same-map (s .same) (held .once) .1 c ∙ e)) held
+
+  depth : (j : ℕ) × (j ≤ S .deepest) × Shallowest S h (cut c (rowsIn gs)) (h c) j
+  depth = home S h (cut c (rowsIn gs)) (fine-drop S h row (cut c (rowsIn gs)) (front .fine)) (h c)
+
+  made : Then S h small row (cut c (rowsIn gs)) gs front (depth .0) (depth .2) (removed S h gs c)
+  unfolding removed
+  made = removes S h small row (cut c (rowsIn gs)) gs front (depth .0) (depth .2)
+
+  pub remove-shows : Shows S h (without (λ q. q .code) c rows) (removed S h gs c)
+  remove-shows =
+      shows-reordered S h (removed S h gs c) (cut-same c (s .same)) (fewer-shows S h small row (cut c (rowsIn gs)) gs front (depth .0) (depth .2) (made .0) (removed S h gs c) (made .1))
+
+  -- a bucket whose depth and rows come out the same keeps its page and its records
+  pub remove-kept : Kept gs (removed S h gs c)
+  remove-kept = fewer-kept S h small row (cut c (rowsIn gs)) gs front (depth .0) (depth .2) (made .0) (removed S h gs c) (made .1)
