@@ -1,18 +1,17 @@
 -- The page of a known code: the one that is found for its hash, and no other page has the code.
 -- Assumes nothing.
-use mathlib.Core.Path.{_≡_, refl, sym, ap, subst, _∙_}
-use mathlib.Core.List.{List, [], _∷_, map, List·Memᴰ}
-use mathlib.Core.Option.{Option, some}
+use mathlib.Core.Path.{_≡_, sym, subst}
+use mathlib.Core.List.{List, map, List·Memᴰ}
+use mathlib.Core.Option.{some}
 use Prim.Native.Nat.{ℕ}
-use lib.ListN.{getD}
 use Rattle.page.specs.Page.{Record}
 use Rattle.partition.specs.Bits.{top}
 use Rattle.partition.specs.Partition.{Shape, Row}
 use Rattle.partition.specs.Listing.{placeOf}
 use Rattle.partition.proofs.Maps.{found}
-use Rattle.store.specs.Pages.{Page, free, bucket, asRow}
+use Rattle.store.specs.Pages.{Page, asRow}
 use Rattle.store.specs.Moves.{find, holds}
-use Rattle.store.proofs.Shows.{prefixOn, OnPage, Holding, Shows}
+use Rattle.store.proofs.Shows.{prefixOn, Holding, Shows}
 use Rattle.store.proofs.Shown.{page-row, some-page, find-only}
 
 module _ (S : Shape) (h : List ℕ → ℕ) (rows : List Row) (gs : List Page) (s : Shows S h rows gs) where

@@ -23,4 +23,6 @@ pub mod PutRows
 pub mod Over
 pub mod OverShows
 pub mod OverKept
+pub mod MoveRows
+pub mod KeptPages
 pub mod Owner

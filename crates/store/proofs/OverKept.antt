@@ -7,7 +7,7 @@ use Rattle.words.specs.Codes.{order}
 use Rattle.page.specs.Page.{Record}
 use Rattle.partition.specs.Partition.{Shape, Row}
 use Rattle.partition.specs.Listing.{by}
-use Rattle.store.specs.Pages.{Page, bucket, asRow}
+use Rattle.store.specs.Pages.{Page, asRow}
 use Rattle.store.specs.Moves.{placeOn, overwritten}
 use Rattle.store.proofs.Shows.{prefixOn, Holding, Shows}
 use Rattle.store.proofs.Rooms.{bucket-one}

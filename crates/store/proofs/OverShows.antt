@@ -3,7 +3,7 @@
 use mathlib.Core.Path.{_≡_, refl, sym, ap, ap₂, subst, _∙_}
 use mathlib.Core.Bool.{Bool, true, false}
 use mathlib.Core.List.{List, [], _∷_, map, List·Memᴰ, List·Memᴰ·head, List·Memᴰ·tail}
-use mathlib.Core.Option.{Option, some, none}
+use mathlib.Core.Option.{some, none}
 use Prim.Native.Nat.{ℕ, _+_, _/_, _≤_, _<_, Ordering, Ordering·lt, Ordering·eq, Ordering·gt}
 use native.Mathlib.Decide.{ℕ-discrete}
 use native.Mathlib.Omega.{arith}
@@ -14,13 +14,13 @@ use Rattle.words.specs.Codes.{order}
 use Rattle.words.proofs.Orders.{order-eq}
 use Rattle.page.specs.Page.{Record}
 use Rattle.partition.specs.Bits.{top}
-use Rattle.partition.specs.Partition.{Shape, Row, need, needs, keep, rowsOf, IsBucket, Fine, Reordered, empty, front, swap, chain}
+use Rattle.partition.specs.Partition.{Shape, Row, need, needs, keep, rowsOf, IsBucket, Reordered, empty, front, swap, chain}
 use Rattle.partition.specs.Listing.{by, insert, without, inOrder, placeOf, Once}
 use Rattle.partition.proofs.Rising.{insert-map}
 use Rattle.partition.proofs.Rows.{load, to-load, of-load}
 use Rattle.partition.proofs.Sorted.{by-code}
 use Rattle.partition.proofs.Tree.{Bucket}
-use Rattle.store.specs.Pages.{Page, free, bucket, asRow, rowsIn}
+use Rattle.store.specs.Pages.{Page, free, bucket, asRow}
 use Rattle.store.specs.Moves.{find, holds, placeOn, overwriteOn, overwritten}
 use Rattle.store.proofs.Shows.{firstCode, prefixOn, OnPage, Holding, Shows}
 use Rattle.store.proofs.Shown.{shows-reordered}

@@ -1,29 +1,27 @@
 -- REMOVE as the code finds it: from the depth of the code's page up to the shallowest prefix whose other rows fit, by sums over pages; then one of three writes.
 -- Assumes nothing.
 use mathlib.Core.Path.{_≡_, refl, sym, ap, subst, _∙_}
-use mathlib.Core.Bool.{Bool, true, false}
-use mathlib.Core.List.{List, [], _∷_, map}
+use mathlib.Core.List.{List, _∷_, map}
 use mathlib.Core.Logic.{_≢_}
-use mathlib.Core.Option.{Option, some, none}
+use mathlib.Core.Option.{some}
 use Prim.Native.Nat.{ℕ, _+_, _^_, _≤_, _<_}
 use native.Mathlib.Omega.{arith}
 use lib.Dec.{T, eqb, eqb→eq, eqb-refl}
 use lib.ListN.{length, getD, set}
 use Rattle.ground.specs.Lists.{total}
-use Rattle.page.specs.Page.{Record}
 use Rattle.partition.specs.Bits.{top}
-use Rattle.partition.specs.Partition.{Shape, Row, Prefix, need, needs, rowsOf, IsBucket, Fine, Reordered, buckets}
-use Rattle.partition.specs.Listing.{without, inOrder, placeOf}
+use Rattle.partition.specs.Partition.{Shape, Row, need, needs, rowsOf, IsBucket, Fine, Reordered, buckets}
+use Rattle.partition.specs.Listing.{without, placeOf}
 use Rattle.partition.proofs.Laws.{Shallowest, load-reordered, reordered}
 use Rattle.partition.proofs.Maps.{cut, cut-same, cut-front, once-remove}
 use Rattle.partition.proofs.Reorders.{turned}
-use Rattle.partition.proofs.Rows.{load, load-on, test, fails}
+use Rattle.partition.proofs.Rows.{load-on, test, fails}
 use Rattle.partition.proofs.Sorted.{same-map, bucket-same}
 use Rattle.partition.proofs.Store.{fine-drop, fine-reordered}
 use Rattle.partition.proofs.Tree.{pfx}
 use Rattle.store.specs.Pages.{Page, free, bucket, depthOn, rowsOn, rowsIn}
 use Rattle.store.specs.Moves.{pick, find, within, holds, bucketOf, packFrom, packed, clearedOn, joined, removeOn, removed}
-use Rattle.store.proofs.Shows.{prefixOn, Holding, Shows}
+use Rattle.store.proofs.Shows.{Shows}
 use Rattle.store.proofs.Known.{Known, known}
 use Rattle.store.proofs.BucketOf.{bucket-of-some, bucket-of-none}
 use Rattle.store.proofs.Within.{one-depth, needs-within}

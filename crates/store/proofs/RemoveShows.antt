@@ -1,29 +1,27 @@
 -- REMOVE on pages: what is left of the code's prefix decides whether its page is cleared, loses the record, or is joined; the pages show the rows left.
 -- Assumes nothing.
-use mathlib.Core.Path.{_≡_, refl, sym, ap, ap₂, subst, _∙_}
+use mathlib.Core.Path.{_≡_, refl, sym, ap, subst, _∙_}
 use mathlib.Core.Bool.{Bool, true, false}
-use mathlib.Core.List.{List, [], _∷_, map, List·Memᴰ·head}
+use mathlib.Core.List.{List, _∷_, map, List·Memᴰ·head}
 use mathlib.Core.Logic.{_⊎_, inl, inr, _≢_}
-use mathlib.Core.Option.{Option, some, none}
-use Prim.Native.Nat.{ℕ, _+_, _^_, _≤_, _<_, Ordering, Ordering·lt, Ordering·eq, Ordering·gt}
-use native.Mathlib.Decide.{ℕ-discrete}
+use mathlib.Core.Option.{some, none}
+use Prim.Native.Nat.{ℕ, _^_, _≤_, _<_}
 use native.Mathlib.Omega.{arith}
-use lib.Dec.{T, eqb, eqb→eq, eqb-refl}
+use lib.Dec.{T, eqb, eqb→eq}
 use lib.ListN.{length, getD, set, length-map, List·getD-map}
 use lib.Seq.{getD-set-same, getD-set-other}
 use Rattle.ground.proofs.Sides.{side}
-use Rattle.words.specs.Codes.{order}
 use Rattle.words.proofs.Orders.{order-refl}
 use Rattle.page.specs.Page.{Record}
 use Rattle.partition.specs.Bits.{top}
-use Rattle.partition.specs.Partition.{Shape, Row, Prefix, needs, rowsOf, IsBucket, Fine, Reordered, buckets}
+use Rattle.partition.specs.Partition.{Shape, Row, needs, rowsOf, IsBucket, Fine, buckets}
 use Rattle.partition.specs.Listing.{by, without, inOrder, placeOf}
 use Rattle.partition.proofs.Bits.{top-step}
 use Rattle.partition.proofs.Laws.{Shallowest, no-overlap, bucket-shallowest}
 use Rattle.partition.proofs.Maps.{cut, cut-none, cut-same, cut-front, placed}
 use Rattle.partition.proofs.Path.{fit-above}
 use Rattle.partition.proofs.Reorders.{turned}
-use Rattle.partition.proofs.Rows.{load, load-mono, load-on, rows-on, test, fails}
+use Rattle.partition.proofs.Rows.{load, load-mono, load-on, rows-on}
 use Rattle.partition.proofs.Sorted.{by-code, same-map, some-none, some-once, order-cut}
 use Rattle.partition.proofs.Rising.{without-map}
 use Rattle.partition.proofs.Store.{home, fine-drop}

@@ -29,7 +29,7 @@ pub read-zero : (g : List ℕ) → Zero g → read g ≡ free
 unfolding read
 read-zero g z = ap (λ b. reading b g) (z 0)
 
-read-bucket : (h : List ℕ → ℕ) (g : List ℕ) → Bucket h g → read g ≡ bucket (depth g) (rows g)
+pub read-bucket : (h : List ℕ → ℕ) (g : List ℕ) → Bucket h g → read g ≡ bucket (depth g) (rows g)
 unfolding read
 read-bucket h g b = ap (λ b. reading b g) (b .rules .rules .one)
 
