@@ -1,8 +1,14 @@
 pub mod Rules
 pub mod Shows
 pub mod Shown
-pub mod Rooms
+pub mod BucketOf
 pub mod Records
+pub mod Known
+pub mod Within
+pub mod Fewer
+pub mod RemoveShows
+pub mod RemoveCases
+pub mod Rooms
 pub mod Written
 pub mod PutShows
 pub mod PutKept
@@ -14,6 +20,10 @@ pub mod Same
 pub mod Sorted
 pub mod Plan
 pub mod Over
+pub mod OverShows
+pub mod OverKept
+pub mod MoveRows
+pub mod KeptPages
 pub mod Owner
 pub mod Showing
 pub mod PutRows

@@ -19,6 +19,10 @@ use Rattle.store.proofs.Shown.{page-row}
 use Rattle.store.proofs.Rooms.{bucket-one}
 use Rattle.store.proofs.PutShows.{puts}
 
+-- from the pages gs to the pages hs a bucket whose depth and rows come out the same keeps its page and its records
+abbrev pub Kept : List Page → List Page → Type 0
+Kept gs hs = (p q k : ℕ) (rs qs : List Record) → Holding gs p k rs → Holding hs q k qs → map asRow rs ≡ map asRow qs → (p ≡ q) × (rs ≡ qs)
+
 -- pages with the same rows have the same prefix
 pub same-prefix : (h : List ℕ → ℕ) (k : ℕ) (rs qs : List Record) → map asRow rs ≡ map asRow qs → prefixOn h k rs ≡ prefixOn h k qs
 same-prefix h k [] [] e = refl
@@ -28,7 +32,7 @@ same-prefix h k (r ∷ rs) (q ∷ qs) e = ap (λ y. top k (h (y .code))) (head-e
 
 pub put-kept : (S : Shape) (h : List ℕ → ℕ) → ((c : List ℕ) → h c < 2 ^ 32) → (rows : List Row) (r : Row) (gs : List Page) → Shows S h rows gs → placeOf rows (r .code) ≡ none
     → needs (rowsOf h (r ∷ rows) (S .deepest) (top (S .deepest) (h (r .code)))) ≤ S .capacity → length (buckets S h (r ∷ rows)) ≤ length gs
-    → (p q k : ℕ) (rs qs : List Record) → Holding gs p k rs → Holding (putNew S h gs r) q k qs → map asRow rs ≡ map asRow qs → (p ≡ q) × (rs ≡ qs)
+    → Kept gs (putNew S h gs r)
 put-kept S h small rows r gs s new six seven p q k rs qs a b e = go (ℕ-discrete (prefixOn h k rs) (top k (h (r .code))))
   where
     made : Rattle.store.proofs.PutShows.Puts S h small rows r gs (putNew S h gs r)
