@@ -10,7 +10,9 @@ pub mod RemoveShows
 pub mod RemoveCases
 pub mod Rooms
 pub mod Written
+pub mod Holder
 pub mod PutShows
+pub mod PutCases
 pub mod PutKept
 pub mod Unique
 pub mod Settled
