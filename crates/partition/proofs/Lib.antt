@@ -15,4 +15,5 @@ pub mod Sorted
 pub mod Maps
 pub mod Rising
 pub mod Members
+pub mod Below
 pub mod Listed

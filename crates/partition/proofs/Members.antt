@@ -54,6 +54,14 @@ module _ {A : Type 0} where
       (λ y m. beside (w .0) (w .1) (subst (λ l. List·Memᴰ y l) (w .2) (f y (List·Memᴰ·tail m))) (λ q. d .0 (Memᴰ·cast (sym q) m))) in
       omega (arith, length-append (w .0) (w .1))
 
+  pub distinct-append : (s t : List A) → Distinct s → Distinct t → ((x : A) → List·Memᴰ x s → List·Memᴰ x t → ⊥) → Distinct (s ++ t)
+  distinct-append [] t d e f = e
+  distinct-append (x ∷ s) t d e f = (λ m. go (List·Memᴰ·append-cases s m), distinct-append s t (d .1) e (λ y m n. f y (List·Memᴰ·tail m) n))
+    where
+      go : List·Memᴰ x s ⊎ List·Memᴰ x t → ⊥
+      go (inl m) = d .0 m
+      go (inr m) = f x (List·Memᴰ·head refl) m
+
 pub asc-distinct : (d lo hi : ℕ) (l : List Prefix) → Ascending d lo hi l → Distinct l
 asc-distinct d lo hi [] a = tt
 asc-distinct d lo hi (p ∷ ps) a =

@@ -21,7 +21,7 @@ use Rattle.store.specs.Pages.{pages, page, dirDepth, entryAt, Page, free
 use Rattle.store.specs.Accepted.{Calls, Stands, unused, used}
 use Rattle.store.specs.Demands.{Sized, Hash}
 use Rattle.store.proofs.Shows.{prefixOn, Holding, Shows}
-use Rattle.store.proofs.Shown.{free-not, paged, one-holder, whole, Every}
+use Rattle.store.proofs.Shown.{free-not, paged, one-holder, whole, Any}
 use Rattle.store.proofs.Rules.{Opened}
 use Rattle.store.proofs.Unique.{read-bucket, held}
 use Rattle.store.proofs.Showing.{under}
@@ -106,7 +106,7 @@ pub one-called : (S : Shape) (h : List ℕ → ℕ) (rows : List Row) (gs : List
     → (i j k l : ℕ) (rs qs : List Record) → k ≤ d → l ≤ d → Holding gs i k rs → Holding gs j l qs
     → (e : ℕ) → Calls d k (prefixOn h k rs) e → Calls d l (prefixOn h l qs) e → i ≡ j
 one-called S h rows gs w d b i j k l rs qs kd ld x y e c f =
-    one-holder S h rows (Every S h) gs (whole S h rows gs w) (e * 2 ^ (32 - d)) i j k l rs qs x y (calls-hash d k (prefixOn h k rs) e b kd c) (calls-hash d l (prefixOn h l qs) e b ld f)
+    one-holder S h rows Any gs (whole S h rows gs w) (e * 2 ^ (32 - d)) i j k l rs qs x y (calls-hash d k (prefixOn h k rs) e b kd c) (calls-hash d l (prefixOn h l qs) e b ld f)
 
 -- ---- depth
 
