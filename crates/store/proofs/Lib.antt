@@ -33,3 +33,5 @@ pub mod Named
 pub mod Afresh
 pub mod Accepting
 pub mod Reading
+pub mod Walked
+pub mod Demanded
