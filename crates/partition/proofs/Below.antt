@@ -12,14 +12,14 @@ use Rattle.partition.specs.Partition.{Row, Shape, need, needs, rowsOf, I
 use Rattle.partition.specs.Listing.{inOrder, Once}
 use Rattle.partition.proofs.Bits.{top-step}
 use Rattle.partition.proofs.Tree.{Under, half-shr}
-use Rattle.partition.proofs.Path.{path-cut, path-under}
+use Rattle.partition.proofs.Path.{path-short, path-under}
 use Rattle.partition.proofs.Rows.{load, load-on, same-bucket}
 use Rattle.partition.proofs.Laws.{bucket-shallowest, load-reordered, rows-below, add-splits}
 use Rattle.partition.proofs.Splice.{rows-cons}
-use Rattle.partition.proofs.Sum.{of-prefix, head-of}
-use Rattle.partition.proofs.Pages.{rows-every, turned}
+use Rattle.partition.proofs.Sum.{prefix-row, head-of}
+use Rattle.partition.proofs.Pages.{rows-every}
+use Rattle.partition.proofs.Reorders.{turned, mem-reordered}
 use Rattle.partition.proofs.Sorted.{some-none, some-once, bucket-same}
-use Rattle.partition.proofs.Members.{mem-reordered}
 
 -- one bit longer than a prefix at or below another, which is not that one itself
 under-down : (j w i v : ℕ) → Under j w (suc i) v → j ≤ i → Under j w i (v / 2)
@@ -32,8 +32,7 @@ under-down j w i v u l = go (u .more) (u .deep) (u .cut)
 -- hashes that share a prefix share each shorter one
 shorter : (a b l k : ℕ) → l ≤ k → top k a ≡ top k b → top l a ≡ top l b
 shorter a b l k le e =
-    let q : l + (k - l) ≡ k = omega arith in
-    sym (path-cut (λ i. top i a) (top-step a) (k - l) l) ∙ ap (λ n. n / 2 ^ (k - l)) (ap (λ i. top i a) q ∙ e ∙ sym (ap (λ i. top i b) q)) ∙ path-cut (λ i. top i b) (top-step b) (k - l) l
+    sym (path-short (λ i. top i a) (top-step a) l k le) ∙ ap (λ n. n / 2 ^ (k - l)) e ∙ path-short (λ i. top i b) (top-step b) l k le
 
 module _ (S : Shape) (h : List ℕ → ℕ) (small : (c : List ℕ) → h c < 2 ^ 32) (r : Row) (rs : List Row) (k : ℕ) (ts : List Row) (same : Reordered ts (rowsOf h rs k (top k (h (r .code))))) where
   abbrev x : ℕ
@@ -62,7 +61,7 @@ module _ (S : Shape) (h : List ℕ → ℕ) (small : (c : List ℕ) → h c < 2 
     where
       go : (q ≡ r) ⊎ List·Memᴰ q ts → top k (h (q .code)) ≡ v
       go (inl e) = ap (λ y. top k (h (y .code))) e
-      go (inr t) = of-prefix S h rs k v q (mem-reordered same t) .1
+      go (inr t) = prefix-row h rs k v q (mem-reordered same t) .1
 
   module _ (b : IsBucket S h rs k (top k (h (r .code)))) (heavy : S .capacity < need r + needs (rowsOf h rs k (top k (h (r .code))))) where
     -- a shorter prefix has them all, and they do not fit
@@ -79,7 +78,7 @@ module _ (S : Shape) (h : List ℕ → ℕ) (small : (c : List ℕ) → h c < 2 
         q = head-of (rowsOf h (r ∷ ts) l w) (c .has)
 
         at : List·Memᴰ (q .0) (r ∷ ts) × (top l (h (q .0 .code)) ≡ w)
-        at = of-prefix S h (r ∷ ts) l w (q .0) (q .1)
+        at = prefix-row h (r ∷ ts) l w (q .0) (q .1)
 
         go : Dec (l ≤ k) → (k < l) × Under k v l w
         go (yes le) =

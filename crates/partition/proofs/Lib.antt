@@ -16,3 +16,4 @@ pub mod Maps
 pub mod Rising
 pub mod Members
 pub mod Below
+pub mod Listed

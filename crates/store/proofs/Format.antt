@@ -15,25 +15,14 @@ use Rattle.ground.specs.Lists.{tab}
 use Rattle.page.specs.Page.{depth}
 use Rattle.partition.specs.Partition.{Shape, Row}
 use Rattle.store.specs.Pages.{size, pages, page, dirDepth, entryAt, Page, free, read, contents, rowsIn, rowsOn, rowsHeld, deepestIn}
-use Rattle.store.specs.Accepted.{GoodLength, Page0, Page1, Zero, Stands, unused, Parted, Deepest, Rule, rule, rules, upward, Every, Accepted}
+use Rattle.store.specs.Accepted.{GoodLength, Page0, Page1, Zero, unused, Accepted}
 use Rattle.words.specs.Le.{bytes}
 use Rattle.store.specs.Tables.{Out, refused, formatted, blank, Refusal1, formatTable}
 use Rattle.store.specs.Demands.{Sized, Made, format, FormatAccepted, AcceptedAgain}
 use Rattle.ground.proofs.Ladders.{each}
+use Rattle.store.proofs.Rules.{closed}
 use Rattle.store.proofs.Kept.{accepted-again}
 use Rattle.store.proofs.Unique.{read-zero, page-long}
-
-every-append : (l m : List Rule) → Every l → Every m → Every (l ++ m)
-every-append [] m a b = b
-every-append (r ∷ l) m a b = (a .0, every-append l m (a .1) b)
-
-every-tab : (f : ℕ → Rule) (n : ℕ) → ((i : ℕ) → i < n → f i .holds) → Every (tab f n)
-unfolding tab
-every-tab f zero h = tt
-every-tab f (suc n) h = (h zero (omega arith), every-tab (λ i. f (suc i)) n (λ i l. h (suc i) (omega arith)))
-
-every-up : (n : ℕ) (P : ℕ → Type 0) → ((p : ℕ) → 2 ≤ p → p < n → P p) → Every (upward n P)
-every-up n P h = every-tab (λ i. rule (i + 2) (P (i + 2))) (n - 2) (λ i l. h (i + 2) (omega arith) (omega arith))
 
 rows-free : (f : ℕ → Page) (n : ℕ) → ((i : ℕ) → i < n → f i ≡ free) → rowsIn (tab f n) ≡ []
 unfolding tab rowsIn flatMap
@@ -124,20 +113,13 @@ module _ (S : Shape) (s : List ℕ) (sized : Sized S) (good : GoodLength S s) wh
   entry-zero i = word-zero (size S + 4 * i) (omega (arith, sized .least))
 
   pub blank-accepted : (h : List ℕ → ℕ) → Accepted S h t
-  unfolding rules
-  blank-accepted h = record {
+  blank-accepted h = closed S h t record {
     long = long;
-    keeps = (
-      record { number = word-0 ∙ sym n-same; directory = word-4; entries = word-8; first = word-12; depth = omega (arith, word-zero 16 (omega arith)); rest = λ k a b. blank-zero k (omega arith) },
-      (
-        record { range = λ i _. inl (entry-zero i); beyond = λ i _ _. entry-zero i },
-        every-append (upward (pages S t) (Stands S h t)) _
-            (every-up (pages S t) (Stands S h t) (λ p a b. unused (page-zero p (omega arith) b) (λ i _ e. omega (arith, entry-zero i))))
-            (every-append (upward (pages S t) (Parted S h t)) _
-            (every-up (pages S t) (Parted S h t) (λ p a b j e. omega (arith, page-zero p (omega arith) b 1)))
-            (word-zero 16 (omega arith) ∙ sym no-depth, tt)),
-      ),
-    );
+    page0 = record { number = word-0 ∙ sym n-same; directory = word-4; entries = word-8; first = word-12; depth = omega (arith, word-zero 16 (omega arith)); rest = λ k a b. blank-zero k (omega arith) };
+    page1 = record { range = λ i _. inl (entry-zero i); beyond = λ i _ _. entry-zero i };
+    stands = λ p a b. unused (page-zero p (omega arith) b) (λ i _ e. omega (arith, entry-zero i));
+    parted = λ p a b j e. omega (arith, page-zero p (omega arith) b 1);
+    deepest = word-zero 16 (omega arith) ∙ sym no-depth;
   }
 
 -- a length that is not refused is good

@@ -19,10 +19,15 @@ pub mod Format
 pub mod Same
 pub mod Sorted
 pub mod Plan
-pub mod PutRows
 pub mod Over
 pub mod OverShows
 pub mod OverKept
 pub mod MoveRows
 pub mod KeptPages
 pub mod Owner
+pub mod Showing
+pub mod PutRows
+pub mod Named
+pub mod Afresh
+pub mod Accepting
+pub mod Reading

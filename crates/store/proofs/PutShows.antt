@@ -19,9 +19,9 @@ use Rattle.partition.proofs.Bits.{top-step}
 use Rattle.partition.proofs.Tree.{Under, pfx}
 use Rattle.partition.proofs.Path.{path-under}
 use Rattle.partition.proofs.Frame.{dec-under, inside-of}
-use Rattle.partition.proofs.Rows.{load, load-mono, load-on, rows-on, to-load, listed}
+use Rattle.partition.proofs.Rows.{load, load-mono, load-on, rows-on, no-need, to-load, listed}
 use Rattle.partition.proofs.Laws.{Shallowest, bucket-shallowest, reordered, outside, inside, add-stays, add-appears, left-joined, has-bucket, in-order}
-use Rattle.partition.proofs.Store.{fine-add, home, outside-rows, not-deeper, no-need}
+use Rattle.partition.proofs.Store.{fine-add, home, outside-rows, not-deeper}
 use Rattle.partition.proofs.Members.{Distinct, asc-distinct, in-order-reordered}
 use Rattle.partition.proofs.Reorders.{needs-same}
 use Rattle.partition.proofs.Below.{load-same, order-below, below}
@@ -211,7 +211,7 @@ module _ (S : Shape) (h : List ℕ → ℕ) (small : (c : List ℕ) → h c < 2 
     put-unheld : ((k : ℕ) → IsBucket S h rows k (top k (h (r .code))) → ⊥) → Puts gs (newBucket h gs r (bucketOf (h (r .code)) (buckets S h (r ∷ rowsIn gs))))
     unfolding packed
     put-unheld none-holds = subst (λ o. Puts gs (newBucket h gs r o)) (sym named) (record {
-      part = one-more j shallow gs others now (find isFree gs) (room .0) (room .1) recs (rows-packed 8 _ ∙ ap inOrder (alone j ∙ sym (rows-on h r rows j ∙ ap (λ l. r ∷ l) (no-need S h (rowsOf h rows j (top j x)) vacant))));
+      part = one-more j shallow gs others now (find isFree gs) (room .0) (room .1) recs (rows-packed 8 _ ∙ ap inOrder (alone j ∙ sym (rows-on h r rows j ∙ ap (λ l. r ∷ l) (no-need (rowsOf h rows j (top j x)) vacant))));
       keeps = λ m l qs y n. fill-keeps gs (find isFree gs) (bucket j recs) (room .1) m l qs y;
     })
       where

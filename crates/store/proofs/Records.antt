@@ -3,13 +3,13 @@
 use mathlib.Core.Path.{_≡_, refl, ap, _∙_}
 use mathlib.Core.Bool.{Bool, true, false}
 use mathlib.Core.List.{List, [], _∷_, map}
-use Prim.Native.Nat.{ℕ, _+_, _*_, Ordering, Ordering·lt, Ordering·eq, Ordering·gt}
+use Prim.Native.Nat.{ℕ, _+_, _*_}
 use lib.Dec.{leb}
 use lib.ListN.{length}
 use Rattle.page.specs.Page.{Record}
-use Rattle.words.specs.Codes.{order}
 use Rattle.partition.specs.Partition.{Shape, Row, need}
-use Rattle.partition.specs.Listing.{by, insert}
+use Rattle.partition.specs.Listing.{insert}
+use Rattle.partition.proofs.Rising.{insert-map}
 use Rattle.store.specs.Pages.{size, asRow}
 use Rattle.store.specs.Moves.{pick, record-at, packFrom, frontierOf, atFrontier, added}
 
@@ -18,21 +18,9 @@ unfolding packFrom
 rows-packed o [] = refl
 rows-packed o (r ∷ rs) = ap (λ l. r ∷ l) (rows-packed (o + (8 + length (r .code))) rs)
 
-pub rows-inserted : (q : Record) (rs : List Record) → map asRow (insert (λ q. q .code) q rs) ≡ insert (λ q. q .code) (asRow q) (map asRow rs)
-unfolding insert
-rows-inserted q [] = refl
-rows-inserted q (p ∷ rs) = go (order (q .code) (p .code)) (rows-inserted q rs)
-  where
-    go : (o : Ordering) → map asRow (insert (λ q. q .code) q rs) ≡ insert (λ q. q .code) (asRow q) (map asRow rs)
-        → map asRow (by o (q ∷ p ∷ rs) (q ∷ p ∷ rs) (p ∷ insert (λ q. q .code) q rs))
-        ≡ by o (asRow q ∷ asRow p ∷ map asRow rs) (asRow q ∷ asRow p ∷ map asRow rs) (asRow p ∷ insert (λ q. q .code) (asRow q) (map asRow rs))
-    go Ordering·lt e = refl
-    go Ordering·eq e = refl
-    go Ordering·gt e = ap (λ l. asRow p ∷ l) e
-
 rows-frontier : (rs : List Record) (r : Row) → map asRow (atFrontier rs r) ≡ insert (λ q. q .code) r (map asRow rs)
 unfolding atFrontier
-rows-frontier rs r = rows-inserted (record-at (frontierOf rs) r) rs
+rows-frontier rs r = insert-map (λ q. q .code) (λ q. q .code) asRow (λ q. refl) (record-at (frontierOf rs) r) rs
 
 pub rows-added : (S : Shape) (rs : List Record) (r : Row) → map asRow (added S rs r) ≡ insert (λ q. q .code) r (map asRow rs)
 unfolding added

@@ -67,6 +67,32 @@ opened S h s a =
       deepest = every-right again end (every-right up (again ++ end) rest) .0;
     }
 
+every-append : (l m : List Rule) → Every l → Every m → Every (l ++ m)
+every-append [] m a b = b
+every-append (r ∷ l) m a b = (a .0, every-append l m (a .1) b)
+
+tab-every : (f : ℕ → Rule) (n : ℕ) → ((i : ℕ) → i < n → f i .holds) → Every (tab f n)
+unfolding tab
+tab-every f zero h = tt
+tab-every f (suc n) h = (h zero (omega arith), tab-every (λ i. f (suc i)) n (λ i l. h (suc i) (omega arith)))
+
+up-every : (n : ℕ) (P : ℕ → Type 0) → ((p : ℕ) → 2 ≤ p → p < n → P p) → Every (upward n P)
+up-every n P h = tab-every (λ i. rule (i + 2) (P (i + 2))) (n - 2) (λ i l. h (i + 2) (omega arith) (omega arith))
+
+pub closed : (S : Shape) (h : List ℕ → ℕ) (s : List ℕ) → Opened S h s → Accepted S h s
+unfolding rules
+closed S h s o = record {
+  long = o .long;
+  keeps = (
+    o .page0,
+    (
+      o .page1,
+      every-append (upward (pages S s) (Stands S h s)) _ (up-every (pages S s) (Stands S h s) (o .stands))
+          (every-append (upward (pages S s) (Parted S h s)) _ (up-every (pages S s) (Parted S h s) (o .parted)) (o .deepest, tt)),
+    ),
+  );
+}
+
 module _ (S : Shape) (h : List ℕ → ℕ) (s : List ℕ) where
   pub broken-one : (p q : ℕ) → Broken S h s p → Broken S h s q → p ≡ q
   unfolding Broken

@@ -13,7 +13,7 @@ use Rattle.words.specs.Le.{le32}
 use Rattle.ground.proofs.Sides.{side}
 use Rattle.ground.proofs.Parts.{byte-part, length-part}
 use Rattle.ground.specs.Lists.{tab}
-use Rattle.page.specs.Page.{depth, rows, code}
+use Rattle.page.specs.Page.{BucketPage, depth, rows, code}
 use Rattle.ground.proofs.Tables.{getD-tab}
 use Rattle.page.proofs.Unique.{unique}
 use Rattle.words.proofs.Bytes.{le32-byte}
@@ -29,9 +29,12 @@ pub read-zero : (g : List ℕ) → Zero g → read g ≡ free
 unfolding read
 read-zero g z = ap (λ b. reading b g) (z 0)
 
-pub read-bucket : (h : List ℕ → ℕ) (g : List ℕ) → Bucket h g → read g ≡ bucket (depth g) (rows g)
+pub read-used : (g : List ℕ) → BucketPage g → read g ≡ bucket (depth g) (rows g)
 unfolding read
-read-bucket h g b = ap (λ b. reading b g) (b .rules .rules .one)
+read-used g b = ap (λ b. reading b g) (b .rules .one)
+
+pub read-bucket : (h : List ℕ → ℕ) (g : List ℕ) → Bucket h g → read g ≡ bucket (depth g) (rows g)
+read-bucket h g b = read-used g (b .rules)
 
 zero-not-one : (g : List ℕ) → Zero g → byte g 0 ≡ 1 → ⊥
 zero-not-one g z e = omega (arith, z 0)
