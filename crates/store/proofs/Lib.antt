@@ -31,3 +31,4 @@ pub mod Named
 pub mod Afresh
 pub mod Accepting
 pub mod Reading
+pub mod Walked

@@ -2,7 +2,7 @@
 use mathlib.Core.Path.{_≡_, refl, sym, ap, subst, subst₂, _∙_}
 use mathlib.Core.List.{List, [], _∷_, List·Memᴰ}
 use mathlib.Core.Logic.{_⊎_, inl, inr, _↔_}
-use mathlib.Core.Option.{Option, some, none}
+use mathlib.Core.Option.{some, none}
 use Prim.Native.Nat.{ℕ, zero, suc, _+_, _-_, _*_, _/_, _^_, _≤_, _<_, max, zero-le}
 use native.Mathlib.Omega.{arith}
 use native.Mathlib.Nat.{le-antisymm, pow-le-pow-right, mul-le-mul-right}
@@ -24,7 +24,7 @@ use Rattle.store.proofs.Shows.{prefixOn, Holding, Shows}
 use Rattle.store.proofs.Shown.{free-not, paged, one-holder, whole, Any}
 use Rattle.store.proofs.Rules.{Opened}
 use Rattle.store.proofs.Unique.{read-bucket, held}
-use Rattle.store.proofs.Showing.{Under, under}
+use Rattle.store.proofs.Showing.{under}
 
 -- entry e of t is right for the first n pages of gs, in a directory of depth d
 pub data Entry (S : Shape) (h : List ℕ → ℕ) (t : List ℕ) (gs : List Page) (d n e : ℕ) : Type 0 where

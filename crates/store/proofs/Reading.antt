@@ -1,11 +1,11 @@
 -- What the reading calls need of an accepted store: a code is on the page that its hash's entry names, and the rows are counted page by page.
 use mathlib.Core.Path.{_≡_, refl, sym, ap, subst, subst₂, _∙_}
-use mathlib.Core.List.{List, [], _∷_, _++_, map, flatMap, List·Memᴰ}
+use mathlib.Core.List.{List, [], _∷_, _++_, map, flatMap}
 use mathlib.Core.Logic.{_⊎_, inl, inr}
 use mathlib.Core.Option.{Option, some, none}
-use Prim.Native.Nat.{ℕ, zero, suc, _+_, _-_, _*_, _/_, _^_, _≤_, _<_}
+use Prim.Native.Nat.{ℕ, zero, suc, _+_, _-_, _^_, _≤_, _<_}
 use native.Mathlib.Omega.{arith}
-use lib.ListN.{length, getD, length-append, length-map}
+use lib.ListN.{length, getD, getElem?, length-append, length-map}
 use Rattle.ground.specs.Lists.{tab, total}
 use Rattle.ground.proofs.Sides.{side}
 use Rattle.ground.proofs.Tables.{length-tab}
@@ -14,24 +14,24 @@ use Rattle.words.proofs.Orders.{irrefl}
 use Rattle.page.specs.Page.{Record, Slotted, BucketPage, Belongs, depth, count, code, place, rows, rowAt}
 use Rattle.partition.specs.Bits.{top}
 use Rattle.partition.specs.Partition.{Shape, Row, rowsOf}
-use Rattle.partition.specs.Listing.{inOrder, placeOf, Once}
+use Rattle.partition.specs.Listing.{placeOf, Once}
 use Rattle.partition.proofs.Bits.{top-lt}
 use Rattle.partition.proofs.Laws.{held as of-hash}
 use Rattle.partition.proofs.Tree.{pfx}
 use Rattle.partition.proofs.Directory.{holds-top}
 use Rattle.partition.proofs.Maps.{found, missing, placed}
 use Rattle.partition.proofs.Sorted.{same-map, some-none, some-once, in-order-reordered}
-use Rattle.partition.proofs.Reorders.{turned, mem-reordered}
+use Rattle.partition.proofs.Reorders.{turned}
 use Rattle.store.specs.Pages.{pages, page, dirDepth, entryAt, Page, free, bucket, read, contents, asRow, rowsOn, rowsIn, rowsHeld}
 use Rattle.store.specs.Accepted.{Bucket, Zero, Calls, Accepted}
 use Rattle.store.specs.Demands.{Sized, Hash}
 use Rattle.store.proofs.Rules.{Opened, opened}
 use Rattle.store.proofs.Shows.{prefixOn, Holding, Shows}
-use Rattle.store.proofs.Shown.{within-pages, some-page, page-row}
-use Rattle.store.proofs.Unique.{read-zero, read-used, held}
+use Rattle.store.proofs.Shown.{some-page, page-row}
+use Rattle.store.proofs.Unique.{read-zero, read-used}
 use Rattle.store.proofs.Owner.{entry-within}
-use Rattle.store.proofs.Showing.{map-tab, pages-held, calls-top, Under, under, page-once, in-tab, accepted-shows}
-use Rattle.store.proofs.Named.{Entry, nothing, names, calls-hash, deep-small, accepted-entry}
+use Rattle.store.proofs.Showing.{map-tab, calls-top, under, page-once, in-tab, accepted-shows}
+use Rattle.store.proofs.Named.{Entry, nothing, names, accepted-entry}
 use Rattle.store.proofs.Accepting.{tab-in}
 
 -- ---- a code's page, among pages that show rows
@@ -153,3 +153,38 @@ count-free g z = ap (λ x. length (rowsOn x)) (read-zero g z)
 
 pub count-used : (g : List ℕ) → BucketPage g → length (rowsOn (read g)) ≡ count g
 count-used g b = ap (λ x. length (rowsOn x)) (read-used g b) ∙ length-map (rows g) asRow ∙ length-tab (rowAt g) (count g)
+
+-- ---- ROW n of a list of rows, of a page
+
+pub row-left : (l m : List Row) (n : ℕ) → n < length l → getElem? (l ++ m) n ≡ getElem? l n
+row-left [] m n b = absurd (omega arith)
+row-left (r ∷ l) m zero b = refl
+row-left (r ∷ l) m (suc n) b = row-left l m n (omega arith)
+
+pub row-right : (l m : List Row) (n : ℕ) → length l ≤ n → getElem? (l ++ m) n ≡ getElem? m (n - length l)
+row-right [] m n b = let e : n - 0 ≡ n = omega arith in ap (getElem? m) (sym e)
+row-right (r ∷ l) m zero b = absurd (omega arith)
+row-right (r ∷ l) m (suc n) b = let e : n - length l ≡ suc n - suc (length l) = omega arith in row-right l m n (omega arith) ∙ ap (getElem? m) e
+
+row-tab : (f : ℕ → Row) (k n : ℕ) → n < k → getElem? (tab f k) n ≡ some (f n)
+unfolding tab
+row-tab f zero n l = absurd (omega arith)
+row-tab f (suc k) zero l = refl
+row-tab f (suc k) (suc n) l = row-tab (λ i. f (suc i)) k n (omega arith)
+
+row-none : (l : List Row) (n : ℕ) → length l ≤ n → getElem? l n ≡ none
+row-none [] n b = refl
+row-none (r ∷ l) zero b = absurd (omega arith)
+row-none (r ∷ l) (suc n) b = row-none l n (omega arith)
+
+module _ (g : List ℕ) (b : BucketPage g) where
+  -- slot n's
+  pub row-slot : (n : ℕ) → n < count g → getElem? (rowsOn (read g)) n ≡ some (asRow (rowAt g n))
+  row-slot n l = ap (λ x. getElem? (rowsOn x) n) (read-used g b) ∙ ap (λ x. getElem? x n) (map-tab asRow (rowAt g) (count g)) ∙ row-tab (λ i. asRow (rowAt g i)) (count g) n l
+
+  pub row-past : (n : ℕ) → count g ≤ n → getElem? (rowsOn (read g)) n ≡ none
+  row-past n l = row-none (rowsOn (read g)) n (omega (arith, count-used g b))
+
+-- a free page has none
+pub row-free : (g : List ℕ) → Zero g → (n : ℕ) → getElem? (rowsOn (read g)) n ≡ none
+row-free g z n = row-none (rowsOn (read g)) n (omega (arith, count-free g z))

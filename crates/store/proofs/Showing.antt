@@ -12,11 +12,11 @@ use Rattle.ground.proofs.Sides.{side}
 use Rattle.ground.proofs.Tables.{length-tab, total-same}
 use Rattle.words.specs.Codes.{Before}
 use Rattle.words.proofs.Orders.{irrefl}
-use Rattle.page.specs.Page.{Record, BucketPage, Slotted, depth, count, code, len, rows, rowAt}
+use Rattle.page.specs.Page.{Record, BucketPage, Slotted, depth, count, code, rows, rowAt}
 use Rattle.page.specs.Page.{need as slot-need, free as total-free}
 use Rattle.page.proofs.Sums.{len-of-code}
 use Rattle.partition.specs.Bits.{top}
-use Rattle.partition.specs.Partition.{Shape, Row, Prefix, need, needs, rowsOf, IsBucket, Fine, Reordered}
+use Rattle.partition.specs.Partition.{Shape, Row, need, needs, rowsOf, Fine}
 use Rattle.partition.specs.Listing.{by, insert, inOrder, Once}
 use Rattle.partition.proofs.Bits.{top-step, top-lt}
 use Rattle.partition.proofs.Tree.{pfx}
@@ -26,7 +26,7 @@ use Rattle.partition.proofs.Rows.{load, load-mono}
 use Rattle.partition.proofs.Sum.{of-prefix}
 use Rattle.partition.proofs.Pages as P
 use Rattle.partition.proofs.Members.{missing, once-append}
-use Rattle.store.specs.Pages.{size, pages, page, dirDepth, entryAt, Page, free, bucket, read, contents, asRow, rowsIn, rowsHeld}
+use Rattle.store.specs.Pages.{pages, page, dirDepth, entryAt, Page, free, bucket, read, contents, asRow, rowsIn, rowsHeld}
 use Rattle.store.specs.Accepted.{Bucket, Calls, Stands, unused, used, Accepted}
 use Rattle.store.specs.Demands.{Sized, Hash}
 use Rattle.store.proofs.Rules.{Opened, opened}
