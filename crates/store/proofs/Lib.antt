@@ -32,3 +32,4 @@ pub mod Afresh
 pub mod Accepting
 pub mod Reading
 pub mod Walked
+pub mod Whole
