@@ -35,3 +35,4 @@ pub mod Accepting
 pub mod Reading
 pub mod Walked
 pub mod Demanded
+pub mod Whole
