@@ -25,7 +25,7 @@ use Rattle.store.proofs.Rooms.{bucket-one}
 use Rattle.store.proofs.Unique.{read-zero, read-bucket, page-long, held}
 use Rattle.store.proofs.Kept.{nothing-there}
 use Rattle.store.proofs.Format.{accepted-always}
-use Rattle.store.proofs.PutRows.{length-contents}
+use Rattle.store.proofs.Showing.{accepted-shows, pages-held}
 use Rattle.store.proofs.PutKept.{Kept, put-kept}
 use Rattle.store.proofs.OverKept.{same-kept, over-kept}
 use Rattle.store.proofs.RemoveShows.{remove-kept}
@@ -48,7 +48,10 @@ module _ (S : Shape) (h : List ℕ → ℕ) (s t : List ℕ) (a : Accepted S h s
       let w = kept (p - 2) (q - 2) k rs qs (held S s p lp mp ∙ e) (held S t q lq mq ∙ f) g in
       (omega (arith, w .0), same-bytes S h s t p q k rs (opened S h s a .stands p lp mp) (opened S h t b .stands q lq mq) mp mq e (f ∙ ap (bucket k) (sym (w .1))))
 
-module _ (S : Shape) (h : List ℕ → ℕ) (sized : Sized S) (hash : Hash h) (shown : (s : List ℕ) → Accepted S h s → Shows S h (rowsHeld S s) (contents S s)) where
+module _ (S : Shape) (h : List ℕ → ℕ) (sized : Sized S) (hash : Hash h) where
+  shown : (s : List ℕ) → Accepted S h s → Shows S h (rowsHeld S s) (contents S s)
+  shown = accepted-shows S h sized hash
+
   abbrev Keeps : List ℕ → Out × List ℕ → Type 0
   Keeps s x = Kept (contents S s) (contents S (x .1))
 
@@ -88,7 +91,7 @@ module _ (S : Shape) (h : List ℕ → ℕ) (sized : Sized S) (hash : Hash h) (s
 
       new : placeOf (rowsHeld S s) c ≡ none → (Refusal6 S h (rowsHeld S s) r → ⊥) → (Refusal7 S h s (rowsHeld S s) r → ⊥)
           → Kept (contents S s) (putNew S h (contents S s) r)
-      new un six seven = put-kept S h hash (rowsHeld S s) r (contents S s) (shown s a) un (omega arith) (omega (arith, length-contents S s))
+      new un six seven = put-kept S h hash (rowsHeld S s) r (contents S s) (shown s a) un (omega arith) (omega (arith, pages-held S s))
 
   remove-keeps : (s c : List ℕ) → Accepted S h s → (x : Out × List ℕ) → Answers (removeTable S h s c) x → Keeps s x
   unfolding removeTable

@@ -10,7 +10,9 @@ pub mod RemoveShows
 pub mod RemoveCases
 pub mod Rooms
 pub mod Written
+pub mod Holder
 pub mod PutShows
+pub mod PutCases
 pub mod PutKept
 pub mod Unique
 pub mod Settled
@@ -32,3 +34,5 @@ pub mod Afresh
 pub mod Accepting
 pub mod Reading
 pub mod Walked
+pub mod Demanded
+pub mod Whole

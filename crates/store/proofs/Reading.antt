@@ -30,7 +30,7 @@ use Rattle.store.proofs.Shows.{prefixOn, Holding, Shows}
 use Rattle.store.proofs.Shown.{some-page, page-row}
 use Rattle.store.proofs.Unique.{read-zero, read-used}
 use Rattle.store.proofs.Owner.{entry-within}
-use Rattle.store.proofs.Showing.{map-tab, calls-top, under, page-once, in-tab, accepted-shows}
+use Rattle.store.proofs.Showing.{map-tab, calls-top, under, page-once, slot-of, accepted-shows}
 use Rattle.store.proofs.Named.{Entry, nothing, names, accepted-entry}
 use Rattle.store.proofs.Accepting.{tab-in}
 
@@ -128,7 +128,7 @@ module _ (g : List ℕ) (b : Slotted g) where
       (placed (map asRow (rows g)) (page-once g b) (asRow (rowAt g i)) (rw (map-tab asRow (rowAt g) (count g)) (tab-in (λ j. asRow (rowAt g j)) (count g) i l)))
 
   pub place-not : (c : List ℕ) (i : ℕ) → Belongs g i c → placeOf (map asRow (rows g)) c ≡ none
-  place-not c i n = missing (map asRow (rows g)) c (λ r m e. let w = in-tab (λ j. asRow (rowAt g j)) (count g) r (rw (map-tab asRow (rowAt g) (count g)) at m) in
+  place-not c i n = missing (map asRow (rows g)) c (λ r m e. let w = slot-of g b r m in
       off (w .0) (w .1) (e ∙ ap (λ q. q .code) (w .2)) (side (w .0) i))
     where
       off : (j : ℕ) → j < count g → c ≡ code g j → (j < i) ⊎ (i ≤ j) → ⊥
