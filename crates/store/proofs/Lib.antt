@@ -34,5 +34,4 @@ pub mod Afresh
 pub mod Accepting
 pub mod Reading
 pub mod Walked
-pub mod Demanded
 pub mod Whole
