@@ -1,12 +1,13 @@
 -- What the function that writes depth and directory from the pages does. Assumes nothing.
 use mathlib.Core.Path.{_≡_}
 use mathlib.Core.List.{List}
+use mathlib.Core.Logic.{_⊎_}
 use Prim.Native.Nat.{ℕ, _+_, _*_, _-_, _≤_, _<_}
 use lib.ListN.{length}
 use Rattle.ground.specs.Lists.{byte}
 use Rattle.words.specs.Le.{le32}
 use Rattle.words.specs.Moves.{Frame}
-use Rattle.page.specs.Page.{depth, code}
+use Rattle.page.specs.Page.{BucketPage, depth, code}
 use Rattle.partition.specs.Bits.{top}
 use Rattle.store.specs.Pages.{S1024, page, dirDepth, entryAt}
 use Rattle.store.specs.Accepted.{Calls}
@@ -34,3 +35,21 @@ pub record Directed (h : List ℕ → ℕ) (s : List ℕ) (d n : ℕ) (t : List 
 pub record RunSet (s : List ℕ) (a b p : ℕ) (t : List ℕ) : Type 0 where
   pub new : (i : ℕ) → a ≤ i → i < b → entryAt S1024 t i ≡ p
   pub old : Frame s (1024 + 4 * a) (4 * (b - a)) t
+
+-- the entries that page p calls for name it, all else is as it was
+pub record PageNamed (h : List ℕ → ℕ) (s : List ℕ) (d p : ℕ) (t : List ℕ) : Type 0 where
+  pub entry : (i : ℕ) → i < 256 → (CallsFor h s d i p × (entryAt S1024 t i ≡ p)) ⊎ ((CallsFor h s d i p → ⊥) × (entryAt S1024 t i ≡ entryAt S1024 s i))
+  pub old : Frame s 1024 1024 t
+
+-- a page of a directory of depth d: if it is a bucket, its rules hold and its depth is not above d
+pub record Standing (d : ℕ) (g : List ℕ) : Type 0 where
+  pub rules : byte g 0 ≡ 1 → BucketPage g
+  pub depths : byte g 0 ≡ 1 → depth g ≤ d
+
+-- a store of n pages whose buckets keep their rules, none deeper than d
+pub record Directable (s : List ℕ) (n d : ℕ) : Type 0 where
+  pub size : length s ≡ n * 1024
+  pub least : 3 ≤ n
+  pub most : n ≤ 258
+  pub deep : d ≤ 8
+  pub pages : (p : ℕ) → 2 ≤ p → p < n → Standing d (page S1024 s p)

@@ -2,7 +2,10 @@
 ghost use mathlib.Core.Path.{_≡_};
 ghost use Prim.Native.Nat.{_+_, _*_, _≤_, _<_};
 ghost use lib.ListN.{length};
-ghost use Rattle.change.specs.Directory.{RunSet};
+ghost use Rattle.hash.specs.Fnv.{fnv};
+ghost use Rattle.page.specs.Page.{BucketPage, code};
+ghost use Rattle.store.specs.Pages.{S1024, page};
+ghost use Rattle.change.specs.Directory.{RunSet, PageNamed, Standing, Directable, Directed};
 
 // The entries from a up to b name page p.
 fn set_run(s: &mut [u8], a: usize, b: usize, p: usize)
@@ -13,5 +16,45 @@ fn set_run(s: &mut [u8], a: usize, b: usize, p: usize)
     while i < b {
         words::put32(s, 1024 + 4 * i, p);
         i += 1;
+    }
+}
+
+// The hash of a bucket page's first code.
+fn first_hash(page: &[u8]) -> u32
+    requires { ⌜ BucketPage (now page) ⌝ }
+    ensures { λ r. ⌜ r ≡ fnv (code (now (page .entry)) 0) ⌝ }
+{
+    let e = page::extent_of(page, 0);
+    let from = e.off + 8;
+    let to = e.off + e.len;
+    hash::hash(&page[from..to])
+}
+
+// The entries that page p calls for name it.
+fn name_page(s: &mut [u8], p: usize, d: u32)
+    requires { ⌜ (2 ≤ p) × (p < 258) × (p * 1024 + 1024 ≤ length (now s)) × (d ≤ 8) × Standing d (page S1024 (now s) p) ⌝ }
+    ensures { λ _. ⌜ PageNamed fnv (now (s .entry)) d p (now (s .exit)) ⌝ }
+{
+    let a = p * 1024;
+    let e = a + 1024;
+    if s[a] == 1 {
+        let k = s[a + 1] as u32;
+        let x = first_hash(&s[a..e]);
+        let r = partition::run_of(x, k, d);
+        set_run(s, r.from, r.to, p);
+    }
+}
+
+// Depth d, and the directory of the n pages.
+pub fn write_directory(s: &mut [u8], n: usize, d: u32)
+    requires { ⌜ Directable (now s) n d ⌝ }
+    ensures { λ _. ⌜ Directed fnv (now (s .entry)) d n (now (s .exit)) ⌝ }
+{
+    words::put32(s, 16, d as usize);
+    words::clear(s, 1024, 2048);
+    let mut p = 2;
+    while p < n {
+        name_page(s, p, d);
+        p += 1;
     }
 }

@@ -1,7 +1,7 @@
 -- `hash::hash` meets its contract: what is left of the code, taken in from h on, gives the hash of the whole. Assumes nothing.
 use Prim.Native.Nat.{ℕ, _+_, _*_, _%_, _^_, _-_, _≤_, _<_}
 use mathlib.Core.Path.{_≡_, sym, _∙_}
-use mathlib.Core.List.{List, []}
+use mathlib.Core.List.{List}
 use native.Mathlib.Numerals.{add-one}
 use native.Mathlib.Omega.{arith}
 use borrow.Author.Needs.{needs}
@@ -28,14 +28,11 @@ abbrev μ-loop : tie.MeasureT-loop
 loop-holds : tie.Need-loop-holds Inv-loop μ-loop
 loop-holds c = (omega arith, sym (starts _))
 
-shared-slice-read-wrapping-mul : tie.Need-shared-slice-read-wrapping-mul Inv-loop μ-loop
-shared-slice-read-wrapping-mul c = omega arith
+shared-slice-read-step : tie.Need-shared-slice-read-step Inv-loop μ-loop
+shared-slice-read-step c = omega arith
 
-cast-wrapping-mul : tie.Need-cast-wrapping-mul Inv-loop μ-loop
-cast-wrapping-mul c = omega (arith, c .shared-slice-known2 .given (c .before .before .loop .i))
-
-wrapping-mul-requires : tie.Need-wrapping-mul-requires Inv-loop μ-loop
-wrapping-mul-requires c κs = search needs
+step-requires : tie.Need-step-requires Inv-loop μ-loop
+step-requires c κs = search needs
 
 add-i : tie.Need-add-i Inv-loop μ-loop
 add-i c = omega arith
@@ -46,7 +43,7 @@ loop-less c = omega arith
 loop-again : tie.Need-loop-again Inv-loop μ-loop
 loop-again c =
     let l = c .before .before .before .loop in
-    (omega arith, more _ (l .h) (l .i) (c .wrapping-mul .result) (omega arith) (c .wrapping-mul .ensures) (l .inv .1))
+    (omega arith, more _ (l .h) (l .i) (c .step .result) (omega arith) (c .step .ensures) (l .inv .1))
 
 returns : tie.Need-returns Inv-loop μ-loop
 returns c =
@@ -61,9 +58,8 @@ hash-spec =
     Inv-loop
     μ-loop
     loop-holds
-    shared-slice-read-wrapping-mul
-    cast-wrapping-mul
-    wrapping-mul-requires
+    shared-slice-read-step
+    step-requires
     add-i
     loop-less
     loop-again
