@@ -8,3 +8,5 @@ pub mod Sorted
 pub mod Plan
 pub mod Over
 pub mod Owner
+pub mod Slotwise
+pub mod PageTies
