@@ -10,3 +10,4 @@ pub mod Over
 pub mod Owner
 pub mod Slotwise
 pub mod PageTies
+pub mod Views

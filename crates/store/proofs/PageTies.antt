@@ -18,8 +18,8 @@ use Rattle.words.proofs.Orders.{order-refl}
 use Rattle.partition.specs.Partition.{Shape, Row, need, needs}
 use Rattle.partition.specs.Listing.{by, insert, without, inOrder, placeOf, Once}
 use Rattle.partition.proofs.Rows.{test, fails}
-use Rattle.page.specs.Page.{Slotted, Belongs, Record, rows, rowAt, count, frontier, free, depth, off, len, place, code}
-use Rattle.page.specs.Steps.{Inserted, Removed, Overwritten}
+use Rattle.page.specs.Page.{Slotted, Belongs, Natural, Record, rows, rowAt, count, frontier, free, depth, off, len, place, code}
+use Rattle.page.specs.Steps.{Insertable, Inserted, Removed, Overwritten}
 use Rattle.page.specs.Packed.{PackedTo, Packed, Fitting, Added}
 use Rattle.page.proofs.Sums.{len-of-code, count-more}
 use Rattle.page.proofs.Packs.{once-packed}
@@ -28,7 +28,7 @@ use Rattle.store.specs.Pages as Pages
 use Rattle.store.specs.Accepted.{Zero}
 use Rattle.store.specs.Moves.{pick, record-at, packFrom, frontierOf, atFrontier, added, placeOn}
 use Rattle.store.proofs.Unique.{read-zero}
-use Rattle.store.proofs.Slotwise.{before-not, after-not, slot-insert, slot-without, map-none, map-some, rising-once, rising-order, needs-tab, pack-tab, Highest, highest}
+use Rattle.store.proofs.Slotwise.{before-not, after-not, slot-insert, slot-without, map-none, map-some, rising-once, rising-order, needs-tab, pack-tab, span, needs-span, pack-rows, pack-more, pack-top, Highest, highest}
 
 -- the row of slot i
 abbrev row : List ℕ → ℕ → Row
@@ -179,3 +179,35 @@ zeros n k = ⊎-elim (λ l. getD-replicate n k 0 0 l) (λ g. List·getD-eq-defau
 
 pub read-cleared : (n : ℕ) → read (replicate n 0) ≡ Pages.free
 read-cleared n = read-zero (replicate n 0) (zeros n)
+
+-- ---- a packed page with a row put behind the others
+
+insert-last : {A : Type 0} (l : List A) (n : ℕ) (x : A) → length l ≡ n → insertAt n x l ≡ l ++ x ∷ []
+unfolding insertAt
+insert-last l n x e = rw (← e) (λ k. take-length l k ++ (x ∷ drop-length l k))
+
+module _ (q : List ℕ) (rs : List Row) (c pl : List ℕ) (Q : Slotted q) (K : rows q ≡ packFrom 8 rs) where
+  many : count q ≡ length rs
+  many = sym (length-tab (rowAt q) (count q)) ∙ sym (length-map (rows q) asRow) ∙ ap length (ap (map asRow) K ∙ pack-rows rs 8)
+
+  reach : frontier q ≡ 8 + span rs
+  reach = omega (arith, page-frontier q Q, ap frontierOf K, Q .start, pack-top rs 8 (omega arith))
+
+  -- there is room at its frontier for a row that fits
+  pub append-fits : ((i : ℕ) → i < count q → Before (code q i) c) → Natural pl → 1 ≤ length c → length c ≤ 64 → needs rs + (12 + length c) ≤ length q - 8 → Insertable q (count q) c pl
+  append-fits lo n a b h = record {
+    page = Q;
+    belongs = record { within = omega arith; left = lo; right = λ i l m. absurd (omega arith) };
+    natural = n;
+    some = a;
+    most = b;
+    fits = omega (arith, page-needs q Q, ap needs (ap (map asRow) K ∙ pack-rows rs 8));
+    room = omega (arith, reach, many, needs-span rs, Q .least);
+  }
+
+  pub appended-rows : (q′ : List ℕ) → Inserted q (count q) c pl q′ → rows q′ ≡ packFrom 8 (rs ++ rowOf c pl ∷ [])
+  appended-rows q′ I =
+      I .rowsOf
+      ∙ insert-last (rows q) (count q) (record-at (frontier q) (rowOf c pl)) (length-tab (rowAt q) (count q))
+      ∙ (λ k. K k ++ record-at (reach k) (rowOf c pl) ∷ [])
+      ∙ sym (pack-more rs (rowOf c pl) 8)

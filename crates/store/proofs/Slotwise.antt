@@ -1,9 +1,9 @@
 -- Tables of rows in code order, against the definitions that go by codes. Assumes nothing.
 use mathlib.Core.Path.{_≡_, refl, sym, ap, _∙_}
-use mathlib.Core.List.{List, [], _∷_, _++_}
+use mathlib.Core.List.{List, [], _∷_, _++_, map}
 use mathlib.Core.Logic.{_⊎_, inl, inr}
 use mathlib.Core.Option.{Option, some, none}
-use Prim.Native.Nat.{ℕ, zero, suc, _+_, _≤_, _<_, max, zero-le, suc-le-suc, Ordering, Ordering·lt, Ordering·eq, Ordering·gt}
+use Prim.Native.Nat.{ℕ, zero, suc, _+_, _*_, _≤_, _<_, max, zero-le, suc-le-suc, Ordering, Ordering·lt, Ordering·eq, Ordering·gt}
 use native.Mathlib.Omega.{arith}
 use native.Mathlib.Nat.{le-of-suc-le-suc, not-suc-le-zero}
 use lib.ListN.{length}
@@ -15,6 +15,7 @@ use Rattle.words.proofs.Orders.{irrefl, order-eq, order-refl, after-order}
 use Rattle.partition.specs.Partition.{Row, need, needs}
 use Rattle.partition.specs.Listing.{by, insert, without, inOrder, placeOf, Once}
 use Rattle.page.specs.Page.{Record}
+use Rattle.store.specs.Pages.{asRow}
 use Rattle.store.specs.Moves.{record-at, packFrom, frontierOf}
 
 -- the codes of two rows differ
@@ -150,3 +151,37 @@ pub highest : (f : ℕ → Record) (n : ℕ) → Highest f n (frontierOf (tab f 
 unfolding tab frontierOf
 highest f zero = record { least = omega arith; most = λ i h. absurd (not-suc-le-zero h); reached = λ h. absurd (omega arith) }
 highest f (suc n) = let t : ℕ = frontierOf (tab (λ i. f (suc i)) n) in higher f n t (highest (λ i. f (suc i)) n)
+
+-- ---- rows packed one behind another
+
+-- the bytes of the rows' records
+unfoldable pub span : List Row → ℕ
+span [] = 0
+span (r ∷ rs) = 8 + length (r .code) + span rs
+
+pub needs-span : (rs : List Row) → needs rs ≡ span rs + 4 * length rs
+unfolding needs need span
+needs-span [] = refl
+needs-span (r ∷ rs) = omega (arith, needs-span rs)
+
+-- packed, and read as rows again
+pub pack-rows : (rs : List Row) (o : ℕ) → map asRow (packFrom o rs) ≡ rs
+unfolding packFrom
+pack-rows [] o = refl
+pack-rows (r ∷ rs) o = ap (λ l. r ∷ l) (pack-rows rs (o + (8 + length (r .code))))
+
+pub pack-more : (rs : List Row) (r : Row) (o : ℕ) → packFrom o (rs ++ r ∷ []) ≡ packFrom o rs ++ record-at (o + span rs) r ∷ []
+unfolding packFrom span
+pack-more [] r o = let e : o ≡ o + 0 = omega arith in ap (λ k. record-at k r ∷ []) e
+pack-more (q ∷ rs) r o =
+    let l : ℕ = 8 + length (q .code) in
+    let e : o + l + span rs ≡ o + (l + span rs) = omega arith in
+    ap (λ t. record-at o q ∷ t) (pack-more rs r (o + l) ∙ ap (λ k. packFrom (o + l) rs ++ record-at k r ∷ []) e)
+
+-- packed records reach as far as their bytes
+pub pack-top : (rs : List Row) (o : ℕ) → 8 ≤ o → max o (frontierOf (packFrom o rs)) ≡ o + span rs
+unfolding packFrom span frontierOf
+pack-top [] o h = omega arith
+pack-top (r ∷ rs) o h =
+    let l : ℕ = 8 + length (r .code) in
+    omega (arith, pack-top rs (o + (8 + length (r .code))) (omega arith))
