@@ -1,17 +1,16 @@
 -- A page's rows, and what the page functions leave, in the words of the map, the listing and the moves. Assumes nothing.
-use mathlib.Core.Path.{_≡_, refl, sym, ap, subst, _∙_}
-use mathlib.Core.Bool.{Bool, true, false}
+use mathlib.Core.Path.{_≡_, refl, sym, ap, _∙_}
+use mathlib.Core.Bool.{true, false}
 use mathlib.Core.List.{List, [], _∷_, _++_, map}
 use mathlib.Core.Logic.{_⊎_, _↔_, ⊎-elim}
-use mathlib.Core.Option.{Option, some, none}
-use Prim.Native.Nat.{ℕ, zero, suc, _+_, _-_, _*_, _≤_, _<_, max, Ordering, Ordering·eq}
+use mathlib.Core.Option.{some, none}
+use Prim.Native.Nat.{ℕ, _+_, _-_, _*_, _≤_, _<_, Ordering, Ordering·eq}
 use native.Mathlib.Omega.{arith}
-use native.Mathlib.Nat.{zero-add}
 use lib.Dec.{leb, le→leb, leb→le}
-use lib.ListN.{length, take, drop, set, replicate, length-replicate, getD-replicate, length-map, drop-of-length-le, List·getD-eq-default}
+use lib.ListN.{length, set, replicate, length-replicate, getD-replicate, length-map, List·getD-eq-default}
 use lib.Seq.{take-length, drop-length}
-use Rattle.ground.specs.Lists.{byte, tab, total, insertAt, removeAt}
-use Rattle.ground.proofs.Sides.{side, same}
+use Rattle.ground.specs.Lists.{tab, total, insertAt, removeAt}
+use Rattle.ground.proofs.Sides.{side}
 use Rattle.ground.proofs.Tables.{length-tab, tab-same, tab-set, tab-map, total-same}
 use Rattle.words.specs.Codes.{order, Before}
 use Rattle.words.proofs.Orders.{order-refl}
@@ -20,10 +19,10 @@ use Rattle.partition.specs.Listing.{by, insert, without, inOrder, placeOf, Once
 use Rattle.partition.proofs.Rows.{test, fails}
 use Rattle.page.specs.Page.{Slotted, Belongs, Natural, Record, rows, rowAt, count, frontier, free, depth, off, len, place, code}
 use Rattle.page.specs.Steps.{Insertable, Inserted, Removed, Overwritten}
-use Rattle.page.specs.Packed.{PackedTo, Packed, Fitting, Added}
-use Rattle.page.proofs.Sums.{len-of-code, count-more}
+use Rattle.page.specs.Packed.{Packed, Fitting, Added}
+use Rattle.page.proofs.Sums.{len-of-code}
 use Rattle.page.proofs.Packs.{once-packed}
-use Rattle.store.specs.Pages.{size, Page, bucket, read, reading, asRow}
+use Rattle.store.specs.Pages.{size, bucket, read, reading, asRow}
 use Rattle.store.specs.Pages as Pages
 use Rattle.store.specs.Accepted.{Zero}
 use Rattle.store.specs.Moves.{pick, record-at, packFrom, frontierOf, atFrontier, added, placeOn}
