@@ -3,18 +3,13 @@ use Prim.Native.Nat.{ℕ, _+_, _*_, _-_, _≤_, _<_}
 use mathlib.Core.Path.{_≡_, refl, sym, ap, _∙_}
 use mathlib.Core.Logic.{_⊎_, inl, inr, ⊎-elim}
 use mathlib.Core.List.{List}
-use mathlib.Core.Bool.{Bool, true, false}
 use native.Mathlib.Omega.{arith}
-use borrow.Author.Tests.{ltb-true, ltb-false}
-use lib.Dec.{ltb}
 use lib.Bits.{bitAnd, bitOr, or-add-and, and-le-l, and-le-r, and-self, and-mask, and-zero-l, and-zero-r, or-lt}
 use Rattle.ground.specs.Lists.{byte}
-use Rattle.ground.specs.Says.{Says}
 use Rattle.ground.proofs.Sides.{side, same}
 use Rattle.words.specs.Moves.{Span, Cleared}
 use Rattle.page.specs.Page.{In, off, len}
 use Rattle.audit.specs.Marks.{Filled, Free, MarkedAt, Covers, Clean}
-use Rattle.audit.specs.Rules.{Zeros}
 
 -- an and of bytes is 255 just where both are
 pub and-full : (x y : ℕ) → x < 256 → y < 256 → bitAnd x y ≡ 255 → (x ≡ 255) × (y ≡ 255)
@@ -23,24 +18,9 @@ and-full x y h k e = omega (arith, and-le-l x y, and-le-r x y)
 pub full-and : (x y : ℕ) → x ≡ 255 → y ≡ 255 → bitAnd x y ≡ 255
 full-and x y e f = rw (e, f) (and-self 255)
 
--- an or is zero just where both are
-pub or-zero : (x y : ℕ) → bitOr x y ≡ 0 → (x ≡ 0) × (y ≡ 0)
-or-zero x y h = omega (arith, or-add-and x y, and-le-l x y, and-le-r x y)
-
-pub zero-or : (x y : ℕ) → x ≡ 0 → y ≡ 0 → bitOr x y ≡ 0
-zero-or x y h k = omega (arith, or-add-and x y, and-le-l x y, and-le-r x y)
-
 -- an or is below 128 just where both are
 pub or-small : (x y : ℕ) → bitOr x y < 128 → (x < 128) × (y < 128)
 or-small x y h = omega (arith, or-add-and x y, and-le-l x y, and-le-r x y)
-
-says-by : {P : Type 0} (a b : ℕ) (t : Bool) → ltb a b ≡ t → (a < b → P) → (P → a < b) → Says t P
-says-by a b true e f g = f (ltb-true a b e)
-says-by a b false e f g = λ p. let h : b ≤ a = ltb-false a b e in omega (arith, g p)
-
--- a test of two numbers says P, where P is that the first is less
-pub says-ltb : {P : Type 0} (a b : ℕ) → (a < b → P) → (P → a < b) → Says (ltb a b) P
-says-ltb a b f g = says-by a b (ltb a b) refl f g
 
 -- a stretch of bytes, one more at its end
 pub free-none : (m : List ℕ) (a : ℕ) → Free m a a
@@ -60,15 +40,6 @@ clean-more p m a b h e = record { at = λ k f t. ⊎-elim (λ s. rw s e) (λ n. 
 
 pub clean-till : (p m : List ℕ) (a b : ℕ) → Clean p m a (b + 1) → Clean p m a b
 clean-till p m a b h = record { at = λ k f t. h .at k f (omega arith) }
-
-pub zeros-none : (p : List ℕ) (a : ℕ) → Zeros p a a
-zeros-none p a = record { at = λ k f t. absurd (omega arith) }
-
-pub zeros-more : (p : List ℕ) (a b : ℕ) → Zeros p a b → byte p b ≡ 0 → Zeros p a (b + 1)
-zeros-more p a b h e = record { at = λ k f t. ⊎-elim (λ s. rw s e) (λ n. h .at k f (omega (arith, n))) (same k b) }
-
-pub zeros-till : (p : List ℕ) (a b : ℕ) → Zeros p a (b + 1) → Zeros p a b
-zeros-till p a b h = record { at = λ k f t. h .at k f (omega arith) }
 
 -- marks of no record
 pub covers-none : (p m q : List ℕ) (f : ℕ) → Filled m 8 f q → Covers p 0 f q

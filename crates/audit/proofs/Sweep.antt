@@ -11,8 +11,8 @@ use Rattle.words.specs.Codes.{Before}
 use Rattle.words.specs.Le.{le32}
 use Rattle.words.specs.Moves.{Cleared}
 use Rattle.page.specs.Page.{In, off, len, word, code, count, frontier, free, need, slotAt}
-use Rattle.audit.specs.Rules.{WordOk, Laid, prior, offOf, lenOf}
-use Rattle.audit.specs.Marks.{Free, Covers, Next}
+use Rattle.audit.specs.Rules.{WordOk, SlotsOk, prior, offOf, lenOf}
+use Rattle.audit.specs.Marks.{Free, Covers, NextOk}
 use Rattle.audit.proofs.Marks.{covers-more, apart-none, apart-more, unmarked}
 
 -- of the first n slots each keeps its rules, they are in code order, no byte is in two records, and the marks are theirs
@@ -31,7 +31,7 @@ unfolding word
 word-is p i w e = e
 
 module _ (p m : List ℕ) (f j a b : ℕ) (last : part p a (b - a) ≡ prior p j) (s : Swept p j f m) where
-  pub swept-more : (q : List ℕ) → Next p m f a b (word p j) → Cleared m (offOf (word p j)) (offOf (word p j) + lenOf (word p j)) q → Swept p (j + 1) f q
+  pub swept-more : (q : List ℕ) → NextOk p m f a b (word p j) → Cleared m (offOf (word p j)) (offOf (word p j) + lenOf (word p j)) q → Swept p (j + 1) f q
   unfolding off len code
   swept-more q n c = record {
     words = below-more (λ i. WordOk p f (word p i)) j (s .words) (n .sound);
@@ -41,7 +41,7 @@ module _ (p m : List ℕ) (f j a b : ℕ) (last : part p a (b - a) ≡ prior p j
   }
 
   -- where the slots keep their rules, so does the next
-  pub next-of : f ≡ frontier p → j < count p → Laid p → Next p m f a b (word p j)
+  pub next-of : f ≡ frontier p → j < count p → SlotsOk p → NextOk p m f a b (word p j)
   unfolding off len code
   next-of e h l = record {
     sound = w;
@@ -69,5 +69,5 @@ pub needs-more : (p : List ℕ) (j w : ℕ) → w ≡ word p j → total (need p
 unfolding len
 needs-more p j w e = let t : total (need p) (j + 1) ≡ total (need p) j + need p j = rw add-one (total-suc (need p) j) in rw e (omega arith)
 
-pub laid-all : (p m : List ℕ) (f : ℕ) → f ≡ frontier p → Swept p (count p) f m → free p + total (need p) (count p) ≡ length p - 8 → Laid p
-laid-all p m f e s u = record { words = rw e at (s .words); ascending = s .ascending; apart = s .apart; unused = u }
+pub slots-all : (p m : List ℕ) (f : ℕ) → f ≡ frontier p → Swept p (count p) f m → free p + total (need p) (count p) ≡ length p - 8 → SlotsOk p
+slots-all p m f e s u = record { words = rw e at (s .words); ascending = s .ascending; apart = s .apart; unused = u }

@@ -11,8 +11,10 @@ use Rattle.ground.proofs.Sides.{side}
 use Rattle.ground.proofs.Parts.{byte-part, length-part}
 use Rattle.words.specs.Codes.{Before, order}
 use Rattle.words.proofs.Orders.{before-trans}
+use Rattle.words.specs.Zeros.{Zero}
+use Rattle.words.proofs.Zeros.{zero-all}
 use Rattle.page.specs.Page.{BucketPage, Natural, In, off, len, kind, word, place, code, count, frontier, free, need}
-use Rattle.audit.specs.Rules.{HeadOk, NaturalAt, WordOk, Laid, Zeros, prior}
+use Rattle.audit.specs.Rules.{HeadOk, NaturalAt, WordOk, SlotsOk, prior}
 use Rattle.audit.specs.Marks.{Covers, Clean}
 use Rattle.audit.proofs.Marks.{clean-from, clean-to}
 
@@ -79,8 +81,8 @@ head-of p b = record {
   room = b .rules .room;
 }
 
-pub laid-of : (p : List ℕ) → BucketPage p → Laid p
-laid-of p b = record {
+pub slots-of : (p : List ℕ) → BucketPage p → SlotsOk p
+slots-of p b = record {
   words = λ i h. word-of p i (slot i h);
   ascending = climbs;
   apart = b .rules .apart;
@@ -101,6 +103,18 @@ laid-of p b = record {
     climbs zero h = after-none (code p 0) (let e : length (code p 0) ≡ len p 0 - 8 = length-code p 0 (slot 0 h) (omega (arith, b .rules .room)) in omega (arith, slot 0 h .short))
     climbs (suc i) h = b .rules .ascending i (suc i) (omega arith) h
 
+-- zeros from a up to b
+zero-part : (p : List ℕ) (a b : ℕ) → a ≤ b → b ≤ length p → ((k : ℕ) → a ≤ k → k < b → byte p k ≡ 0) → Zero (part p a (b - a))
+zero-part p a b h l z =
+    let e : length (part p a (b - a)) ≡ b - a = length-part p a (b - a) (omega arith) in
+    zero-all (part p a (b - a)) (b - a) (omega arith) (λ k lt. byte-part p a (b - a) k lt ∙ z (a + k) (omega arith) (omega arith))
+
+part-zero : (p : List ℕ) (a b : ℕ) → Zero (part p a (b - a)) → (k : ℕ) → a ≤ k → k < b → byte p k ≡ 0
+part-zero p a b z k h l =
+    let e : a + (k - a) ≡ k = omega arith in
+    let lt : k - a < b - a = omega arith in
+    rw e at (sym (byte-part p a (b - a) (k - a) lt) ∙ z (k - a))
+
 -- what is known of a page p once its header and its slots are: m has the marks of its n records, f is its frontier
 pub record Known (p m : List ℕ) (n f : ℕ) : Type 0 where
   pub head : HeadOk p
@@ -108,7 +122,7 @@ pub record Known (p m : List ℕ) (n f : ℕ) : Type 0 where
   pub long : length m ≡ length p
   pub rows : n ≡ count p
   pub front : f ≡ frontier p
-  pub slots : Laid p
+  pub slots : SlotsOk p
   pub marks : Covers p n f m
 
 module _ (p m : List ℕ) (n f : ℕ) (k : Known p m n f) where
@@ -128,10 +142,11 @@ module _ (p m : List ℕ) (n f : ℕ) (k : Known p m n f) where
   pub clean-of : BucketPage p → Clean p m 8 f
   clean-of b = rw (k .front) (clean-from p m (count p) (frontier p) marks (λ x h l out. b .rules .clear x h (omega (arith, b .rules .room)) out))
 
-  pub zeros-of : BucketPage p → Zeros p f (length p - 4 * n)
-  zeros-of b = rw (k .front, k .rows) (record { at = λ x h l. b .rules .clear x (omega (arith, b .rules .start)) (omega arith) (λ i h₂ y. omega (arith, y .to, b .rules .inside i h₂)) })
+  pub zeros-of : BucketPage p → Zero (part p f (length p - 4 * n - f))
+  zeros-of b = rw (k .front, k .rows) (zero-part p (frontier p) (length p - 4 * count p) (omega (arith, k .head .room)) (omega arith)
+      (λ x h l. b .rules .clear x (omega (arith, b .rules .start)) (omega arith) (λ i h₂ y. omega (arith, y .to, b .rules .inside i h₂))))
 
-  pub whole : byte m (f - 1) ≡ 0 → Clean p m 8 f → Zeros p f (length p - 4 * n) → BucketPage p
+  pub whole : byte m (f - 1) ≡ 0 → Clean p m 8 f → Zero (part p f (length p - 4 * n - f)) → BucketPage p
   whole z c o = record {
     some = k .head .some;
     rules = record {
@@ -154,7 +169,7 @@ module _ (p m : List ℕ) (n f : ℕ) (k : Known p m n f) where
       unused = k .slots .unused;
       clear = λ x h l out. ⊎-elim
           (λ lt. clean-to p m (count p) (frontier p) marks (k .bytes) (rw (k .front) at c) x h lt out)
-          (λ ge. high .at x ge (omega arith))
+          (λ ge. part-zero p (frontier p) (length p - 4 * count p) high x ge (omega arith))
           (side x (frontier p));
     };
   }
@@ -165,5 +180,5 @@ module _ (p m : List ℕ) (n f : ℕ) (k : Known p m n f) where
       top : (i : ℕ) × (i < count p) × In p i (frontier p - 1)
       top = topped z
 
-      high : Zeros p (frontier p) (length p - 4 * count p)
+      high : Zero (part p (frontier p) (length p - 4 * count p - frontier p))
       high = rw (k .front, k .rows) at o

@@ -30,7 +30,7 @@ pub record Clean (p m : List ℕ) (a b : ℕ) : Type 0 where
   pub at : (k : ℕ) → a ≤ k → k < b → bitAnd (byte p k) (byte m k) ≡ 0
 
 -- a slot's word w after a code from a up to b: its own rules, in code order, none of its bytes marked
-pub record Next (p m : List ℕ) (f a b w : ℕ) : Type 0 where
+pub record NextOk (p m : List ℕ) (f a b w : ℕ) : Type 0 where
   pub sound : WordOk p f w
   pub rises : Before (part p a (b - a)) (part p (offOf w + 8) (lenOf w - 8))
   pub unmarked : Free m (offOf w) (offOf w + lenOf w)

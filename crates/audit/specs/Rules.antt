@@ -44,12 +44,8 @@ prior p zero = []
 prior p (suc i) = code p i
 
 -- the slots with their records: each for itself, in code order, no byte in two, and the needs with total free
-pub record Laid (p : List ℕ) : Type 0 where
+pub record SlotsOk (p : List ℕ) : Type 0 where
   pub words : (i : ℕ) → i < count p → WordOk p (frontier p) (word p i)
   pub ascending : (i : ℕ) → i < count p → Before (prior p i) (code p i)
   pub apart : (i j k : ℕ) → i < count p → j < count p → In p i k → In p j k → i ≡ j
   pub unused : free p + total (need p) (count p) ≡ length p - 8
-
--- zeros from a up to b
-pub record Zeros (p : List ℕ) (a b : ℕ) : Type 0 where
-  pub at : (k : ℕ) → a ≤ k → k < b → byte p k ≡ 0

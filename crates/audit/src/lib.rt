@@ -1,4 +1,4 @@
-// Whether bytes are a bucket page.
+// Whether bytes are a bucket page: the rules of its bytes by page_ok, the shared bits of its hashes slot by slot.
 ghost use mathlib.Core.Path.{_≡_};
 ghost use mathlib.Core.Bool.{true};
 ghost use Prim.Native.Nat.{_+_, _*_, _-_, _≤_, _<_};
@@ -7,9 +7,12 @@ ghost use Rattle.ground.specs.Says.{Says};
 ghost use Rattle.ground.specs.Lists.{part};
 ghost use Rattle.words.specs.Codes.{Before};
 ghost use Rattle.words.specs.Moves.{Cleared};
-ghost use Rattle.page.specs.Page.{BucketPage, count, frontier};
-ghost use Rattle.audit.specs.Rules.{HeadOk, NaturalAt, WordOk, Laid, Zeros, offOf, lenOf};
-ghost use Rattle.audit.specs.Marks.{Filled, Free, Covers, Clean, Next};
+ghost use Rattle.hash.specs.Fnv.{fnv};
+ghost use Rattle.partition.specs.Bits.{top};
+ghost use Rattle.page.specs.Page.{BucketPage, depth, count, frontier, code};
+ghost use Rattle.audit.specs.Rules.{HeadOk, NaturalAt, WordOk, SlotsOk, offOf, lenOf};
+ghost use Rattle.audit.specs.Marks.{Filled, Free, Covers, Clean, NextOk};
+ghost use Rattle.audit.specs.Shared.{Share, Keeps};
 use words::Order;
 
 fn head_ok(page: &[u8]) -> bool
@@ -96,17 +99,17 @@ fn fill(marks: &mut [u8], a: usize, b: usize)
     }
 }
 
-// Marks the bytes from a up to b, and says whether none of them was marked.
-fn mark(marks: &mut [u8], a: usize, b: usize) -> bool
-    requires { ⌜ (a ≤ b) × (b ≤ length (now marks)) ⌝ }
-    ensures says { λ r. ⌜ Says r (Free (now (marks .entry)) a b) ⌝ }
-    ensures marked { λ r. ⌜ Cleared (now (marks .entry)) a b (now (marks .exit)) ⌝ }
+// Marks the n bytes from o, and says whether none of them was marked.
+fn mark(marks: &mut [u8], o: usize, n: usize) -> bool
+    requires { ⌜ o + n ≤ length (now marks) ⌝ }
+    ensures says { λ r. ⌜ Says r (Free (now (marks .entry)) o (o + n)) ⌝ }
+    ensures marked { λ r. ⌜ Cleared (now (marks .entry)) o (o + n) (now (marks .exit)) ⌝ }
 {
     let mut acc: u8 = 255;
-    let mut k = a;
-    while k < b {
-        acc = acc & marks[k];
-        marks[k] = 0;
+    let mut k = 0;
+    while k < n {
+        acc = acc & marks[o + k];
+        marks[o + k] = 0;
         k += 1;
     }
     acc == 255
@@ -115,24 +118,24 @@ fn mark(marks: &mut [u8], a: usize, b: usize) -> bool
 // A slot's word after a code from a up to b: its rules, code order, its record's bytes marked for it alone.
 fn next_ok(page: &[u8], marks: &mut [u8], f: usize, a: usize, b: usize, w: usize) -> bool
     requires { ⌜ (f ≤ length (now page)) × (a ≤ b) × (b ≤ length (now page)) × (length (now marks) ≡ length (now page)) ⌝ }
-    ensures says { λ r. ⌜ Says r (Next (now (page .entry)) (now (marks .entry)) f a b w) ⌝ }
+    ensures says { λ r. ⌜ Says r (NextOk (now (page .entry)) (now (marks .entry)) f a b w) ⌝ }
     ensures marked { λ r. ⌜ (r ≡ true → Cleared (now (marks .entry)) (offOf w) (offOf w + lenOf w) (now (marks .exit))) ⌝ }
 {
     if !word_ok(page, f, w) {
         return false;
     }
     let o = w % 16384;
-    let e = o + w / 16384 % 16384;
-    if !rises(page, a, b, o + 8, e) {
+    let l = w / 16384 % 16384;
+    if !rises(page, a, b, o + 8, o + l) {
         return false;
     }
-    mark(marks, o, e)
+    mark(marks, o, l)
 }
 
 // The slots with their records, in one pass.
-fn laid(page: &[u8], marks: &mut [u8], n: usize, f: usize) -> bool
+fn slots_ok(page: &[u8], marks: &mut [u8], n: usize, f: usize) -> bool
     requires { ⌜ HeadOk (now page) × (n ≡ count (now page)) × (f ≡ frontier (now page)) × (length (now marks) ≡ length (now page)) × Covers (now page) 0 f (now marks) ⌝ }
-    ensures says { λ r. ⌜ Says r (Laid (now (page .entry))) ⌝ }
+    ensures says { λ r. ⌜ Says r (SlotsOk (now (page .entry))) ⌝ }
     ensures marked { λ r. ⌜ (r ≡ true → Covers (now (page .entry)) n f (now (marks .exit))) ⌝ }
 {
     let mut i = 0;
@@ -167,20 +170,6 @@ fn clean(page: &[u8], marks: &[u8], a: usize, b: usize) -> bool
     acc == 0
 }
 
-// Zeros from a up to b.
-pub fn zeros(page: &[u8], a: usize, b: usize) -> bool
-    requires { ⌜ (a ≤ b) × (b ≤ length (now page)) ⌝ }
-    ensures { λ r. ⌜ Says r (Zeros (now (page .entry)) a b) ⌝ }
-{
-    let mut acc: u8 = 0;
-    let mut k = a;
-    while k < b {
-        acc = acc | page[k];
-        k += 1;
-    }
-    acc == 0
-}
-
 // Whether the page keeps the rules of a bucket page (but for the hashes' shared bits). marks is scratch of the page's length; any bytes.
 pub fn page_ok(page: &[u8], marks: &mut [u8]) -> bool
     requires { ⌜ length (now marks) ≡ length (now page) ⌝ }
@@ -192,7 +181,7 @@ pub fn page_ok(page: &[u8], marks: &mut [u8]) -> bool
     let n = words::get16(page, 2);
     let f = words::get16(page, 4);
     fill(marks, 8, f);
-    if !laid(page, marks, n, f) {
+    if !slots_ok(page, marks, n, f) {
         return false;
     }
     if marks[f - 1] != 0 {
@@ -201,5 +190,57 @@ pub fn page_ok(page: &[u8], marks: &mut [u8]) -> bool
     if !clean(page, marks, 8, f) {
         return false;
     }
-    zeros(page, f, page.len() - 4 * n)
+    let e = page.len() - 4 * n;
+    words::all_zero(&page[f..e])
+}
+
+// The hash of slot i's code.
+pub fn hash_slot(page: &[u8], i: usize) -> u32
+    requires { ⌜ BucketPage (now page) × (i < count (now page)) ⌝ }
+    ensures { λ r. ⌜ r ≡ fnv (code (now (page .entry)) i) ⌝ }
+{
+    let e = page::extent_of(page, i);
+    let a = e.off + 8;
+    let b = e.off + e.len;
+    hash::hash(&page[a..b])
+}
+
+// Whether two hashes have the same prefix of k bits.
+pub fn shares(first: u32, x: u32, k: u8) -> bool
+    requires { ⌜ k ≤ 32 ⌝ }
+    ensures { λ r. ⌜ Says r (top k first ≡ top k x) ⌝ }
+{
+    (k as u32) <= partition::shared_bits(first, x)
+}
+
+// Whether the hashes of a bucket page share the first local-depth bits.
+pub fn share_ok(page: &[u8]) -> bool
+    requires { ⌜ BucketPage (now page) × (depth (now page) ≤ 32) ⌝ }
+    ensures { λ r. ⌜ Says r (Share fnv (now (page .entry))) ⌝ }
+{
+    let k = page[1];
+    let n = words::get16(page, 2);
+    let first = hash_slot(page, 0);
+    let mut i = 1;
+    while i < n {
+        if !shares(first, hash_slot(page, i), k) {
+            return false;
+        }
+        i += 1;
+    }
+    true
+}
+
+// Whether one page alone keeps every rule of a bucket page, with a local depth up to the deepest. marks is as for page_ok.
+pub fn bucket_ok(page: &[u8], marks: &mut [u8], deepest: u8) -> bool
+    requires { ⌜ (length (now marks) ≡ length (now page)) × (deepest ≤ 32) ⌝ }
+    ensures { λ r. ⌜ Says r (Keeps deepest (now (page .entry))) ⌝ }
+{
+    if !page_ok(page, marks) {
+        return false;
+    }
+    if deepest < page[1] {
+        return false;
+    }
+    share_ok(page)
 }

@@ -1,4 +1,5 @@
-use Rattle.audit.proofs.Marks.{or-zero, zero-or, clean-none, clean-more, clean-till}
+use Rattle.words.proofs.Zeros.{or-zero, zero-or}
+use Rattle.audit.proofs.Marks.{clean-none, clean-more, clean-till}
 use Rattle.audit.specs.Marks.{Clean}
 use Rattle.ground.proofs.Tests.{says-eqb}
 use native.Mathlib.Omega.{arith}

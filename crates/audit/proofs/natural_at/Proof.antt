@@ -1,5 +1,6 @@
 use Rattle.audit.specs.Rules.{NaturalAt}
-use Rattle.audit.proofs.Marks.{or-small, says-ltb}
+use Rattle.ground.proofs.Tests.{says-ltb}
+use Rattle.audit.proofs.Marks.{or-small}
 use lib.Bits.{or-lt}
 use native.Mathlib.Omega.{arith}
 use borrow.Author.Needs.{needs}

@@ -25,11 +25,11 @@ word-ok-requires c κs = search needs
 returns : tie.Need-returns
 returns c = ((λ n. says-false (c .before .word-ok .result) (not-true _ (c .if1 .taken)) (c .before .word-ok .ensures) (n .sound)), (λ e. untrue e))
 
-add-e : tie.Need-add-e
-add-e c = search needs
-
 add-rises : tie.Need-add-rises
 add-rises c = search needs
+
+add-rises-2 : tie.Need-add-rises-2
+add-rises-2 c = search needs
 
 climbs : (c : tie.After-rises) → Says (c .rises .result) (Before (part (c .before .before .before .before .before .args .page .now) (c .before .before .before .before .before .args .a) (c .before .before .before .before .before .args .b - c .before .before .before .before .before .args .a))
     (part (c .before .before .before .before .before .args .page .now) (offOf (c .before .before .before .before .before .args .w) + 8) (lenOf (c .before .before .before .before .before .args .w) - 8)))
@@ -63,8 +63,8 @@ next-ok-spec =
     (tie.spec
     word-ok-requires
     returns
-    add-e
     add-rises
+    add-rises-2
     rises-requires
     returns-2
     mark-requires

@@ -1,4 +1,5 @@
-use Rattle.audit.proofs.Whole.{Known, head-of, laid-of, top-of, clean-of, zeros-of, whole}
+use Rattle.ground.specs.Lists.{part}
+use Rattle.audit.proofs.Whole.{Known, head-of, slots-of, top-of, clean-of, zeros-of, whole}
 use Rattle.audit.proofs.Marks.{covers-none}
 use Rattle.audit.specs.Rules.{HeadOk}
 use Rattle.ground.proofs.Tests.{says-true, says-false, says-same}
@@ -16,7 +17,7 @@ head c = says-true (c .before .head-ok .result) (not-false _ (c .if1 .left)) (c 
 abbrev start : (c : tie.Else2) → tie.Start
 start c = c .before .before .before .before .before .before .before .before .before .before .before .before .before .before .before
 
-known : (c : tie.Else2) → Known (start c .args .page .now) (c .before .before .before .laid .last .1 .0)
+known : (c : tie.Else2) → Known (start c .args .page .now) (c .before .before .before .slots-ok .last .1 .0)
     (c .before .before .before .before .before .before .before .before .before .before .get16 .result) (c .before .before .before .before .before .before .before .before .before .get162 .result)
 known c =
     let a = c .before .before .before in
@@ -25,11 +26,11 @@ known c =
     record {
       head = head (d .before .before);
       bytes = λ k. omega (arith, d .before .before .before .before .before .shared-slice-known .given k);
-      long = a .laid .kept .1 .0 ∙ a .before .before .before .before .fill .kept .0 ∙ d .before .before .before .before .before .before .pre;
+      long = a .slots-ok .kept .1 .0 ∙ a .before .before .before .before .fill .kept .0 ∙ d .before .before .before .before .before .before .pre;
       rows = d .before .get16 .ensures .0;
       front = d .get162 .ensures .0;
-      slots = says-true (a .laid .result) y (a .laid .ensures .0);
-      marks = a .laid .ensures .1 y;
+      slots = says-true (a .slots-ok .result) y (a .slots-ok .ensures .0);
+      marks = a .slots-ok .ensures .1 y;
     }
 
 head-ok-requires : tie.Need-head-ok-requires
@@ -47,8 +48,8 @@ get16-requires-2 c κs = omega (arith, head (c .before))
 fill-requires : tie.Need-fill-requires
 fill-requires c κs = omega (arith, head (c .before .before .before))
 
-laid-requires : tie.Need-laid-requires
-laid-requires c κs =
+slots-ok-requires : tie.Need-slots-ok-requires
+slots-ok-requires c κs =
     let d = c .before .before .before .before .before in
     let l = c .before .before .before .fill in
     (head (d .before .before), d .before .get16 .ensures .0, d .get162 .ensures .0, l .kept .0 ∙ d .before .before .before .before .before .before .pre, covers-none _ _ _ _ (l .ensures))
@@ -57,7 +58,7 @@ same-length : tie.Need-same-length
 same-length c = search needs
 
 returns-2 : tie.Need-returns-2
-returns-2 c = λ b. says-false (c .before .before .before .laid .result) (not-true _ (c .if2 .taken)) (c .before .before .before .laid .ensures .0) (laid-of _ b)
+returns-2 c = λ b. says-false (c .before .before .before .slots-ok .result) (not-true _ (c .if2 .taken)) (c .before .before .before .slots-ok .ensures .0) (slots-of _ b)
 
 sub-if3 : tie.Need-sub-if3
 sub-if3 c = let k = known c in omega (arith, k .head, k .front)
@@ -80,24 +81,35 @@ same-length-3 c = search needs
 returns-4 : tie.Need-returns-4
 returns-4 c = λ b. says-false (c .before .clean .result) (not-true _ (c .if4 .taken)) (c .before .clean .ensures) (clean-of _ _ _ _ (known (c .before .before .before .before .before)) b)
 
-mul-zeros : tie.Need-mul-zeros
-mul-zeros c = search needs
+mul-e : tie.Need-mul-e
+mul-e c = search needs
 
-sub-zeros : tie.Need-sub-zeros
-sub-zeros c = let k = known (c .before .before .before .before .before) in omega (arith, k .head, k .rows)
+sub-e : tie.Need-sub-e
+sub-e c = let k = known (c .before .before .before .before .before) in omega (arith, k .head, k .rows)
 
-zeros-requires : tie.Need-zeros-requires
-zeros-requires c κs = let k = known (c .before .before .before .before .before) in omega (arith, k .head, k .rows, k .front)
+sub-all-zero : tie.Need-sub-all-zero
+sub-all-zero c = let k = known (c .before .before .before .before .before) in omega (arith, k .head, k .rows, k .front)
+
+part-all-zero-start : tie.Need-part-all-zero-start
+part-all-zero-start c = let k = known (c .before .before .before .before .before) in omega (arith, k .head, k .rows, k .front)
+
+part-all-zero-end : tie.Need-part-all-zero-end
+part-all-zero-end c = search needs
+
+all-zero-requires : tie.Need-all-zero-requires
+all-zero-requires c κs = search needs
 
 same-length-4 : tie.Need-same-length-4
 same-length-4 c = search needs
 
 returns-5 : tie.Need-returns-5
+unfolding part
 returns-5 c =
-    let k = known (c .before .before .before .before .before .before) in
-    let d = c .before .before in
-    says-same (c .zeros .result) (c .zeros .ensures)
-    (λ z. whole _ _ _ _ k (d .before .before .if3 .left) (says-true (d .clean .result) (not-false _ (c .before .if4 .left)) (d .clean .ensures)) z)
+    let z = c .all-zero in
+    let e = c .before .before in
+    let k = known (e .before .before .before .before .before) in
+    says-same (z .result) (z .ensures)
+    (λ o. whole _ _ _ _ k (e .before .before .before .if3 .left) (says-true (e .before .clean .result) (not-false _ (e .if4 .left)) (e .before .clean .ensures)) o)
     (λ b. zeros-of _ _ _ _ k b)
 
 pub page-ok-spec : {M : Type 1} → statement M
@@ -109,7 +121,7 @@ page-ok-spec =
     get16-requires
     get16-requires-2
     fill-requires
-    laid-requires
+    slots-ok-requires
     same-length
     returns-2
     sub-if3
@@ -119,8 +131,11 @@ page-ok-spec =
     clean-requires
     same-length-3
     returns-4
-    mul-zeros
-    sub-zeros
-    zeros-requires
+    mul-e
+    sub-e
+    sub-all-zero
+    part-all-zero-start
+    part-all-zero-end
+    all-zero-requires
     same-length-4
     returns-5)

@@ -1,6 +1,6 @@
-use Rattle.audit.specs.Rules.{Laid, prior}
-use Rattle.audit.specs.Marks.{Next}
-use Rattle.audit.proofs.Sweep.{Swept, swept-none, swept-more, next-of, last-more, needs-more, word-is, laid-all}
+use Rattle.audit.specs.Rules.{SlotsOk, prior}
+use Rattle.audit.specs.Marks.{NextOk}
+use Rattle.audit.proofs.Sweep.{Swept, swept-none, swept-more, next-of, last-more, needs-more, word-is, slots-all}
 use Rattle.page.specs.Page.{need, word, count}
 use Rattle.ground.proofs.Tests.{says-true, says-false, says-eqb, untrue}
 use Rattle.ground.specs.Lists.{part, total}
@@ -10,8 +10,8 @@ use borrow.Author.Needs.{needs}
 use native.Mathlib.Omega.{arith}
 use mathlib.Core.Path.{_≡_, refl, sym, _∙_}
 use Prim.Native.Nat.{ℕ, _+_, _*_, _-_, _/_, _%_, _≤_, _<_}
-use Rattle.audit.proofs.laid.Statement.{statement}
-use Rattle.audit.proofs.laid.Tie as tie
+use Rattle.audit.proofs.slots_ok.Statement.{statement}
+use Rattle.audit.proofs.slots_ok.Tie as tie
 
 abbrev Inv-loop : tie.InvT-loop
 Inv-loop page marks₀ n f i₀ a₀ b₀ needs₀ marks i a b needs = (i ≤ n) × (a ≤ b) × (b ≤ length page) × (length marks ≡ length marks₀) × (needs ≡ total (need page) i) × (needs ≤ 76 * i) × Swept page i f marks × (part page a (b - a) ≡ prior page i)
@@ -55,7 +55,7 @@ returns c =
     )
 
 -- the slot that was just taken
-next : (c : tie.Else1 Inv-loop μ-loop) → let s = c .before .before .before .before .before .before .before .before .before .before .args in let l = c .before .before .before .before .before .before .before .loop in Next (s .page .now) (l .marks) (s .f) (l .a) (l .b) (c .before .before .before .before .before .get32 .result)
+next : (c : tie.Else1 Inv-loop μ-loop) → let s = c .before .before .before .before .before .before .before .before .before .before .args in let l = c .before .before .before .before .before .before .before .loop in NextOk (s .page .now) (l .marks) (s .f) (l .a) (l .b) (c .before .before .before .before .before .get32 .result)
 next c = says-true (c .before .before .before .next-ok .result) (not-false _ (c .if1 .left)) (c .before .before .before .next-ok .ensures .0)
 
 add-a : tie.Need-add-a Inv-loop μ-loop
@@ -114,12 +114,12 @@ returns-2 c =
     let e : l .i ≡ count p = omega arith in
     let u : l .needs ≡ total (need p) (count p) = rw e at (l .inv .4) in
     let w : Swept p (count p) (s .args .f) (l .marks) = rw e at (l .inv .6) in (
-      says-eqb {P = Laid p} (c .get16 .result + l .needs) (length p - 8) (λ z. laid-all p (l .marks) (s .args .f) (s .pre .2) w (omega arith)) (λ h. omega (arith, h .unused)),
+      says-eqb {P = SlotsOk p} (c .get16 .result + l .needs) (length p - 8) (λ z. slots-all p (l .marks) (s .args .f) (s .pre .2) w (omega arith)) (λ h. omega (arith, h .unused)),
       (λ _. rw (s .pre .1) (w .covers)),
     )
 
-pub laid-spec : {M : Type 1} → statement M
-laid-spec =
+pub slots-ok-spec : {M : Type 1} → statement M
+slots-ok-spec =
     tie.close
     (tie.spec
     Inv-loop
