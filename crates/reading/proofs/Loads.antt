@@ -1,7 +1,7 @@
 -- What the rows of a prefix need, added up page by page. Assumes nothing.
 use mathlib.Core.Path.{_≡_, refl, sym, ap, subst, _∙_}
 use mathlib.Core.Bool.{Bool, true, false}
-use mathlib.Core.List.{List, [], _∷_, _++_, map, flatMap, List·Memᴰ, List·Memᴰ·not-nil, List·Memᴰ·cases-cons}
+use mathlib.Core.List.{List, [], _∷_, _++_, map, flatMap}
 use mathlib.Core.Logic.{_⊎_, inl, inr, ⊎-elim}
 use Prim.Native.Nat.{ℕ, zero, suc, _+_, _-_, _*_, _/_, _^_, _≤_, _<_}
 use native.Mathlib.Omega.{arith}
@@ -11,10 +11,9 @@ use borrow.Author.Tests.{eq-eqb, ne-eqb}
 use Rattle.ground.specs.Lists.{byte, tab, total}
 use Rattle.ground.proofs.Sides.{side, same}
 use Rattle.ground.proofs.Tables.{total-same}
-use Rattle.page.specs.Page.{Slotted, Record, depth, count, code, rows, rowAt, need}
-use Rattle.page.proofs.Sums.{len-of-code}
+use Rattle.page.specs.Page.{Slotted, depth, count, code, rows}
 use Rattle.partition.specs.Bits.{top}
-use Rattle.partition.specs.Partition.{Shape, Row, needs, rowsOf, need as needOf}
+use Rattle.partition.specs.Partition.{Shape, Row, needs, rowsOf}
 use Rattle.partition.proofs.Bits.{top-step}
 use Rattle.partition.proofs.Path.{path-cut}
 use Rattle.partition.proofs.Pages.{rows-append, rows-every, rows-none}
@@ -24,6 +23,7 @@ use Rattle.store.specs.Moves.{pick}
 use Rattle.store.specs.Demands.{Sized, Hash}
 use Rattle.store.proofs.Unique.{read-zero, read-bucket}
 use Rattle.store.proofs.Owner.{called, shared}
+use Rattle.store.proofs.Showing.{page-row}
 
 needs-append : (s t : List Row) → needs (s ++ t) ≡ needs s + needs t
 unfolding needs
@@ -47,7 +47,7 @@ shorter a b j k l e =
     sym (cut a) ∙ ap (λ n. n / 2 ^ (k - j)) e ∙ cut b
 
 -- a bucket's rows, by its slots
-module _ (h : List ℕ → ℕ) (g : List ℕ) (b : BucketPage g) (j v : ℕ) where
+module _ (h : List ℕ → ℕ) (g : List ℕ) (b : Slotted g) (j v : ℕ) where
   all-on : ((i : ℕ) → i < count g → top j (h (code g i)) ≡ v) → rowsOf h (map asRow (rows g)) j v ≡ map asRow (rows g)
   all-on f = rows-every h (map asRow (rows g)) j v (λ r m.
       let y = page-row g b r m in
@@ -99,7 +99,7 @@ module _ (S : Shape) (h : List ℕ → ℕ) (sized : Sized S) (hash : Hash h) (s
         some = omega (arith, b .rules .some)
 
         gone : ((i : ℕ) → i < count g → top j (h (code g i)) ≡ w → ⊥) → Goal
-        gone off = ap needs (all-off h g (b .rules) j w off) ∙ sym (ap (λ t. pick t (needs (map asRow (rows g))) 0) (ne-eqb (top j (first q)) w (off 0 some)))
+        gone off = ap needs (all-off h g (b .rules .rules) j w off) ∙ sym (ap (λ t. pick t (needs (map asRow (rows g))) 0) (ne-eqb (top j (first q)) w (off 0 some)))
 
         lower : depth g < j → Goal
         lower l = gone (λ i m. apart q i Q (b .rules .rules .one) l m)
@@ -109,7 +109,7 @@ module _ (S : Shape) (h : List ℕ → ℕ) (sized : Sized S) (hash : Hash h) (s
 
         upper : j ≤ depth g → Goal
         upper l = ⊎-elim
-            (λ e. ap needs (all-on h g (b .rules) j w (λ i m. like l i m ∙ e)) ∙ sym (ap (λ t. pick t (needs (map asRow (rows g))) 0) (eq-eqb (top j (first q)) w e)))
+            (λ e. ap needs (all-on h g (b .rules .rules) j w (λ i m. like l i m ∙ e)) ∙ sym (ap (λ t. pick t (needs (map asRow (rows g))) 0) (eq-eqb (top j (first q)) w e)))
             (λ n. gone (λ i m e. n (sym (like l i m) ∙ e)))
             (same (top j (first q)) w)
 
