@@ -1,3 +1,4 @@
 pub mod Formats
 pub mod Directories
 pub mod Prefixes
+pub mod Gathers

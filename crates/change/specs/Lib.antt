@@ -1,2 +1,3 @@
 pub mod Directory
 pub mod Prefix
+pub mod Join
