@@ -3,7 +3,6 @@ ghost use mathlib.Core.Path.{_≡_};
 ghost use Prim.Native.Nat.{_+_, _*_, _≤_, _<_};
 ghost use lib.ListN.{length};
 ghost use Rattle.store.specs.Pages.{S1024, page, read, depthOn, contents, deepestIn};
-
 use page::Place;
 
 pub enum Answer {
