@@ -3,7 +3,7 @@
 use mathlib.Core.Path.{_≡_, refl, sym, ap, _∙_, subst}
 use mathlib.Core.Logic.{_⊎_, inl, inr, _↔_}
 use mathlib.Core.List.{List, _∷_, List·Memᴰ, List·Memᴰ·cases-cons}
-use Prim.Native.Nat.{ℕ, zero, suc, _+_, _-_, _/_, _^_, _≤_, _<_}
+use Prim.Native.Nat.{ℕ, zero, suc, _+_, _/_, _^_, _≤_, _<_}
 use native.Mathlib.Nat.{le-refl}
 use native.Mathlib.Decide.{decLe}
 use native.Mathlib.Omega.{arith}
@@ -12,9 +12,9 @@ use Rattle.partition.specs.Partition.{Row, Shape, need, needs, rowsOf, I
 use Rattle.partition.specs.Listing.{inOrder, Once}
 use Rattle.partition.proofs.Bits.{top-step}
 use Rattle.partition.proofs.Tree.{Under, half-shr}
-use Rattle.partition.proofs.Path.{path-short, path-under}
+use Rattle.partition.proofs.Path.{path-under}
 use Rattle.partition.proofs.Rows.{load, load-on, same-bucket}
-use Rattle.partition.proofs.Laws.{bucket-shallowest, load-reordered, rows-below, add-splits}
+use Rattle.partition.proofs.Laws.{share-fewer, bucket-shallowest, load-reordered, rows-below, add-splits}
 use Rattle.partition.proofs.Splice.{rows-cons}
 use Rattle.partition.proofs.Sum.{prefix-row, head-of}
 use Rattle.partition.proofs.Pages.{rows-every}
@@ -28,11 +28,6 @@ under-down j w i v u l = go (u .more) (u .deep) (u .cut)
     go : (m : ℕ) → suc i ≡ j + m → v / 2 ^ m ≡ w → Under j w i (v / 2)
     go zero e c = absurd (omega arith)
     go (suc m) e c = record { more = m; deep = omega arith; cut = half-shr v m ∙ c }
-
--- hashes that share a prefix share each shorter one
-shorter : (a b l k : ℕ) → l ≤ k → top k a ≡ top k b → top l a ≡ top l b
-shorter a b l k le e =
-    sym (path-short (λ i. top i a) (top-step a) l k le) ∙ ap (λ n. n / 2 ^ (k - l)) e ∙ path-short (λ i. top i b) (top-step b) l k le
 
 module _ (S : Shape) (h : List ℕ → ℕ) (small : (c : List ℕ) → h c < 2 ^ 32) (r : Row) (rs : List Row) (k : ℕ) (ts : List Row) (same : Reordered ts (rowsOf h rs k (top k (h (r .code))))) where
   abbrev x : ℕ
@@ -67,7 +62,7 @@ module _ (S : Shape) (h : List ℕ → ℕ) (small : (c : List ℕ) → h c < 2 
     -- a shorter prefix has them all, and they do not fit
     all-heavy : (l : ℕ) → l ≤ k → S .capacity < load h (r ∷ ts) l (top l x)
     all-heavy l le =
-        let all : (i : ℕ) → i ≤ k → rowsOf h (r ∷ ts) i (top i x) ≡ r ∷ ts = λ i j. rows-every h (r ∷ ts) i (top i x) (λ q m. shorter (h (q .code)) x i k j (of-page q m)) in
+        let all : (i : ℕ) → i ≤ k → rowsOf h (r ∷ ts) i (top i x) ≡ r ∷ ts = λ i j. rows-every h (r ∷ ts) i (top i x) (λ q m. share-fewer (h (q .code)) x i k j (of-page q m)) in
         let e : load h (r ∷ ts) l (top l x) ≡ load h (r ∷ ts) k v = ap needs (all l le ∙ sym (all k (le-refl k))) in
         omega (arith, load-same k v self, load-on h r rs k)
 
@@ -82,7 +77,7 @@ module _ (S : Shape) (h : List ℕ → ℕ) (small : (c : List ℕ) → h c < 2 
 
         go : Dec (l ≤ k) → (k < l) × Under k v l w
         go (yes le) =
-            let e : top l x ≡ w = sym (shorter (h (q .0 .code)) x l k le (of-page (q .0) (at .0))) ∙ at .1 in
+            let e : top l x ≡ w = sym (share-fewer (h (q .0 .code)) x l k le (of-page (q .0) (at .0))) ∙ at .1 in
             absurd (omega (arith, subst (λ n. S .capacity < load h (r ∷ ts) l n) e (all-heavy l le), c .fit))
         go (no n) =
             let y = h (q .0 .code) in

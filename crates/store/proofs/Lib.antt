@@ -10,7 +10,9 @@ pub mod RemoveShows
 pub mod RemoveCases
 pub mod Rooms
 pub mod Written
+pub mod Holder
 pub mod PutShows
+pub mod PutCases
 pub mod PutKept
 pub mod Unique
 pub mod Settled
@@ -33,3 +35,6 @@ pub mod Accepting
 pub mod Reading
 pub mod Walked
 pub mod Whole
+pub mod Slotwise
+pub mod PageTies
+pub mod Views

@@ -4,8 +4,8 @@ use mathlib.Core.Path.{_≡_, refl, sym, ap, subst, subst₂, _∙_}
 use mathlib.Core.Bool.{Bool, true, false, not}
 use mathlib.Core.List.{List, [], _∷_, map, List·Memᴰ, List·Memᴰ·head, List·Memᴰ·not-nil, List·Memᴰ·eq-of-singleton}
 use mathlib.Core.Logic.{_⊎_, inl, inr, _≢_}
-use mathlib.Core.Option.{Option, some, none}
-use Prim.Native.Nat.{ℕ, zero, suc, _+_, _^_, _≤_, _<_}
+use mathlib.Core.Option.{some, none}
+use Prim.Native.Nat.{ℕ, _+_, _^_, _≤_, _<_}
 use native.Mathlib.Nat.{le-refl}
 use native.Mathlib.Omega.{arith}
 use lib.Dec.{T, leb, leb→le, nleb→lt}
@@ -22,13 +22,13 @@ use Rattle.partition.proofs.Frame.{dec-under, inside-of}
 use Rattle.partition.proofs.Rows.{load, load-mono, load-on, rows-on, no-need, to-load, listed}
 use Rattle.partition.proofs.Laws.{Shallowest, bucket-shallowest, reordered, outside, inside, add-stays, add-appears, left-joined, has-bucket, in-order}
 use Rattle.partition.proofs.Store.{fine-add, home, outside-rows, not-deeper}
-use Rattle.partition.proofs.Members.{Distinct, asc-distinct, in-order-reordered}
-use Rattle.partition.proofs.Reorders.{needs-same}
+use Rattle.partition.proofs.Members.{asc-distinct}
 use Rattle.partition.proofs.Below.{load-same, order-below, below}
 use Rattle.store.specs.Pages.{Page, free, bucket, asRow, rowsIn}
 use Rattle.store.specs.Moves.{pick, find, isFree, holds, bucketOf, packFrom, packed, added, written, newBucket, putOn, putNew}
-use Rattle.store.proofs.Shows.{prefixOn, OnPage, Holding, Shows}
-use Rattle.store.proofs.Shown.{free-not, within-pages, Part, Any, page-of, whole, shows-of, find-held, find-unheld, bucket-found}
+use Rattle.store.proofs.Shows.{prefixOn, Holding, Shows}
+use Rattle.store.proofs.Shown.{within-pages, Part, Any, page-of, whole, shows-of, find-held, find-unheld, bucket-found}
+use Rattle.store.proofs.Holder.{its-bucket, its-shallowest, its-order, its-rows, its-needs}
 use Rattle.store.proofs.Rooms.{Its, bucket-one, set-other, fill, fill-keeps, clear, becomes, enough, find-free}
 use Rattle.store.proofs.Records.{rows-packed, rows-added}
 use Rattle.store.proofs.Written.{Found, New, Wrote, write-all, written-over}
@@ -102,20 +102,16 @@ module _ (S : Shape) (h : List ℕ → ℕ) (small : (c : List ℕ) → h c < 2 
       is-free = getD-set-same gs i free free there
 
       mine : IsBucket S h rows k v
-      mine = subst (IsBucket S h rows k) held (s .page i k rs e .is)
+      mine = its-bucket S h rows gs s x i k rs e held
 
       shallow : Shallowest S h rows x k
-      shallow = bucket-shallowest S h rows x k mine
-
-      ordered : map asRow rs ≡ inOrder (rowsOf h rows k v)
-      ordered = subst (λ w. map asRow rs ≡ inOrder (rowsOf h rows k w)) held (s .page i k rs e .ordered)
+      shallow = its-shallowest S h rows gs s x i k rs e held
 
       same : Reordered (map asRow rs) (rowsOf h rows k v)
-      same = subst (λ l. Reordered l (rowsOf h rows k v)) (sym ordered) (in-order-reordered (rowsOf h rows k v))
+      same = its-rows S h rows gs s x i k rs e held
 
       all-need : needs (r ∷ map asRow rs) ≡ need r + needs (rowsOf h rows k v)
-      unfolding needs
-      all-need = ap (λ n. need r + n) (needs-same same)
+      all-need = its-needs S h rows gs s x i k rs e held r
 
       others : Part S h (r ∷ rows) (Out k) cleared
       others =
@@ -142,7 +138,7 @@ module _ (S : Shape) (h : List ℕ → ℕ) (small : (c : List ℕ) → h c < 2 
           now = add-stays S h r rows k shallow (to-load S h rows k v mine .pos) (omega (arith, fits, all-need)) k v .0 mine
 
           rows-now : map asRow (added S rs r) ≡ inOrder (rowsOf h (r ∷ rows) k v)
-          rows-now = rows-added S rs r ∙ ap (insert (λ q. q .code) r) ordered ∙ ap inOrder (sym (rows-on h r rows k))
+          rows-now = rows-added S rs r ∙ ap (insert (λ q. q .code) r) (its-order S h rows gs s x i k rs e held) ∙ ap inOrder (sym (rows-on h r rows k))
 
       -- it does not: the new buckets, worked out from the page's rows and the new one
       module _ (heavy : S .capacity < needs (r ∷ map asRow rs)) where

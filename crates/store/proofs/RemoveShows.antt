@@ -17,7 +17,7 @@ use Rattle.partition.specs.Bits.{top}
 use Rattle.partition.specs.Partition.{Shape, Row, needs, rowsOf, IsBucket, Fine, buckets}
 use Rattle.partition.specs.Listing.{by, without, inOrder, placeOf}
 use Rattle.partition.proofs.Bits.{top-step}
-use Rattle.partition.proofs.Laws.{Shallowest, no-overlap, bucket-shallowest}
+use Rattle.partition.proofs.Laws.{share-fewer, Shallowest, no-overlap, bucket-shallowest}
 use Rattle.partition.proofs.Maps.{cut, cut-none, cut-same, cut-front, placed}
 use Rattle.partition.proofs.Path.{fit-above}
 use Rattle.partition.proofs.Reorders.{turned}
@@ -29,12 +29,11 @@ use Rattle.partition.proofs.Tree.{pfx}
 use Rattle.store.specs.Pages.{Page, free, bucket, asRow, depthOn, rowsIn}
 use Rattle.store.specs.Moves.{pick, find, within, holds, bucketOf, packFrom, packed, clearedOn, joined, removeOn, removed}
 use Rattle.store.proofs.Shows.{firstCode, prefixOn, OnPage, Holding, Shows}
-use Rattle.store.proofs.Shown.{within-pages, find-passes, find-least, shows-reordered}
+use Rattle.store.proofs.Shown.{within-on, within-pages, find-passes, find-least, shows-reordered}
 use Rattle.store.proofs.Records.{rows-packed}
 use Rattle.store.proofs.PutKept.{Kept}
 use Rattle.store.proofs.BucketOf.{shallowest-bucket, bucket-of-some, bucket-of-none}
 use Rattle.store.proofs.Known.{Known, known}
-use Rattle.store.proofs.Within.{within-on, share-fewer}
 use Rattle.store.proofs.Fewer.{makes-page, at-least, Left, cleared, filled, Fewer, fewer-shows, fewer-kept}
 
 -- a row's own code goes

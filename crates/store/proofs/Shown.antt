@@ -23,7 +23,7 @@ use Rattle.partition.proofs.Pages.{turned}
 use Rattle.partition.proofs.Members.{mem-reordered, in-order-reordered, once-append, once-ext}
 use Rattle.ground.proofs.Sides.{side}
 use Rattle.store.specs.Pages.{Page, free, bucket, asRow, rowsOn, rowsIn}
-use Rattle.store.specs.Moves.{pick, find, holds, bucketOf}
+use Rattle.store.specs.Moves.{pick, find, within, holds, bucketOf}
 use Rattle.store.proofs.Shows.{prefixOn, OnPage, Holding, Shows}
 
 pub free-not : {k : ℕ} {rs : List Record} → free ≡ bucket k rs → ⊥
@@ -91,13 +91,16 @@ find-least f (g ∷ gs) i l e = go (f g) refl i l e (find-least f gs)
     go false p zero l e rest = absurd (let z : true ≡ false = sym e ∙ p in let n : _≡_ {A = ℕ} 0 1 = cc in omega arith)
     go false p (suc i) l e rest = omega (arith, rest i (omega arith) e)
 
+pub within-on : (h : List ℕ → ℕ) (j v k : ℕ) (rs : List Record) → 0 < length rs → (within h j v (bucket k rs) ≡ true) ↔ (prefixOn h j rs ≡ v)
+within-on h j v k [] l = absurd (omega arith)
+within-on h j v k (r ∷ rs) l = (
+  (λ e. eqb→eq (top j (h (r .code))) v (subst T (sym e) tt)),
+  (λ e. test (eqb (top j (h (r .code))) v) (subst (λ n. T (eqb (top j (h (r .code))) n)) e (eqb-refl (top j (h (r .code)))))),
+)
+
 module _ (h : List ℕ → ℕ) where
   pub holds-on : (x k : ℕ) (rs : List Record) → 0 < length rs → (holds h x (bucket k rs) ≡ true) ↔ (prefixOn h k rs ≡ top k x)
-  holds-on x k [] l = absurd (omega arith)
-  holds-on x k (r ∷ rs) l = (
-    (λ e. eqb→eq (top k (h (r .code))) (top k x) (subst T (sym e) tt)),
-    (λ e. test (eqb (top k (h (r .code))) (top k x)) (subst (λ n. T (eqb (top k (h (r .code))) n)) e (eqb-refl (top k (h (r .code)))))),
-  )
+  holds-on x k rs l = within-on h k (top k x) k rs l
 
   holds-free : (x : ℕ) (g : Page) → g ≡ free → holds h x g ≡ true → ⊥
   holds-free x g e t = let z : false ≡ true = ap (λ p. holds h x p) (sym e) ∙ t in let n : _≡_ {A = ℕ} 0 1 = cc in omega arith

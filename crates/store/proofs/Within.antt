@@ -4,9 +4,8 @@ use mathlib.Core.Path.{_≡_, refl, sym, ap, ap₂, subst, _∙_}
 use mathlib.Core.Bool.{Bool, true, false}
 use mathlib.Core.List.{List, [], _∷_, _++_, map, flatMap, List·Memᴰ·not-nil}
 use mathlib.Core.Logic.{_⊎_, inl, inr, _↔_}
-use Prim.Native.Nat.{ℕ, suc, _+_, _-_, _/_, _^_, _≤_, _<_}
+use Prim.Native.Nat.{ℕ, suc, _+_, _/_, _^_, _≤_, _<_}
 use native.Mathlib.Omega.{arith}
-use lib.Dec.{T, eqb, eqb→eq, eqb-refl}
 use lib.ListN.{length, getD}
 use Rattle.ground.specs.Lists.{total}
 use Rattle.ground.proofs.Sides.{side}
@@ -14,29 +13,15 @@ use Rattle.page.specs.Page.{Record}
 use Rattle.partition.specs.Bits.{top}
 use Rattle.partition.specs.Partition.{Shape, Row, needs, rowsOf, IsBucket}
 use Rattle.partition.proofs.Bits.{top-step}
-use Rattle.partition.proofs.Laws.{no-overlap}
+use Rattle.partition.proofs.Laws.{share-fewer, no-overlap}
 use Rattle.partition.proofs.Pages.{rows-append, rows-every, rows-none}
 use Rattle.partition.proofs.Path.{path-cut, path-under}
 use Rattle.partition.proofs.Reorders.{turned, needs-same, needs-append, rows-same}
-use Rattle.partition.proofs.Rows.{test}
 use Rattle.partition.proofs.Tree.{Under}
 use Rattle.store.specs.Pages.{Page, free, bucket, asRow, rowsOn, rowsIn}
 use Rattle.store.specs.Moves.{pick, within}
 use Rattle.store.proofs.Shows.{firstCode, prefixOn, OnPage, Holding, Shows}
-use Rattle.store.proofs.Shown.{page-row}
-
-pub within-on : (h : List ℕ → ℕ) (j v k : ℕ) (rs : List Record) → 0 < length rs → (within h j v (bucket k rs) ≡ true) ↔ (prefixOn h j rs ≡ v)
-within-on h j v k [] l = absurd (omega arith)
-within-on h j v k (r ∷ rs) l = (
-  (λ e. eqb→eq (top j (h (r .code))) v (subst T (sym e) tt)),
-  (λ e. test (eqb (top j (h (r .code))) v) (subst (λ n. T (eqb (top j (h (r .code))) n)) e (eqb-refl (top j (h (r .code)))))),
-)
-
--- hashes that share k bits share fewer
-pub share-fewer : (x y j k : ℕ) → j ≤ k → top k x ≡ top k y → top j x ≡ top j y
-share-fewer x y j k l e =
-    let q : j + (k - j) ≡ k = omega arith in
-    sym (path-cut (λ i. top i x) (top-step x) (k - j) j) ∙ ap (λ n. top n x / 2 ^ (k - j)) q ∙ ap (λ n. n / 2 ^ (k - j)) e ∙ sym (ap (λ n. top n y / 2 ^ (k - j)) q) ∙ path-cut (λ i. top i y) (top-step y) (k - j) j
+use Rattle.store.proofs.Shown.{page-row, within-on}
 
 -- the pages that pass a test, the others cleared
 abbrev pub only : (Page → Bool) → List Page → List Page
