@@ -4,11 +4,11 @@
 use mathlib.Core.Path.{_≡_, refl, sym, ap, _∙_, subst}
 use mathlib.Core.Logic.{_⊎_, inl, inr, _≢_}
 use mathlib.Core.List.{List, [], _∷_, _++_, List·Memᴰ, List·Memᴰ·head, List·Memᴰ·tail, List·Memᴰ·not-nil, List·Memᴰ·cases-cons, List·Memᴰ·append-cases, Memᴰ·append-left, Memᴰ·append-right, Memᴰ·cast}
-use Prim.Native.Nat.{ℕ, suc, _+_, _≤_, _<_, zero-le}
+use Prim.Native.Nat.{ℕ, suc, _+_, _≤_, zero-le}
 use native.Mathlib.Omega.{arith}
 use lib.ListN.{length, length-append}
 use Rattle.partition.specs.Partition.{Row, Prefix, Reordered, empty, front, chain, after, Ascending}
-use Rattle.partition.specs.Listing.{placeOf, Once}
+use Rattle.partition.specs.Listing.{Once}
 use Rattle.partition.proofs.Order.{asc-first, first-lt-after}
 use Rattle.partition.proofs.Reorders.{to-front, turned}
 use Rattle.partition.proofs.Sorted.{same-map}

@@ -127,7 +127,7 @@ module _ (S : Shape) (h : List ℕ → ℕ) (small : (c : List ℕ) → h c < 2 
           its w = ap (λ a. prefixOn h a qs) (w .0) ∙ ap (λ t. prefixOn h k t) (w .1) ∙ held ∙ ap (λ a. top a x) (sym (w .0))
 
       -- it fits its bucket
-      pub put-fitting : needs (r ∷ map asRow rs) ≤ S .capacity → Puts gs (set gs i (bucket k (added S rs r)))
+      put-fitting : needs (r ∷ map asRow rs) ≤ S .capacity → Puts gs (set gs i (bucket k (added S rs r)))
       unfolding inOrder
       put-fitting fits = subst (Puts gs) (set-set gs i free (bucket k (added S rs r))) (record {
         part = one-more k shallow cleared others now i there′ is-free (added S rs r) rows-now;
@@ -181,7 +181,7 @@ module _ (S : Shape) (h : List ℕ → ℕ) (small : (c : List ℕ) → h c < 2 
             go y [] m = absurd (List·Memᴰ·not-nil m)
             go y (z ∷ l) m = omega arith
 
-        pub put-splitting : Puts gs (written gs i (map (packed h (r ∷ map asRow rs)) (buckets S h (r ∷ map asRow rs))))
+        put-splitting : Puts gs (written gs i (map (packed h (r ∷ map asRow rs)) (buckets S h (r ∷ map asRow rs))))
         unfolding packed recs
         put-splitting = subst (Puts gs) (written-over gs i (map (packed h page-rows) news) some-new) (record {
           part = becomes S h (r ∷ rows) (λ l w. Out k l w ⊎ List·Memᴰ (pfx l w) news) (written cleared i (map (packed h page-rows) news)) (wrote .part) (r ∷ rows) Any
