@@ -1,10 +1,10 @@
 -- Laws of `Says`. Assumes nothing.
 use mathlib.Core.Path.{_≡_, refl, subst}
 use mathlib.Core.Bool.{Bool, true, false}
-use Prim.Native.Nat.{ℕ}
-use lib.Dec.{eqb}
+use Prim.Native.Nat.{ℕ, _≤_, _<_}
+use lib.Dec.{eqb, ltb, leb}
 use native.Mathlib.Omega.{arith}
-use borrow.Author.Tests.{eqb-true, eqb-false}
+use borrow.Author.Tests.{eqb-true, eqb-false, ltb-true, ltb-false, leb-true, leb-false}
 use Rattle.ground.specs.Says.{Says}
 
 pub says-true : {P : Type 0} (r : Bool) → r ≡ true → Says r P → P
@@ -35,3 +35,19 @@ says-eqb a b f g = says-by a b (eqb a b) refl f g
 
 pub untrue : {P : Type 0} → false ≡ true → P
 untrue e = absurd (let z : _≡_ {A = ℕ} 0 1 = cc in omega arith)
+
+less-by : {P : Type 0} (a b : ℕ) (t : Bool) → ltb a b ≡ t → (a < b → P) → (P → a < b) → Says t P
+less-by a b true e f g = f (ltb-true a b e)
+less-by a b false e f g = λ p. let h : b ≤ a = ltb-false a b e in omega (arith, g p)
+
+-- where P is that the first is less
+pub says-ltb : {P : Type 0} (a b : ℕ) → (a < b → P) → (P → a < b) → Says (ltb a b) P
+says-ltb a b f g = less-by a b (ltb a b) refl f g
+
+most-by : {P : Type 0} (a b : ℕ) (t : Bool) → leb a b ≡ t → (a ≤ b → P) → (P → a ≤ b) → Says t P
+most-by a b true e f g = f (leb-true a b e)
+most-by a b false e f g = λ p. let h : b < a = leb-false a b e in omega (arith, g p)
+
+-- where P is that the first is at most the second
+pub says-leb : {P : Type 0} (a b : ℕ) → (a ≤ b → P) → (P → a ≤ b) → Says (leb a b) P
+says-leb a b f g = most-by a b (leb a b) refl f g

@@ -6,6 +6,8 @@ pub mod Unique
 pub mod Tops
 pub mod Removing
 pub mod Overwriting
+pub mod Signs
+pub mod Stored
 pub mod Sums
 pub mod Packs
 pub mod Settled

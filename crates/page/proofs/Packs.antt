@@ -1,23 +1,27 @@
--- Fresh pages, and rows put behind one another. Assumes nothing.
-use Prim.Native.Nat.{ℕ, zero, suc, _+_, _*_, _-_, _≤_, _<_}
-use mathlib.Core.Path.{_≡_, refl, sym, ap, _∙_}
+-- Free and fresh pages, and rows put behind one another. Assumes nothing.
+use Prim.Native.Nat.{ℕ, _+_, _-_, _≤_, _<_}
+use mathlib.Core.Path.{_≡_, sym, ap, _∙_}
 use mathlib.Core.Logic.{⊎-elim}
-use mathlib.Core.List.{List, [], _∷_}
+use mathlib.Core.List.{List}
 use native.Mathlib.Omega.{arith}
-use lib.ListN.{length, set, length-set}
-use Rattle.ground.specs.Lists.{byte}
-use Rattle.words.specs.Le.{le16}
+use lib.ListN.{length, set, length-set, replicate, length-replicate, getD-replicate}
+use lib.Seq.{ext-getD}
+use Rattle.ground.specs.Lists.{byte, tab, insertAt, total}
 use Rattle.words.specs.Moves.{Cleared}
 use Rattle.ground.proofs.Sides.{side}
 use Rattle.words.proofs.Bytes.{byte-set, byte-other}
-use Rattle.words.specs.Codes.{Before}
-use Rattle.ground.specs.Lists.{tab, insertAt, total}
-use Rattle.page.specs.Page.{Slotted, BucketPage, rows, Belongs, Natural, In, Record, rowAt, count, frontier, free, depth, off, len, code, place, need}
+use Rattle.page.specs.Page.{Slotted, Record, rowAt, count, frontier, free, off, len, code, place, need}
 use Rattle.page.specs.Steps.{Headed, Insertable, Inserted}
 use Rattle.page.proofs.Slots.{Lies, lies}
 use Rattle.ground.proofs.Tables.{total-same}
-use Rattle.page.specs.Packed.{Fresh, PackedRow, PackedTo, Startable, Started}
+use Rattle.page.specs.Packed.{Fresh, PackedRow, PackedTo, Packed, Fitting, Startable, Started}
 use Rattle.page.proofs.Sums.{total-more, total-none, total-le, total-need, len-of-code, count-more, row-lo, row-at}
+
+-- a page cleared from end to end
+pub blank : {p q : List ℕ} → Cleared p 0 (length p) q → q ≡ replicate (length p) 0
+blank {p} {q} c =
+    ext-getD 0 q (replicate (length p) 0) (c .len ∙ sym (length-replicate (length p) 0))
+    (λ k h. let m : k < length p = omega (arith, c .len) in c .new k (omega arith) m ∙ sym (getD-replicate (length p) k 0 0 m))
 
 pub fresh : {p q₁ q : List ℕ} {d : ℕ} → 16 ≤ length p → length p ≤ 16384 → Cleared p 0 (length p) q₁ → Headed (set (set q₁ 0 1) 1 d) 0 8 (length p - 8) q
     → ((k : ℕ) → byte q k < 256) → Fresh p d q
@@ -58,8 +62,8 @@ fresh {p} {q₁} {q} {d} lo hi a b bytes =
 needs-fit : (p : List ℕ) (i : ℕ) → Slotted p → i < count p → total (need p) i + 4 + len p i ≤ length p - 8
 needs-fit p i b h = omega (arith, total-more (need p) i, total-le (need p) (i + 1) (count p) (omega arith), b .unused)
 
-module _ (p : List ℕ) (i : ℕ) (q : List ℕ) (P : Slotted p) (K : PackedTo p i q) (h : i < count p) where
-  frontier-is : frontier q ≡ 8 + total (len p) i
+module _ (p : List ℕ) (i : ℕ) (q : List ℕ) (K : PackedTo p i q) where
+  pub frontier-is : frontier q ≡ 8 + total (len p) i
   frontier-is = ⊎-elim
       (λ none. let e : i ≡ 0 = omega arith in rw e (K .page .empty (omega (arith, K .counted)) ∙ omega (arith, total-none (len p))))
       (λ some.
@@ -84,6 +88,7 @@ module _ (p : List ℕ) (i : ℕ) (q : List ℕ) (P : Slotted p) (K : PackedTo p
   needs-are : total (need q) (count q) ≡ total (need p) i
   needs-are = rw (K .counted) (total-same (need q) (need p) i (λ j m. omega (arith, K .each j m .sized)))
 
+module _ (p : List ℕ) (i : ℕ) (q : List ℕ) (P : Slotted p) (K : PackedTo p i q) (h : i < count p) where
   pub insertable : Insertable q i (code p i) (place p i)
   insertable = let y : Lies p i = lies i P h in record {
     page = K .page;
@@ -95,8 +100,8 @@ module _ (p : List ℕ) (i : ℕ) (q : List ℕ) (P : Slotted p) (K : PackedTo p
     natural = P .places i h;
     some = omega (arith, len-of-code p i P h);
     most = omega (arith, len-of-code p i P h);
-    fits = omega (arith, len-of-code p i P h, needs-fit p i P h, needs-are, K .page .unused, K .long);
-    room = omega (arith, len-of-code p i P h, needs-fit p i P h, frontier-is, total-need p i, K .long, K .counted, P .least);
+    fits = omega (arith, len-of-code p i P h, needs-fit p i P h, needs-are p i q K, K .page .unused, K .long);
+    room = omega (arith, len-of-code p i P h, needs-fit p i P h, frontier-is p i q K, total-need p i, K .long, K .counted, P .least);
   }
 
   module _ (r : List ℕ) (I : Inserted q i (code p i) (place p i) r) where
@@ -118,7 +123,7 @@ module _ (p : List ℕ) (i : ℕ) (q : List ℕ) (P : Slotted p) (K : PackedTo p
         let cd : code r i ≡ code p i = ap (λ x. x .code) e in
         let n : count r ≡ count q + 1 = count-more q i (code p i) (place p i) r I (omega (arith, K .counted)) in
         record {
-          start = ap (λ x. x .start) e ∙ frontier-is;
+          start = ap (λ x. x .start) e ∙ frontier-is p i q K;
           placed = ap (λ x. x .place) e;
           coded = cd;
           sized = omega (arith, len-of-code r i (I .page) (omega (arith, K .counted)), len-of-code p i P h, ap length cd);
@@ -132,6 +137,22 @@ module _ (p : List ℕ) (i : ℕ) (q : List ℕ) (P : Slotted p) (K : PackedTo p
       counted = omega (arith, count-more q i (code p i) (place p i) r I (omega (arith, K .counted)), K .counted);
       each = λ j m. ⊎-elim (λ lt. row-old j lt) (λ ge. let e : j ≡ i = omega arith in rw e row-new) (side j i);
     }
+
+-- a row that fits a page has room at the frontier once the page is packed
+pub once-packed : {p c pl q : List ℕ} {s : ℕ} → Fitting p s c pl → Packed p q → Insertable q s c pl
+once-packed {p} {c} {pl} {q} {s} F K = record {
+  page = K .page;
+  belongs = record {
+    within = omega (arith, K .counted, F .belongs .within);
+    left = λ j m. rw (K .each j (omega (arith, F .belongs .within)) .coded) (F .belongs .left j m);
+    right = λ j m n. let l : j < count p = omega (arith, K .counted) in rw (K .each j l .coded) (F .belongs .right j m l);
+  };
+  natural = F .natural;
+  some = F .some;
+  most = F .most;
+  fits = omega (arith, F .fits, F .page .unused, K .page .unused, K .long, needs-are p (count p) q K);
+  room = omega (arith, F .fits, F .page .unused, F .page .least, K .long, K .counted, frontier-is p (count p) q K, total-need p (count p));
+}
 
 pub first : {p c pl q : List ℕ} {d : ℕ} → Startable p c pl → Fresh p d q → Insertable q 0 c pl
 first {p} {c} {pl} {q} {d} S F = record {

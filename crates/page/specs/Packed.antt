@@ -1,10 +1,11 @@
 -- Fresh and packed pages. Assumes nothing.
-use Prim.Native.Nat.{ℕ, _+_, _*_, _-_, _≤_, _<_}
+use Prim.Native.Nat.{ℕ, _+_, _*_, _≤_, _<_}
 use mathlib.Core.Path.{_≡_}
 use mathlib.Core.List.{List, [], _∷_}
 use lib.ListN.{length}
 use Rattle.ground.specs.Lists.{total}
-use Rattle.page.specs.Page.{Slotted, BucketPage, Natural, Record, rows, rowAt, depth, count, frontier, free, off, len, place, code, need}
+use Rattle.page.specs.Page.{Slotted, BucketPage, Belongs, Natural, rows, depth, count, frontier, free, off, len, place, code}
+use Rattle.page.specs.Steps.{Inserted}
 
 -- a page of no rows
 pub record Fresh (p : List ℕ) (d : ℕ) (q : List ℕ) : Type 0 where
@@ -30,6 +31,21 @@ pub record PackedTo (p : List ℕ) (n : ℕ) (q : List ℕ) : Type 0 where
 
 abbrev pub Packed : List ℕ → List ℕ → Type 0
 Packed p q = PackedTo p (count p) q
+
+-- a row of code c, which belongs at slot s, fits p
+pub record Fitting (p : List ℕ) (s : ℕ) (c pl : List ℕ) : Type 0 where
+  pub page : Slotted p
+  pub belongs : Belongs p s c
+  pub natural : Natural pl
+  pub some : 1 ≤ length c
+  pub most : length c ≤ 64
+  pub fits : 12 + length c ≤ free p
+
+-- If the room between frontier and slots is at least the need, the record goes at the frontier. Else the page is packed first, then the same.
+-- t is a scratch page, which then gets what the page held.
+pub record Added (p : List ℕ) (s : ℕ) (c pl t q t′ : List ℕ) : Type 0 where
+  pub roomy : frontier p + 4 * count p + (12 + length c) ≤ length p → Inserted p s c pl q × (t′ ≡ t)
+  pub tight : length p < frontier p + 4 * count p + (12 + length c) → ((g : List ℕ) × Packed p g × Inserted g s c pl q) × (t′ ≡ p)
 
 -- a row that may be a page's first
 pub record Startable (p : List ℕ) (c pl : List ℕ) : Type 0 where

@@ -1,7 +1,7 @@
 -- A row place in 8 bytes. Assumes nothing.
 use mathlib.Core.List.{List, _++_}
 use mathlib.Core.Logic.{_⊎_}
-use Prim.Native.Nat.{ℕ}
+use Prim.Native.Nat.{ℕ, _^_, _<_}
 use lib.IntN.{pos}
 use lib.Signed.{_<ℤ_, mag}
 use Rattle.words.specs.Le.{le16, le32, bytes}
@@ -18,3 +18,9 @@ place b = record { page = pos (le32 b 0); slot = pos (le16 b 4); volume = pos (l
 -- a part of the place is negative
 abbrev pub Negative : Place → Type 0
 Negative p = (p .page <ℤ pos 0) ⊎ ((p .slot <ℤ pos 0) ⊎ (p .volume <ℤ pos 0))
+
+-- page is signed 32 bits, slot and volume signed 16 bits each
+pub record InRange (p : Place) : Type 0 where
+  pub page : mag (p .page) < 2 ^ 31
+  pub slot : mag (p .slot) < 2 ^ 15
+  pub volume : mag (p .volume) < 2 ^ 15

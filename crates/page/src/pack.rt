@@ -1,12 +1,20 @@
 // New pages, and pages packed.
 ghost use mathlib.Core.Path.{_≡_};
 ghost use Prim.Native.Nat.{_+_, _≤_, _<_};
-ghost use lib.ListN.{length};
+ghost use lib.ListN.{length, replicate};
 ghost use Rattle.page.specs.Page.{Slotted, count};
 ghost use Rattle.page.specs.Packed.{Fresh, PackedTo, Packed, Startable, Started};
 use super::insert::insert_at_frontier;
 use super::insert::set_head;
 use super::read::extent_of;
+
+// A free page, whatever the bytes held.
+pub fn clear_page(page: &mut [u8])
+    ensures { λ _. ⌜ now (page .exit) ≡ replicate (length (now (page .entry))) 0 ⌝ }
+{
+    let size = page.len();
+    words::clear(page, 0, size);
+}
 
 // A page with no rows, whatever the bytes held.
 pub fn new_page(page: &mut [u8], d: u8)
@@ -45,6 +53,15 @@ pub fn pack_into(page: &mut [u8], from: &[u8])
         append(page, from, i);
         i += 1;
     }
+}
+
+// A page packed in place; scratch gets what it held.
+pub fn pack_page(page: &mut [u8], scratch: &mut [u8])
+    requires { ⌜ Slotted (now page) × (length (now scratch) ≡ length (now page)) ⌝ }
+    ensures { λ _. ⌜ Packed (now (page .entry)) (now (page .exit)) × (now (scratch .exit) ≡ now (page .entry)) ⌝ }
+{
+    words::copy_at(scratch, 0, page);
+    pack_into(page, scratch);
 }
 
 // A page of one row.

@@ -35,3 +35,7 @@ pub mod Accepting
 pub mod Reading
 pub mod Walked
 pub mod Whole
+pub mod Slotwise
+pub mod PageTies
+pub mod Views
+pub mod Depths

@@ -101,7 +101,7 @@ module _ (S : Shape) (h : List ℕ → ℕ) (sized : Sized S) (hash : Hash h) (s
 
   -- a code's entry is 0: it is not there
   pub lookup-none : (c : List ℕ) → entryOf S h s c ≡ 0 → placeOf (rowsHeld S s) c ≡ none
-  lookup-none c z = go (accepted-entry S h sized hash s T (top (dirDepth s) (h c)) (entry-within S h sized hash s T (h c) (hash c)))
+  lookup-none c z = go (accepted-entry S h sized hash s T (top (dirDepth s) (h c)) (entry-within S h sized hash s (T .page0 .depth) (h c) (hash c)))
     where
       go : Entry S h s (contents S s) (dirDepth s) (pages S s - 2) (top (dirDepth s) (h c)) → placeOf (rowsHeld S s) c ≡ none
       go (names i k rs b q g f) = absurd (omega arith)
@@ -112,7 +112,7 @@ module _ (S : Shape) (h : List ℕ → ℕ) (sized : Sized S) (hash : Hash h) (s
   -- else it is looked up on the page that the entry names
   pub lookup-page : (c : List ℕ) → (entryOf S h s c ≡ 0 → ⊥) → Naming S h s (top (dirDepth s) (h c)) (entryOf S h s c) × (placeOf (rowsHeld S s) c ≡ placeOf (rowsOn (read (page S s (entryOf S h s c)))) c)
   lookup-page c n =
-      let u = naming (top (dirDepth s) (h c)) (entry-within S h sized hash s T (h c) (hash c)) n in
+      let u = naming (top (dirDepth s) (h c)) (entry-within S h sized hash s (T .page0 .depth) (h c) (hash c)) n in
       let g : List ℕ = page S s (entryOf S h s c) in
       let e : top (depth g) (h c) ≡ prefixOn h (depth g) (rows g) = holds-top (dirDepth s) (h c) (pfx (depth g) (prefixOn h (depth g) (rows g))) (u .low) .0 (u .calls .bits) in (
         u,

@@ -75,7 +75,7 @@ unfolding tab
 tab-every f zero h = tt
 tab-every f (suc n) h = (h zero (omega arith), tab-every (λ i. f (suc i)) n (λ i l. h (suc i) (omega arith)))
 
-up-every : (n : ℕ) (P : ℕ → Type 0) → ((p : ℕ) → 2 ≤ p → p < n → P p) → Every (upward n P)
+pub up-every : (n : ℕ) (P : ℕ → Type 0) → ((p : ℕ) → 2 ≤ p → p < n → P p) → Every (upward n P)
 up-every n P h = tab-every (λ i. rule (i + 2) (P (i + 2))) (n - 2) (λ i l. h (i + 2) (omega arith) (omega arith))
 
 pub closed : (S : Shape) (h : List ℕ → ℕ) (s : List ℕ) → Opened S h s → Accepted S h s

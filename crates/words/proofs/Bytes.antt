@@ -1,12 +1,12 @@
 -- Laws of single bytes and of what the writes do. Assumes nothing.
 use Prim.Native.Nat.{ℕ, zero, suc, _+_, _*_, _-_, _/_, _%_, _≤_, _<_}
 use mathlib.Core.Path.{_≡_, refl, sym, ap, _∙_}
-use mathlib.Core.Logic.{⊎-elim}
-use mathlib.Core.List.{List, [], _∷_, _++_}
+use mathlib.Core.Logic.{_⊎_, inl, inr, ⊎-elim}
+use mathlib.Core.List.{List, [], _∷_, _++_, append-nil}
 use native.Mathlib.Omega.{arith}
-use native.Mathlib.Nat.{add-zero, add-assoc}
-use lib.ListN.{length, getD, set, replicate, length-set}
-use lib.Seq.{getD-set-same, getD-set-other}
+use native.Mathlib.Nat.{zero-add, add-zero, add-assoc}
+use lib.ListN.{length, drop, getD, set, replicate, length-set, length-append, length-drop, drop-of-length-le, List·getD-append}
+use lib.Seq.{getD-set-same, getD-set-other, getD-append-add, getD-drop, ext-getD}
 use Rattle.ground.specs.Lists.{byte, part}
 use Rattle.ground.proofs.Sides.{side}
 use Rattle.ground.proofs.Parts.{part-is}
@@ -172,3 +172,17 @@ small-zeros n = record { at = go n }
     go zero i = omega arith
     go (suc n) zero = omega arith
     go (suc n) (suc i) = go n i
+
+-- a list copied over the start of another, and over one as long
+pub copied-front : {p q : List ℕ} (s : List ℕ) → Wrote p 0 (length s) (λ i. byte s i) q → length s ≤ length p → q ≡ s ++ drop (length s) p
+copied-front {p} {q} s w h =
+    ext-getD 0 q (s ++ drop (length s) p) (w .old .len ∙ simp (length-append, length-drop) (omega arith)) (λ i m. at i (side i (length s)))
+  where
+    at : (i : ℕ) → (i < length s) ⊎ (length s ≤ i) → byte q i ≡ byte (s ++ drop (length s) p) i
+    at i (inl l) = rw zero-add at (w .new i l) ∙ sym (List·getD-append s (drop (length s) p) 0 i l)
+    at i (inr g) =
+        let e : length s + (i - length s) ≡ i = omega arith in
+        w .old .above i (omega arith) ∙ rw e at (sym (getD-append-add s (drop (length s) p) (i - length s) 0 ∙ getD-drop (length s) p (i - length s) 0))
+
+pub copied-whole : {p q s : List ℕ} → Wrote p 0 (length s) (λ i. byte s i) q → length p ≡ length s → q ≡ s
+copied-whole {p} {q} {s} w h = copied-front s w (omega arith) ∙ ap (λ t. s ++ t) (drop-of-length-le p {i = length s} (omega arith)) ∙ append-nil s

@@ -1,0 +1,4 @@
+pub mod Marks
+pub mod Sweep
+pub mod Whole
+pub mod Prefixes

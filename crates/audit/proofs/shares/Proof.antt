@@ -1,0 +1,22 @@
+use Rattle.partition.proofs.Bits as bits
+use Rattle.partition.specs.Bits.{top}
+use Rattle.ground.proofs.Tests.{says-leb}
+use Prim.Native.Nat.{ℕ, _≤_}
+use mathlib.Core.Path.{_≡_, sym, subst}
+use borrow.Author.Needs.{needs}
+use Rattle.audit.proofs.shares.Statement.{statement}
+use Rattle.audit.proofs.shares.Tie as tie
+
+shared-bits-requires : tie.Need-shared-bits-requires
+shared-bits-requires c κs = search needs
+
+returns : tie.Need-returns
+returns c =
+    let s = c .before in
+    let a = s .args in
+    let l = bits.shares (a .first) (a .x) (a .k) (s .fits .first .fits) (s .fits .x .fits) (s .pre) in
+    let e = c .shared-bits .ensures in
+    says-leb {P = top (a .k) (a .first) ≡ top (a .k) (a .x)} (a .k) (c .shared-bits .result) (λ h. l .1 (rw e at h)) (λ h. rw e (l .0 h))
+
+pub shares-spec : {M : Type 1} → statement M
+shares-spec = tie.close (tie.spec shared-bits-requires returns)

@@ -1,0 +1,51 @@
+-- The rules of a bucket page in the parts that the tests ask. Assumes nothing.
+use Prim.Native.Nat.{ℕ, zero, suc, _+_, _*_, _-_, _/_, _%_, _≤_, _<_}
+use mathlib.Core.Path.{_≡_}
+use mathlib.Core.List.{List, []}
+use lib.ListN.{length}
+use Rattle.ground.specs.Lists.{byte, part, total}
+use Rattle.words.specs.Codes.{Before}
+use Rattle.page.specs.Page.{In, count, frontier, free, off, len, code, word, need}
+
+-- the header: the page's size, byte 0, the row count, and a frontier past the first record and not past the slots
+pub record HeadOk (p : List ℕ) : Type 0 where
+  pub least : 16 ≤ length p
+  pub most : length p ≤ 16384
+  pub one : byte p 0 ≡ 1
+  pub some : 1 ≤ count p
+  pub start : 17 ≤ frontier p
+  pub room : frontier p + 4 * count p ≤ length p
+
+-- a place at o with no negative part
+pub record NaturalAt (p : List ℕ) (o : ℕ) : Type 0 where
+  pub page : byte p (o + 3) < 128
+  pub slot : byte p (o + 5) < 128
+  pub volume : byte p (o + 7) < 128
+
+-- a slot's word: offset in bits 0 to 13, record length in 14 to 27
+abbrev pub offOf : ℕ → ℕ
+offOf w = w % 16384
+
+abbrev pub lenOf : ℕ → ℕ
+lenOf w = w / 16384 % 16384
+
+-- a slot's word, 1 in bits 28 to 31, and its record: 9 to 72 bytes between 8 and the frontier f, a place with no negative part
+pub record WordOk (p : List ℕ) (f w : ℕ) : Type 0 where
+  pub kind-one : w / 268435456 ≡ 1
+  pub short : 9 ≤ lenOf w
+  pub long : lenOf w ≤ 72
+  pub after : 8 ≤ offOf w
+  pub inside : offOf w + lenOf w ≤ f
+  pub natural : NaturalAt p (offOf w)
+
+-- the code before slot i's, none before the first
+abbrev pub prior : List ℕ → ℕ → List ℕ
+prior p zero = []
+prior p (suc i) = code p i
+
+-- the slots with their records: each for itself, in code order, no byte in two, and the needs with total free
+pub record SlotsOk (p : List ℕ) : Type 0 where
+  pub words : (i : ℕ) → i < count p → WordOk p (frontier p) (word p i)
+  pub ascending : (i : ℕ) → i < count p → Before (prior p i) (code p i)
+  pub apart : (i j k : ℕ) → i < count p → j < count p → In p i k → In p j k → i ≡ j
+  pub unused : free p + total (need p) (count p) ≡ length p - 8

@@ -1,0 +1,17 @@
+-- The rule of the hashes, and all rules of one bucket page. Assumes nothing.
+use Prim.Native.Nat.{ℕ, _≤_, _<_}
+use mathlib.Core.Path.{_≡_}
+use mathlib.Core.List.{List}
+use Rattle.hash.specs.Fnv.{fnv}
+use Rattle.partition.specs.Bits.{top}
+use Rattle.page.specs.Page.{BucketPage, depth, count, code}
+
+-- the hashes share the first local-depth bits
+abbrev pub Share : (List ℕ → ℕ) → List ℕ → Type 0
+Share h p = (i j : ℕ) → i < count p → j < count p → top (depth p) (h (code p i)) ≡ top (depth p) (h (code p j))
+
+-- the bucket page's rules, shared hash bits included, local depth 0 to the deepest
+pub record Keeps (deepest : ℕ) (p : List ℕ) : Type 0 where
+  pub rules : BucketPage p
+  pub deep : depth p ≤ deepest
+  pub share : Share fnv p

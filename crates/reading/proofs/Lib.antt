@@ -1,0 +1,7 @@
+pub mod Stops
+pub mod Loads
+pub mod Runs
+pub mod Fills
+pub mod Naming
+pub mod Heads
+pub mod Sums

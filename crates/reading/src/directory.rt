@@ -1,0 +1,113 @@
+// The directory, read once, and runs of its entries.
+ghost use mathlib.Core.Path.{_≡_};
+ghost use Prim.Native.Nat.{_≤_, _<_, _^_};
+ghost use lib.ListN.{length};
+ghost use Rattle.ground.specs.Says.{Says};
+ghost use Rattle.reading.specs.Directory.{Entries, AllAre, NoneIs, AllBelow, Exactly, Ranges, Named};
+ghost use Rattle.partition.specs.Bits.{top};
+
+// The directory's entries.
+pub fn entries(s: &[u8], dir: &mut [u32])
+    requires { ⌜ (2048 ≤ length (now s)) × (length (now dir) ≡ 256) ⌝ }
+    ensures { λ _. ⌜ Entries (now (s .entry)) (now (dir .exit)) ⌝ }
+{
+    let mut i = 0;
+    while i < 256 {
+        dir[i] = words::get32(s, 1024 + 4 * i) as u32;
+        i += 1;
+    }
+}
+
+// Whether all entries from a up to b are x.
+pub fn all_are(dir: &[u32], a: usize, b: usize, x: u32) -> bool
+    requires { ⌜ (a ≤ b) × (b ≤ length (now dir)) ⌝ }
+    ensures { λ r. ⌜ Says r (AllAre (now (dir .entry)) a b x) ⌝ }
+{
+    let mut ok = true;
+    let mut i = a;
+    while i < b {
+        if dir[i] != x {
+            ok = false;
+        }
+        i += 1;
+    }
+    ok
+}
+
+// Whether none of the entries from a up to b is x.
+pub fn none_is(dir: &[u32], a: usize, b: usize, x: u32) -> bool
+    requires { ⌜ (a ≤ b) × (b ≤ length (now dir)) ⌝ }
+    ensures { λ r. ⌜ Says r (NoneIs (now (dir .entry)) a b x) ⌝ }
+{
+    let mut ok = true;
+    let mut i = a;
+    while i < b {
+        if dir[i] == x {
+            ok = false;
+        }
+        i += 1;
+    }
+    ok
+}
+
+// Whether all entries from a up to b are below n.
+pub fn all_below(dir: &[u32], a: usize, b: usize, n: u32) -> bool
+    requires { ⌜ (a ≤ b) × (b ≤ length (now dir)) ⌝ }
+    ensures { λ r. ⌜ Says r (AllBelow (now (dir .entry)) a b n) ⌝ }
+{
+    let mut ok = true;
+    let mut i = a;
+    while i < b {
+        if n <= dir[i] {
+            ok = false;
+        }
+        i += 1;
+    }
+    ok
+}
+
+// Whether of the entries up to m exactly those from a up to b are x.
+pub fn exactly(dir: &[u32], m: usize, a: usize, b: usize, x: u32) -> bool
+    requires { ⌜ (m ≤ length (now dir)) × (a ≤ b) × (b ≤ m) ⌝ }
+    ensures { λ r. ⌜ Says r (Exactly (now (dir .entry)) m a b x) ⌝ }
+{
+    if !none_is(dir, 0, a, x) {
+        return false;
+    }
+    if !all_are(dir, a, b, x) {
+        return false;
+    }
+    none_is(dir, b, m, x)
+}
+
+pub fn two_to(k: u32) -> usize
+    requires { ⌜ k ≤ 8 ⌝ }
+    ensures { λ r. ⌜ (r ≡ 2 ^ k) × (r ≤ 256) ⌝ }
+{
+    1 << k
+}
+
+// Whether the entries are in range for n pages, and zero from m on.
+pub fn ranges(dir: &[u32], n: u32, m: usize) -> bool
+    requires { ⌜ (length (now dir) ≡ 256) × (m ≤ 256) ⌝ }
+    ensures { λ r. ⌜ Says r (Ranges (now (dir .entry)) n m) ⌝ }
+{
+    if !none_is(dir, 0, 256, 1) {
+        return false;
+    }
+    if !all_below(dir, 0, 256, n) {
+        return false;
+    }
+    all_are(dir, m, 256, 0)
+}
+
+// Whether page p is named by exactly the entries that the first k bits of the hash x call for, in a directory of depth d.
+pub fn named(dir: &[u32], d: u32, k: u32, x: u32, p: u32) -> bool
+    requires { ⌜ (length (now dir) ≡ 256) × (d ≤ 8) × (k ≤ d) × (2 ≤ p) × AllAre (now dir) (2 ^ d) 256 0 ⌝ }
+    ensures { λ r. ⌜ Says r (Named (now (dir .entry)) d k (top k x) p) ⌝ }
+{
+    let m = two_to(d);
+    let w = two_to(d - k);
+    let a = (partition::top_bits(x, k) as usize) * w;
+    exactly(dir, m, a, a + w, p)
+}
