@@ -11,3 +11,4 @@ pub mod Owner
 pub mod Slotwise
 pub mod PageTies
 pub mod Views
+pub mod Shared
