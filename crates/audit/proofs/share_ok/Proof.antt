@@ -1,14 +1,15 @@
-use Rattle.audit.proofs.Prefixes.{share-all}
-use Rattle.page.specs.Page.{depth, count, code}
-use Rattle.partition.specs.Bits.{top}
-use Rattle.hash.specs.Fnv.{fnv}
-use Rattle.ground.proofs.Tests.{says-true, says-false}
-use Rattle.ground.specs.Says.{Says}
+-- `audit::share_ok` meets its contract. Assumes nothing.
+use Prim.Native.Nat.{ℕ, _-_, _≤_, _<_}
+use mathlib.Core.Path.{_≡_, refl}
+use native.Mathlib.Omega.{arith}
 use borrow.Author.Tests.{not-true, not-false}
 use borrow.Author.Count.{below-more}
-use native.Mathlib.Omega.{arith}
-use mathlib.Core.Path.{_≡_, refl, sym, ap, _∙_}
-use Prim.Native.Nat.{ℕ, _+_, _-_, _≤_, _<_}
+use Rattle.ground.proofs.Tests.{says-true, says-false}
+use Rattle.ground.specs.Says.{Says}
+use Rattle.hash.specs.Fnv.{fnv}
+use Rattle.partition.specs.Bits.{top}
+use Rattle.page.specs.Page.{depth, count, code}
+use Rattle.audit.proofs.Prefixes.{share-all}
 use Rattle.audit.proofs.share_ok.Statement.{statement}
 use Rattle.audit.proofs.share_ok.Tie as tie
 
