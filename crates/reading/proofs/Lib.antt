@@ -5,3 +5,4 @@ pub mod Fills
 pub mod Naming
 pub mod Heads
 pub mod Sums
+pub mod Standing
