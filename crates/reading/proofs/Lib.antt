@@ -6,3 +6,4 @@ pub mod Naming
 pub mod Heads
 pub mod Sums
 pub mod Standing
+pub mod Parting

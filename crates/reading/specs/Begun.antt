@@ -31,6 +31,11 @@ pub record Own (g : List ℕ) (d : ℕ) : Type 0 where
   pub rules : BucketPage g
   pub deep : depth g ≤ d
 
--- all pages from 2 on stand
-abbrev pub AllStand : List ℕ → Type 0
-AllStand s = (p : ℕ) → 2 ≤ p → p < pages S1024 s → Stands S1024 fnv s p
+-- a store of n pages, those from 2 on all standing
+pub record Standing (s : List ℕ) (n : ℕ) : Type 0 where
+  pub long : length s ≡ n * 1024
+  pub number : n ≡ pages S1024 s
+  pub least : 3 ≤ n
+  pub most : n ≤ 258
+  pub deep : dirDepth s ≤ 8
+  pub each : (p : ℕ) → 2 ≤ p → p < n → Stands S1024 fnv s p
