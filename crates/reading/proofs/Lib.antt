@@ -8,3 +8,4 @@ pub mod Sums
 pub mod Standing
 pub mod Parting
 pub mod Holdings
+pub mod Calls
