@@ -1,7 +1,7 @@
 -- Laws of tables and totals. Assumes nothing.
 use Prim.Native.Nat.{ℕ, zero, suc, _+_, _-_, _≤_, _<_, suc-le-suc, zero-le}
 use mathlib.Core.Path.{_≡_, refl, sym, ap, _∙_}
-use mathlib.Core.List.{List, [], _∷_, _++_}
+use mathlib.Core.List.{List, [], _∷_, _++_, map}
 use native.Mathlib.Omega.{arith}
 use native.Mathlib.Nat.{le-of-suc-le-suc, not-suc-le-zero}
 use lib.ListN.{length, getD, take, drop, set}
@@ -61,3 +61,8 @@ tab-set f g zero s h o = absurd (not-suc-le-zero h)
 tab-set f g (suc n) zero h o = ap (λ l. g zero ∷ l) (tab-same (λ i. g (suc i)) (λ i. f (suc i)) n (λ i l. o (suc i) (suc-le-suc l) (λ e. omega (arith, e))))
 tab-set f g (suc n) (suc s) h o = λ k. o zero (suc-le-suc zero-le) (λ e. omega (arith, e)) k
     ∷ tab-set (λ i. f (suc i)) (λ i. g (suc i)) n s (le-of-suc-le-suc h) (λ i l e. o (suc i) (suc-le-suc l) (λ x. e (omega (arith, x)))) k
+
+pub tab-map {ℓ κ} : {A : Type ℓ} {B : Type κ} (h : A → B) (f : ℕ → A) (n : ℕ) → map h (tab f n) ≡ tab (λ i. h (f i)) n
+unfolding tab
+tab-map h f zero = refl
+tab-map h f (suc n) = ap (λ l. h (f zero) ∷ l) (tab-map h (λ i. f (suc i)) n)

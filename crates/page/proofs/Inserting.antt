@@ -1,18 +1,16 @@
 -- An insertion leaves a page that satisfies the rules, with the row put in. Assumes nothing.
 use Prim.Native.Nat.{ℕ, suc, _+_, _*_, _-_, _/_, _%_, _≤_, _<_}
-use mathlib.Core.Path.{_≡_, refl, sym, ap, _∙_, subst}
+use mathlib.Core.Path.{_≡_, ap, _∙_}
 use mathlib.Core.Logic.{_⊎_, ⊎-elim}
 use mathlib.Core.List.{List}
 use native.Mathlib.Omega.{arith}
 use native.Mathlib.Numerals.{add-one}
 use lib.ListN.{length}
-use Rattle.ground.specs.Lists.{byte, part}
-use Rattle.words.specs.Le.{le16, le32}
+use Rattle.ground.specs.Lists.{byte, tab, total, insertAt}
 use Rattle.ground.proofs.Sides.{side}
 use Rattle.ground.proofs.Parts.{part-same}
 use Rattle.words.specs.Codes.{Before}
-use Rattle.ground.specs.Lists.{tab, total, insertAt}
-use Rattle.page.specs.Page.{Slotted, Natural, In, Record, rows, rowAt, need, word, off, len, kind, place, code, count, frontier, free}
+use Rattle.page.specs.Page.{Natural, In, Record, rows, rowAt, need, word, off, len, kind, place, code, count, frontier}
 use Rattle.page.specs.Steps.{Insertable, Inserted}
 use Rattle.ground.proofs.Tables.{tab-insert, total-insert}
 use Rattle.page.proofs.Slots.{Lies, lies}

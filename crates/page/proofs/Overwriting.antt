@@ -1,18 +1,17 @@
 -- A place overwritten leaves a page that satisfies the rules, with that place. Assumes nothing.
 use Prim.Native.Nat.{ℕ, _+_, _*_, _-_, _/_, _%_, _≤_, _<_}
-use mathlib.Core.Path.{_≡_, refl, sym, ap, _∙_}
+use mathlib.Core.Path.{_≡_, ap, _∙_}
 use mathlib.Core.Logic.{⊎-elim}
 use mathlib.Core.List.{List}
 use native.Mathlib.Omega.{arith}
 use lib.ListN.{length, set}
-use Rattle.ground.specs.Lists.{byte, part, tab, total}
+use Rattle.ground.specs.Lists.{byte, tab, total}
 use Rattle.ground.proofs.Sides.{side, same}
 use Rattle.ground.proofs.Parts.{part-same}
 use Rattle.ground.proofs.Tables.{tab-set, total-same}
-use Rattle.words.specs.Le.{le16, le32}
 use Rattle.words.specs.Moves.{Frame, Copied}
 use Rattle.words.proofs.Bytes.{le16-below, le32-above, copied-part}
-use Rattle.page.specs.Page.{Slotted, Natural, In, Record, rows, rowAt, need, word, off, len, kind, place, code, count, frontier, free, slotAt}
+use Rattle.page.specs.Page.{Natural, In, Record, rows, rowAt, need, word, off, len, kind, place, code, count, frontier, free, slotAt}
 use Rattle.page.specs.Steps.{Overwritable, Overwritten}
 use Rattle.page.proofs.Slots.{Lies, lies}
 use Rattle.page.proofs.Painted.{word-at}

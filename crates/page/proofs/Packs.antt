@@ -1,19 +1,16 @@
 -- Free and fresh pages, and rows put behind one another. Assumes nothing.
-use Prim.Native.Nat.{ℕ, zero, suc, _+_, _*_, _-_, _≤_, _<_}
-use mathlib.Core.Path.{_≡_, refl, sym, ap, _∙_}
+use Prim.Native.Nat.{ℕ, _+_, _-_, _≤_, _<_}
+use mathlib.Core.Path.{_≡_, sym, ap, _∙_}
 use mathlib.Core.Logic.{⊎-elim}
-use mathlib.Core.List.{List, [], _∷_}
+use mathlib.Core.List.{List}
 use native.Mathlib.Omega.{arith}
 use lib.ListN.{length, set, length-set, replicate, length-replicate, getD-replicate}
 use lib.Seq.{ext-getD}
-use Rattle.ground.specs.Lists.{byte}
-use Rattle.words.specs.Le.{le16}
+use Rattle.ground.specs.Lists.{byte, tab, insertAt, total}
 use Rattle.words.specs.Moves.{Cleared}
 use Rattle.ground.proofs.Sides.{side}
 use Rattle.words.proofs.Bytes.{byte-set, byte-other}
-use Rattle.words.specs.Codes.{Before}
-use Rattle.ground.specs.Lists.{tab, insertAt, total}
-use Rattle.page.specs.Page.{Slotted, BucketPage, rows, Belongs, Natural, In, Record, rowAt, count, frontier, free, depth, off, len, code, place, need}
+use Rattle.page.specs.Page.{Slotted, Record, rowAt, count, frontier, free, off, len, code, place, need}
 use Rattle.page.specs.Steps.{Headed, Insertable, Inserted}
 use Rattle.page.proofs.Slots.{Lies, lies}
 use Rattle.ground.proofs.Tables.{total-same}

@@ -1,17 +1,15 @@
 -- The three writes of an insertion, seen from the page before. Assumes nothing.
 use Prim.Native.Nat.{ℕ, _+_, _*_, _-_, _≤_, _<_}
-use mathlib.Core.Path.{_≡_, refl, sym, ap, _∙_}
+use mathlib.Core.Path.{_≡_, _∙_}
 use mathlib.Core.List.{List}
 use native.Mathlib.Omega.{arith}
 use lib.ListN.{length}
 use Rattle.ground.specs.Lists.{byte, part}
-use Rattle.words.specs.Le.{le16, le32}
-use Rattle.words.specs.Moves.{Frame}
-use Rattle.words.proofs.Bytes.{le32-below, le32-above, le32-same}
+use Rattle.words.specs.Le.{le32}
+use Rattle.words.proofs.Bytes.{le32-above}
 use Rattle.ground.proofs.Parts.{part-same}
-use Rattle.page.specs.Page.{Slotted, slotAt, word, count, frontier, free}
+use Rattle.page.specs.Page.{slotAt, word, count, frontier, free}
 use Rattle.page.specs.Steps.{Recorded, Opened, Headed, Insertable}
-use Rattle.page.proofs.Slots.{Lies, lies}
 
 -- q against p: the header, the bytes that stay, the record at p's frontier and the slots
 pub record Painted (p : List ℕ) (s : ℕ) (c pl q : List ℕ) : Type 0 where

@@ -1,19 +1,17 @@
 -- A removal leaves a page that satisfies the rules, without the row. Assumes nothing.
-use Prim.Native.Nat.{ℕ, suc, _+_, _*_, _-_, _/_, _%_, _≤_, _<_}
-use mathlib.Core.Path.{_≡_, refl, sym, ap, _∙_, subst}
+use Prim.Native.Nat.{ℕ, suc, _+_, _*_, _-_, _≤_, _<_}
+use mathlib.Core.Path.{_≡_, _∙_}
 use mathlib.Core.Logic.{_⊎_, ⊎-elim}
 use mathlib.Core.List.{List}
 use native.Mathlib.Omega.{arith}
 use native.Mathlib.Numerals.{add-one}
 use lib.ListN.{length}
-use Rattle.ground.specs.Lists.{byte, part}
-use Rattle.words.specs.Le.{le16, le32}
+use Rattle.ground.specs.Lists.{byte, total, removeAt}
 use Rattle.words.specs.Moves.{Frame, Cleared}
 use Rattle.ground.proofs.Sides.{side}
 use Rattle.words.proofs.Bytes.{span-frame, le32-above}
 use Rattle.words.specs.Codes.{Before}
-use Rattle.ground.specs.Lists.{tab, total, removeAt}
-use Rattle.page.specs.Page.{Slotted, Natural, In, Record, rows, rowAt, need, word, off, len, kind, place, code, count, frontier, free, slotAt}
+use Rattle.page.specs.Page.{In, rows, rowAt, need, word, off, len, kind, place, code, count, frontier, free, slotAt}
 use Rattle.page.specs.Steps.{Removable, Removed, Closed, Headed, Top}
 use Rattle.ground.proofs.Tables.{tab-remove, total-insert}
 use Rattle.page.proofs.Slots.{Lies, lies}

@@ -1,10 +1,10 @@
 -- The promises settle every byte: two results of one promise are equal. Assumes nothing.
-use Prim.Native.Nat.{ℕ, _+_, _*_, _≤_, _<_}
+use Prim.Native.Nat.{ℕ, _+_, _*_, _<_}
 use mathlib.Core.Path.{_≡_, refl, sym, ap, _∙_}
 use mathlib.Core.List.{List}
 use native.Mathlib.Omega.{arith}
 use Rattle.ground.specs.Lists.{tab}
-use Rattle.page.specs.Page.{Slotted, Belongs, rows, rowAt, count, frontier, code}
+use Rattle.page.specs.Page.{Slotted, Belongs, rowAt, count, frontier, code}
 use Rattle.page.specs.Found.{FoundIn}
 use Rattle.page.specs.declared.Found.{Found}
 use Rattle.page.specs.declared.Found.the-variants.{At, Absent}

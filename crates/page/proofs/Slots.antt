@@ -1,11 +1,11 @@
 -- What a page's rules say of one slot. Assumes nothing.
 use Prim.Native.Nat.{ℕ, _+_, _*_, _-_, _≤_, _<_}
-use mathlib.Core.Path.{_≡_, refl, sym, ap, _∙_}
+use mathlib.Core.Path.{_≡_}
 use mathlib.Core.Logic.{⊎-elim}
 use mathlib.Core.List.{List}
 use native.Mathlib.Omega.{arith}
 use lib.ListN.{length, take, drop}
-use Rattle.ground.specs.Lists.{byte, part}
+use Rattle.ground.specs.Lists.{part}
 use Rattle.ground.proofs.Sides.{side}
 use Rattle.words.specs.Codes.{Before}
 use Rattle.words.proofs.Orders.{before-trans}

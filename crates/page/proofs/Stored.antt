@@ -1,17 +1,16 @@
 -- Places and the 8 bytes that hold them, there and back. Assumes nothing.
-use Prim.Native.Nat.{ℕ, zero, suc, _+_, _*_, _/_, _%_, _≤_, _<_, _^_}
+use Prim.Native.Nat.{ℕ, zero, suc, _+_, _<_, _^_}
 use mathlib.Core.Path.{_≡_, refl, sym, ap, _∙_}
 use mathlib.Core.Logic.{_⊎_, inl, inr, ⊎-elim}
-use mathlib.Core.List.{List, [], _∷_, _++_}
+use mathlib.Core.List.{List, _++_}
 use native.Mathlib.Omega.{arith}
 use lib.ListN.{length}
 use lib.Seq.{ext-getD}
-use lib.IntN.{ℤ, pos}
-use lib.Signed.{mag, _<ℤ_}
+use lib.IntN.{pos}
+use lib.Signed.{mag}
 use Rattle.ground.specs.Lists.{byte}
-use Rattle.ground.proofs.Sides.{side}
 use Rattle.words.specs.Le.{le16, le32, bytes}
-use Rattle.words.specs.Moves.{Frame, Put16, Put32}
+use Rattle.words.specs.Moves.{Put16, Put32}
 use Rattle.words.proofs.Bytes.{le16-bytes, le32-byte, le16-below, le32-below}
 use Rattle.page.specs.Page.{Natural}
 use Rattle.page.specs.Places.{stored, place, Negative, InRange}

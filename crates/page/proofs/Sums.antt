@@ -1,15 +1,13 @@
 -- Laws of totals and of an insertion's rows. Assumes nothing.
 use Prim.Native.Nat.{ℕ, zero, suc, _+_, _*_, _-_, _≤_, _<_}
 use mathlib.Core.Path.{_≡_, refl, sym, ap, _∙_}
-use mathlib.Core.Logic.{⊎-elim}
-use mathlib.Core.List.{List, [], _∷_, _++_}
+use mathlib.Core.List.{List}
 use native.Mathlib.Omega.{arith}
 use native.Mathlib.Numerals.{add-one}
 use lib.ListN.{length, getD, take, drop, length-append, length-take, length-drop, List·getD-append}
 use lib.Seq.{getD-take, getD-append-seam, length-take-le}
-use Rattle.ground.specs.Lists.{part}
+use Rattle.ground.specs.Lists.{part, total, insertAt}
 use Rattle.ground.proofs.Parts.{length-part}
-use Rattle.ground.specs.Lists.{total, tab, insertAt}
 use Rattle.page.specs.Page.{Slotted, Record, rows, rowAt, count, frontier, off, len, code, place, need}
 use Rattle.page.specs.Steps.{Inserted}
 use Rattle.page.proofs.Slots.{Lies, lies}

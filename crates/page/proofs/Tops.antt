@@ -1,11 +1,11 @@
 -- The largest record end of slots. Assumes nothing.
-use Prim.Native.Nat.{ℕ, _+_, _*_, _-_, _≤_, _<_}
-use mathlib.Core.Path.{_≡_, refl, sym, ap, _∙_}
+use Prim.Native.Nat.{ℕ, _+_, _-_, _≤_, _<_}
+use mathlib.Core.Path.{_≡_, sym}
 use mathlib.Core.Logic.{⊎-elim}
 use mathlib.Core.List.{List}
 use native.Mathlib.Omega.{arith}
 use Rattle.ground.proofs.Sides.{side}
-use Rattle.page.specs.Page.{off, len, word}
+use Rattle.page.specs.Page.{off, len}
 use Rattle.page.specs.Steps.{Top}
 
 pub off-lt : (p : List ℕ) (i : ℕ) → off p i < 16384

@@ -1,19 +1,17 @@
 -- A page that satisfies the rules is settled by its length, its depth and its rows. Assumes nothing.
-use Prim.Native.Nat.{ℕ, zero, suc, _+_, _*_, _-_, _/_, _%_, _≤_, _<_}
-use mathlib.Core.Path.{_≡_, refl, sym, ap, _∙_, subst}
+use Prim.Native.Nat.{ℕ, zero, suc, _+_, _*_, _-_, _/_, _≤_, _<_}
+use mathlib.Core.Path.{_≡_, sym, ap, _∙_}
 use mathlib.Core.Logic.{_⊎_, inl, inr, ⊎-elim}
 use mathlib.Core.List.{List}
 use native.Mathlib.Omega.{arith}
-use native.Mathlib.Numerals.{add-one}
 use lib.ListN.{length, getD}
 use lib.Seq.{ext-getD}
-use Rattle.ground.specs.Lists.{byte, part}
-use Rattle.words.specs.Le.{le16, le32}
+use Rattle.ground.specs.Lists.{byte, total}
+use Rattle.words.specs.Le.{le32}
 use Rattle.ground.proofs.Sides.{side}
 use Rattle.ground.proofs.Parts.{byte-part, length-part}
-use Rattle.ground.specs.Lists.{tab, total}
 use Rattle.words.proofs.Bytes.{le16-bytes, le32-byte}
-use Rattle.page.specs.Page.{Slotted, In, Record, rows, rowAt, need, word, off, len, kind, place, code, count, frontier, free, depth, slotAt}
+use Rattle.page.specs.Page.{Slotted, In, rows, rowAt, need, word, off, len, kind, place, code, count, frontier, free, depth, slotAt}
 use Rattle.ground.proofs.Tables.{length-tab, getD-tab, total-same}
 use Rattle.page.proofs.Slots.{Lies, lies}
 

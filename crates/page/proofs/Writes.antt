@@ -1,16 +1,14 @@
 -- The writes to a page, put together from those of `words`. Assumes nothing.
 use Prim.Native.Nat.{ℕ, _+_, _*_, _-_, _≤_, _<_}
-use mathlib.Core.Path.{_≡_, refl, sym, ap, _∙_}
+use mathlib.Core.Path.{_≡_, _∙_}
 use mathlib.Core.List.{List}
 use native.Mathlib.Omega.{arith}
 use lib.ListN.{length}
 use Rattle.ground.specs.Lists.{byte, part}
-use Rattle.words.specs.Le.{le16, le32}
-use Rattle.words.specs.Moves.{Frame, Put16, Put32, Wrote, Copied, MovedDown, MovedUp, Cleared}
-use Rattle.words.proofs.Bytes.{frame-join, le16-below, le32-below, le32-moved}
+use Rattle.words.specs.Moves.{Put16, Put32, Copied, MovedDown, MovedUp, Cleared}
+use Rattle.words.proofs.Bytes.{frame-join, le16-below, le32-below, le32-moved, copied-part}
 use Rattle.ground.proofs.Parts.{part-same}
-use Rattle.words.proofs.Bytes.{copied-part}
-use Rattle.page.specs.Page.{slotAt, word, count, frontier, free}
+use Rattle.page.specs.Page.{slotAt, word}
 use Rattle.page.specs.Steps.{Recorded, Opened, Headed, Closed}
 
 pub recorded : {p q r pl c : List ℕ} {f : ℕ} → length pl ≡ 8 → f + 8 + length c ≤ length p → Copied p f pl q → Copied q (f + 8) c r → Recorded p f pl c r

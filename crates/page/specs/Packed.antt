@@ -1,10 +1,10 @@
 -- Fresh and packed pages. Assumes nothing.
-use Prim.Native.Nat.{ℕ, _+_, _*_, _-_, _≤_, _<_}
+use Prim.Native.Nat.{ℕ, _+_, _*_, _≤_, _<_}
 use mathlib.Core.Path.{_≡_}
 use mathlib.Core.List.{List, [], _∷_}
 use lib.ListN.{length}
 use Rattle.ground.specs.Lists.{total}
-use Rattle.page.specs.Page.{Slotted, BucketPage, Belongs, Natural, Record, rows, rowAt, depth, count, frontier, free, off, len, place, code, need}
+use Rattle.page.specs.Page.{Slotted, BucketPage, Belongs, Natural, rows, depth, count, frontier, free, off, len, place, code}
 use Rattle.page.specs.Steps.{Inserted}
 
 -- a page of no rows

@@ -1,8 +1,8 @@
 -- A bucket page, read as it lies. Positions go by the page's length. Assumes nothing.
-use Prim.Native.Nat.{ℕ, zero, suc, _+_, _*_, _-_, _/_, _%_, _≤_, _<_}
+use Prim.Native.Nat.{ℕ, _+_, _*_, _-_, _/_, _%_, _≤_, _<_}
 use mathlib.Core.Path.{_≡_}
-use mathlib.Core.List.{List, [], _∷_, _++_}
-use lib.ListN.{length, take, drop}
+use mathlib.Core.List.{List}
+use lib.ListN.{length}
 use Rattle.ground.specs.Lists.{byte, part, tab, total}
 use Rattle.words.specs.Le.{le16, le32}
 use Rattle.words.specs.Codes.{Before}

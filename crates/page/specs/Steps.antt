@@ -3,10 +3,9 @@ use Prim.Native.Nat.{ℕ, _+_, _*_, _-_, _≤_, _<_}
 use mathlib.Core.Path.{_≡_}
 use mathlib.Core.List.{List}
 use lib.ListN.{length, set}
-use Rattle.ground.specs.Lists.{byte, part}
+use Rattle.ground.specs.Lists.{byte, part, insertAt, removeAt}
 use Rattle.words.specs.Moves.{Frame}
-use Rattle.ground.specs.Lists.{insertAt, removeAt}
-use Rattle.page.specs.Page.{Slotted, Belongs, Natural, Record, rows, count, frontier, free, depth, slotAt, word, off, len, code}
+use Rattle.page.specs.Page.{Slotted, Belongs, Natural, rows, count, frontier, free, depth, slotAt, word, off, len, code}
 
 -- a record written at f
 pub record Recorded (p : List ℕ) (f : ℕ) (pl c q : List ℕ) : Type 0 where

@@ -4,11 +4,11 @@
 use mathlib.Core.Path.{_≡_, refl, sym, ap, _∙_, subst}
 use mathlib.Core.Logic.{_⊎_, inl, inr, _≢_}
 use mathlib.Core.List.{List, [], _∷_, _++_, List·Memᴰ, List·Memᴰ·head, List·Memᴰ·tail, List·Memᴰ·not-nil, List·Memᴰ·cases-cons, List·Memᴰ·append-cases, Memᴰ·append-left, Memᴰ·append-right, Memᴰ·cast}
-use Prim.Native.Nat.{ℕ, suc, _+_, _≤_, _<_, zero-le}
+use Prim.Native.Nat.{ℕ, suc, _+_, _≤_, zero-le}
 use native.Mathlib.Omega.{arith}
 use lib.ListN.{length, length-append}
 use Rattle.partition.specs.Partition.{Row, Prefix, Reordered, empty, front, chain, after, Ascending}
-use Rattle.partition.specs.Listing.{placeOf, Once}
+use Rattle.partition.specs.Listing.{Once}
 use Rattle.partition.proofs.Order.{asc-first, first-lt-after}
 use Rattle.partition.proofs.Reorders.{to-front, turned}
 use Rattle.partition.proofs.Sorted.{same-map}
@@ -53,6 +53,14 @@ module _ {A : Type 0} where
       no-longer s (w .0 ++ w .1) (d .1)
       (λ y m. beside (w .0) (w .1) (subst (λ l. List·Memᴰ y l) (w .2) (f y (List·Memᴰ·tail m))) (λ q. d .0 (Memᴰ·cast (sym q) m))) in
       omega (arith, length-append (w .0) (w .1))
+
+  pub distinct-append : (s t : List A) → Distinct s → Distinct t → ((x : A) → List·Memᴰ x s → List·Memᴰ x t → ⊥) → Distinct (s ++ t)
+  distinct-append [] t d e f = e
+  distinct-append (x ∷ s) t d e f = (λ m. go (List·Memᴰ·append-cases s m), distinct-append s t (d .1) e (λ y m n. f y (List·Memᴰ·tail m) n))
+    where
+      go : List·Memᴰ x s ⊎ List·Memᴰ x t → ⊥
+      go (inl m) = d .0 m
+      go (inr m) = f x (List·Memᴰ·head refl) m
 
 pub asc-distinct : (d lo hi : ℕ) (l : List Prefix) → Ascending d lo hi l → Distinct l
 asc-distinct d lo hi [] a = tt

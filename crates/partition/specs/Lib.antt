@@ -1,3 +1,4 @@
 pub mod Bits
 pub mod Partition
 pub mod Listing
+pub mod Cases

@@ -1,6 +1,6 @@
 -- The way back: bytes laid out for pages that show rows are an accepted store. What format, put and remove have to promise of their bytes.
 use mathlib.Core.Path.{_≡_, refl, sym, ap, subst, subst₂, _∙_}
-use mathlib.Core.List.{List, map, List·Memᴰ, List·Memᴰ·head, List·Memᴰ·tail}
+use mathlib.Core.List.{List, List·Memᴰ, List·Memᴰ·head, List·Memᴰ·tail}
 use mathlib.Core.Logic.{_⊎_, inl, inr, _↔_}
 use Prim.Native.Nat.{ℕ, zero, suc, _+_, _-_, _*_, _/_, _^_, _≤_, _<_}
 use native.Mathlib.Omega.{arith}
@@ -16,16 +16,15 @@ use Rattle.partition.specs.Bits.{top}
 use Rattle.partition.specs.Partition.{Shape, Row, needs, rowsOf}
 use Rattle.partition.proofs.Bits.{top-step}
 use Rattle.partition.proofs.Laws.{load-reordered}
-use Rattle.partition.proofs.Pages.{turned}
 use Rattle.store.specs.Pages.{size, pages, page, dirDepth, entryAt, Page, free, bucket, read, contents, asRow, rowsIn, rowsHeld, deepestIn}
-use Rattle.store.specs.Accepted.{GoodLength, Bucket, Zero, Calls, Stands, unused, used, Parted, Accepted}
+use Rattle.store.specs.Accepted.{GoodLength, Zero, Calls, Stands, unused, used, Parted, Accepted}
 use Rattle.store.specs.Tables.{Becomes}
 use Rattle.store.specs.Demands.{Sized, Hash}
 use Rattle.store.proofs.Rules.{Opened, opened, closed}
 use Rattle.store.proofs.Shows.{prefixOn, Holding, Shows}
 use Rattle.store.proofs.Shown.{free-not, page-row}
 use Rattle.store.proofs.Unique.{read-zero, read-used, held, within}
-use Rattle.store.proofs.Showing.{map-tab, first-code, first-of}
+use Rattle.store.proofs.Showing.{map-tab, first-code}
 use Rattle.store.proofs.Named.{Entry, nothing, names, deep-small, deepest-bound, shown-shallow, one-called, accepted-entry}
 
 -- page 0 but for its depth
@@ -80,7 +79,7 @@ module _ (S : Shape) (s t : List ℕ) (l : length t ≡ length s) (same : (k : �
   pub each-kept : ((p : ℕ) → 2 ≤ p → p < pages S s → Whole (page S s p)) → (p : ℕ) → 2 ≤ p → p < pages S t → Whole (page S t p)
   each-kept f p a b = subst Whole (sym (page-kept p a b)) (f p a (subst (λ n. p < n / size S) l b))
 
-tab-in : {A : Type 0} (f : ℕ → A) (n i : ℕ) → i < n → List·Memᴰ (f i) (tab f n)
+pub tab-in : {A : Type 0} (f : ℕ → A) (n i : ℕ) → i < n → List·Memᴰ (f i) (tab f n)
 unfolding tab
 tab-in f zero i l = absurd (omega arith)
 tab-in f (suc n) zero l = List·Memᴰ·head refl

@@ -1,20 +1,18 @@
 -- An accepted store is what is worked out afresh from its own rows; so the store after any history is, as soon as put and remove leave the right rows.
-use mathlib.Core.Path.{_≡_, refl, sym, ap, subst, _∙_}
-use mathlib.Core.List.{List, map}
-use mathlib.Core.Option.{Option, some, none}
-use Prim.Native.Nat.{ℕ, suc, _+_, _-_, _*_, _^_, _≤_, _<_}
+use mathlib.Core.Path.{_≡_, sym, ap, _∙_}
+use mathlib.Core.List.{List}
+use mathlib.Core.Option.{some}
+use Prim.Native.Nat.{ℕ, suc, _+_, _-_, _^_, _≤_, _<_}
 use native.Mathlib.Omega.{arith}
 use native.Mathlib.Nat.{le-trans, pow-le-pow-right}
 use lib.ListN.{getD}
 use Rattle.ground.specs.Lists.{tab}
 use Rattle.ground.proofs.Tables.{tab-same}
-use Rattle.page.specs.Page.{Record}
-use Rattle.partition.specs.Partition.{Shape, Row, Prefix, buckets, depthOf, entry}
-use Rattle.store.specs.Pages.{pages, page, dirDepth, entryAt, Page, free, bucket, read, contents, asRow, rowsHeld}
-use Rattle.store.specs.Accepted.{Calls, Accepted}
-use Rattle.store.specs.Demands.{Sized, Hash, Seen, seen, named, directory, seenAfresh, afresh, AfreshAlways, PutIsMap, RemoveIsMap, SameRefusals}
+use Rattle.partition.specs.Partition.{Shape, Prefix, buckets, depthOf, entry}
+use Rattle.store.specs.Pages.{pages, page, dirDepth, entryAt, free, contents, rowsHeld}
+use Rattle.store.specs.Demands.{Sized, Hash, seen, named, directory, seenAfresh, afresh, AfreshAlways, PutIsMap, RemoveIsMap, SameRefusals}
 use Rattle.store.proofs.Rules.{Opened, opened}
-use Rattle.store.proofs.Shows.{prefixOn, Holding, Shows}
+use Rattle.store.proofs.Shows.{Shows}
 use Rattle.store.proofs.Shown.{within-pages}
 use Rattle.store.proofs.Unique.{held}
 use Rattle.store.proofs.Showing.{pages-held, accepted-shows}

@@ -1,21 +1,21 @@
 -- A formatted store is accepted, and holds no rows.
-use mathlib.Core.Path.{_≡_, refl, sym, ap, subst, _∙_}
-use mathlib.Core.List.{List, [], _∷_, _++_, flatMap}
+use mathlib.Core.Path.{_≡_, refl, sym, ap, _∙_}
+use mathlib.Core.List.{List, [], _++_, flatMap}
 use mathlib.Core.Logic.{_⊎_, inl, inr, ⊎-elim}
-use Prim.Native.Nat.{ℕ, zero, suc, _+_, _-_, _*_, _/_, _%_, _^_, _≤_, _<_, max}
+use Prim.Native.Nat.{ℕ, zero, suc, _+_, _-_, _*_, _/_, _%_, _≤_, _<_}
 use native.Mathlib.Omega.{arith}
 use native.Mathlib.Nat.{mul-le-mul-right, div-mul-le-self}
-use lib.ListN.{length, getD, replicate, length-append, length-replicate, getD-replicate, List·getD-eq-default, List·getD-append}
+use lib.ListN.{length, getD, replicate, length-append, length-replicate, getD-replicate, List·getD-eq-default}
 use lib.Seq.{getD-append-add}
-use Rattle.ground.specs.Lists.{byte, part}
+use Rattle.ground.specs.Lists.{byte}
 use Rattle.words.specs.Le.{le16, le32}
 use Rattle.ground.proofs.Sides.{side}
-use Rattle.ground.proofs.Parts.{byte-part, length-part}
+use Rattle.ground.proofs.Parts.{byte-part}
 use Rattle.ground.specs.Lists.{tab}
 use Rattle.page.specs.Page.{depth}
-use Rattle.partition.specs.Partition.{Shape, Row}
-use Rattle.store.specs.Pages.{size, pages, page, dirDepth, entryAt, Page, free, read, contents, rowsIn, rowsOn, rowsHeld, deepestIn}
-use Rattle.store.specs.Accepted.{GoodLength, Page0, Page1, Zero, unused, Accepted}
+use Rattle.partition.specs.Partition.{Shape}
+use Rattle.store.specs.Pages.{size, pages, page, entryAt, Page, free, read, contents, rowsIn, rowsOn, rowsHeld, deepestIn}
+use Rattle.store.specs.Accepted.{GoodLength, Zero, unused, Accepted}
 use Rattle.words.specs.Le.{bytes}
 use Rattle.store.specs.Tables.{Out, refused, formatted, blank, Refusal1, formatTable}
 use Rattle.store.specs.Demands.{Sized, Made, format, FormatAccepted, AcceptedAgain}

@@ -1,8 +1,8 @@
 -- What a directory entry says of pages that show rows: it is the number of the page that calls for it, or 0 where no page does. So it is in an accepted store.
 use mathlib.Core.Path.{_≡_, refl, sym, ap, subst, subst₂, _∙_}
-use mathlib.Core.List.{List, [], _∷_, List·Memᴰ, List·Memᴰ·head, List·Memᴰ·tail}
+use mathlib.Core.List.{List, [], _∷_, List·Memᴰ}
 use mathlib.Core.Logic.{_⊎_, inl, inr, _↔_}
-use mathlib.Core.Option.{Option, some, none}
+use mathlib.Core.Option.{some, none}
 use Prim.Native.Nat.{ℕ, zero, suc, _+_, _-_, _*_, _/_, _^_, _≤_, _<_, max, zero-le}
 use native.Mathlib.Omega.{arith}
 use native.Mathlib.Nat.{le-antisymm, pow-le-pow-right, mul-le-mul-right}
@@ -16,15 +16,15 @@ use Rattle.partition.proofs.Tree.{pfx}
 use Rattle.partition.proofs.Rows.{listed}
 use Rattle.partition.proofs.Laws.{no-overlap}
 use Rattle.partition.proofs.Store.{not-deeper}
-use Rattle.partition.proofs.Directory.{Holds, holds-range, holds-top, entry-hash, entry-complete, entry-none, depth-bound}
+use Rattle.partition.proofs.Directory.{Holds, holds-range, holds-top, entry-hash, entry-complete, entry-none, depth-bound, depth-least}
 use Rattle.store.specs.Pages.{pages, page, dirDepth, entryAt, Page, free, bucket, contents, depthOn, deepestIn}
 use Rattle.store.specs.Accepted.{Calls, Stands, unused, used}
 use Rattle.store.specs.Demands.{Sized, Hash}
 use Rattle.store.proofs.Shows.{prefixOn, Holding, Shows}
-use Rattle.store.proofs.Shown.{free-not, paged, one-holder, whole, Every}
+use Rattle.store.proofs.Shown.{free-not, paged, one-holder, whole, Any}
 use Rattle.store.proofs.Rules.{Opened}
 use Rattle.store.proofs.Unique.{read-bucket, held}
-use Rattle.store.proofs.Showing.{Under, under}
+use Rattle.store.proofs.Showing.{under}
 
 -- entry e of t is right for the first n pages of gs, in a directory of depth d
 pub data Entry (S : Shape) (h : List ℕ → ℕ) (t : List ℕ) (gs : List Page) (d n e : ℕ) : Type 0 where
@@ -106,14 +106,9 @@ pub one-called : (S : Shape) (h : List ℕ → ℕ) (rows : List Row) (gs : List
     → (i j k l : ℕ) (rs qs : List Record) → k ≤ d → l ≤ d → Holding gs i k rs → Holding gs j l qs
     → (e : ℕ) → Calls d k (prefixOn h k rs) e → Calls d l (prefixOn h l qs) e → i ≡ j
 one-called S h rows gs w d b i j k l rs qs kd ld x y e c f =
-    one-holder S h rows (Every S h) gs (whole S h rows gs w) (e * 2 ^ (32 - d)) i j k l rs qs x y (calls-hash d k (prefixOn h k rs) e b kd c) (calls-hash d l (prefixOn h l qs) e b ld f)
+    one-holder S h rows Any gs (whole S h rows gs w) (e * 2 ^ (32 - d)) i j k l rs qs x y (calls-hash d k (prefixOn h k rs) e b kd c) (calls-hash d l (prefixOn h l qs) e b ld f)
 
 -- ---- depth
-
-depth-le : (l : List Prefix) (n : ℕ) → ((p : Prefix) → List·Memᴰ p l → p .bits ≤ n) → depthOf l ≤ n
-unfolding depthOf
-depth-le [] n f = zero-le
-depth-le (p ∷ l) n f = omega (arith, f p (List·Memᴰ·head refl), depth-le l n (λ q m. f q (List·Memᴰ·tail m)))
 
 pub deepest-le : (gs : List Page) (n : ℕ) → ((i k : ℕ) (rs : List Record) → Holding gs i k rs → k ≤ n) → deepestIn gs ≤ n
 unfolding deepestIn
@@ -146,7 +141,7 @@ module _ (S : Shape) (h : List ℕ → ℕ) (hash : Hash h) (rows : List Row) (g
   pub shown-depth : deepestIn gs ≡ depthOf bs
   shown-depth =
       le-antisymm (deepest-le gs (depthOf bs) (λ i k rs e. depth-bound bs (pfx k (prefixOn h k rs)) (shown-bucket i k rs e)))
-      (depth-le bs (deepestIn gs) (λ p m. let b = bucket-shown p m in deepest-bound gs (b .0) (p .bits) (b .1) (b .2)))
+      (depth-least bs (deepestIn gs) (λ p m. let b = bucket-shown p m in deepest-bound gs (b .0) (p .bits) (b .1) (b .2)))
 
   pub shown-shallow : deepestIn gs ≤ S .deepest
   shown-shallow = deepest-le gs (S .deepest) (λ i k rs e. not-deeper S h rows (w .fine) k (prefixOn h k rs) (w .page i k rs e .is))

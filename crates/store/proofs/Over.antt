@@ -17,7 +17,7 @@ use Rattle.partition.proofs.Reorders.{same-order}
 use Rattle.partition.proofs.Maps.{cut, cut-none}
 use Rattle.store.proofs.Plan.{OverRows, AcceptedIsAfresh}
 
-abbrev over : Row → Row → Row
+abbrev pub over : Row → Row → Row
 over r q = by (order (r .code) (q .code)) q r q
 
 -- a record overwritten, as a row
@@ -26,7 +26,7 @@ one-over r Ordering·lt q = refl
 one-over r Ordering·eq q = refl
 one-over r Ordering·gt q = refl
 
-many-over : (r : Row) (rs : List Record) → map asRow (map (placeOn r) rs) ≡ map (over r) (map asRow rs)
+pub many-over : (r : Row) (rs : List Record) → map asRow (map (placeOn r) rs) ≡ map (over r) (map asRow rs)
 many-over r [] = refl
 many-over r (q ∷ rs) = ap (λ x. x ∷ map asRow (map (placeOn r) rs)) (one-over r (order (r .code) (q .code)) q) ∙ ap (λ l. over r (asRow q) ∷ l) (many-over r rs)
 
@@ -38,7 +38,7 @@ map-append : (f : Row → Row) (l m : List Row) → map f (l ++ m) ≡ map f l +
 map-append f [] m = refl
 map-append f (x ∷ l) m = ap (λ t. f x ∷ t) (map-append f l m)
 
-rows-over : (r : Row) (gs : List Page) → rowsIn (overwritten gs r) ≡ map (over r) (rowsIn gs)
+pub rows-over : (r : Row) (gs : List Page) → rowsIn (overwritten gs r) ≡ map (over r) (rowsIn gs)
 unfolding overwritten rowsIn flatMap
 rows-over r [] = refl
 rows-over r (g ∷ gs) =
@@ -56,7 +56,7 @@ none-over r (q ∷ rs) e = go (order (r .code) (q .code)) e (none-over r rs)
     go Ordering·eq x f = absurd (let n : _≡_ {A = ℕ} 0 1 = cc in omega arith)
     go Ordering·gt x f = ap (λ l. q ∷ l) (f x)
 
-known-over : (r : Row) (rs : List Row) (old : List ℕ) → Once rs → placeOf rs (r .code) ≡ some old → Reordered (map (over r) rs) (r ∷ cut (r .code) rs)
+pub known-over : (r : Row) (rs : List Row) (old : List ℕ) → Once rs → placeOf rs (r .code) ≡ some old → Reordered (map (over r) rs) (r ∷ cut (r .code) rs)
 unfolding placeOf without
 known-over r [] old o e = absurd (let n : _≡_ {A = ℕ} 0 1 = cc in omega arith)
 known-over r (q ∷ rs) old o e = go (order (r .code) (q .code)) refl e (known-over r rs old (o .1))

@@ -2,23 +2,20 @@
 use mathlib.Core.Path.{_≡_, refl, sym, ap, subst, _∙_}
 use mathlib.Core.Bool.{Bool, true, false}
 use mathlib.Core.List.{List, [], _∷_}
-use mathlib.Core.Logic.{_⊎_, inl, inr}
-use mathlib.Core.Option.{Option, some, none}
-use Prim.Native.Nat.{ℕ, Ordering, Ordering·lt, Ordering·eq, Ordering·gt}
-use native.Mathlib.Omega.{arith}
-use Rattle.partition.specs.Partition.{Shape, Row, Reordered, empty, front, swap, chain, buckets, depthOf}
+use mathlib.Core.Option.{some, none}
+use Prim.Native.Nat.{ℕ}
+use Rattle.partition.specs.Partition.{Shape, Row, Reordered, empty, front, chain, buckets, depthOf}
 use Rattle.partition.proofs.Laws.{reordered}
 use Rattle.page.specs.declared.Place.{Place}
 use Rattle.ground.specs.Ladder.{Answers}
-use Rattle.words.specs.Codes.{order}
-use Rattle.partition.specs.Listing.{by, without, placeOf}
+use Rattle.partition.specs.Listing.{without, placeOf}
 use Rattle.store.specs.Pages.{Page, contents, rowsIn, rowsHeld, dirDepth}
 use Rattle.store.specs.Accepted.{Accepted}
 use Rattle.store.specs.Moves.{pick, overwritten, putNew, removed}
 use Rattle.page.specs.Places.{stored}
-use Rattle.store.specs.Tables.{Out, formatted, Refusal6, Refusal7, Becomes, putTable, removeTable, formatTable, blank}
+use Rattle.store.specs.Tables.{Out, Refusal6, Refusal7, Becomes, putTable, removeTable, formatTable}
 use Rattle.partition.specs.Listing.{Once}
-use Rattle.store.specs.Demands.{Sized, Call, format, check, count, lookup, remove, put, rowAt, Made, ok, after, surviving, directory, afresh, Afresh, History, begin, next, AfreshAlways, map-of, update, answerOf, putAnswer, PutIsMap, RemoveIsMap}
+use Rattle.store.specs.Demands.{Sized, Call, format, check, count, lookup, remove, put, rowAt, Made, ok, after, surviving, directory, afresh, History, begin, next, AfreshAlways, map-of, update, answerOf, putAnswer, PutIsMap, RemoveIsMap}
 use Rattle.ground.proofs.Ladders.{each}
 use Rattle.partition.proofs.Sorted.{same-map}
 use Rattle.partition.proofs.Reorders.{same-order}

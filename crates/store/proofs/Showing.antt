@@ -10,23 +10,23 @@ use lib.ListN.{length, getD, length-map}
 use Rattle.ground.specs.Lists.{tab, total}
 use Rattle.ground.proofs.Sides.{side}
 use Rattle.ground.proofs.Tables.{length-tab, total-same}
-use Rattle.words.specs.Codes.{Before}
-use Rattle.words.proofs.Orders.{irrefl}
-use Rattle.page.specs.Page.{Record, BucketPage, Slotted, depth, count, code, len, rows, rowAt}
+use Rattle.page.specs.Page.{Record, BucketPage, Slotted, depth, count, code, rows, rowAt}
 use Rattle.page.specs.Page.{need as slot-need, free as total-free}
 use Rattle.page.proofs.Sums.{len-of-code}
 use Rattle.partition.specs.Bits.{top}
-use Rattle.partition.specs.Partition.{Shape, Row, Prefix, need, needs, rowsOf, IsBucket, Fine, Reordered}
-use Rattle.partition.specs.Listing.{by, insert, inOrder, Once}
+use Rattle.partition.specs.Partition.{Shape, Row, need, needs, rowsOf, Fine}
+use Rattle.partition.specs.Listing.{inOrder, Once}
 use Rattle.partition.proofs.Bits.{top-step, top-lt}
 use Rattle.partition.proofs.Tree.{pfx}
 use Rattle.partition.proofs.Directory.{holds-top}
 use Rattle.partition.proofs.Path.{path-le}
 use Rattle.partition.proofs.Rows.{load, load-mono}
 use Rattle.partition.proofs.Sum.{of-prefix}
+use Rattle.partition.proofs.Rising.{Rising, rising-tab, tab-member}
+use Rattle.partition.proofs.Sorted.{by-code, order-own, rising-once}
 use Rattle.partition.proofs.Pages as P
-use Rattle.partition.proofs.Members.{missing, once-append}
-use Rattle.store.specs.Pages.{size, pages, page, dirDepth, entryAt, Page, free, bucket, read, contents, asRow, rowsIn, rowsHeld}
+use Rattle.partition.proofs.Members.{once-append}
+use Rattle.store.specs.Pages.{pages, page, dirDepth, entryAt, Page, free, bucket, read, contents, asRow, rowsIn, rowsHeld}
 use Rattle.store.specs.Accepted.{Bucket, Calls, Stands, unused, used, Accepted}
 use Rattle.store.specs.Demands.{Sized, Hash}
 use Rattle.store.proofs.Rules.{Opened, opened}
@@ -34,16 +34,7 @@ use Rattle.store.proofs.Shows.{firstCode, prefixOn, Holding, OnPage, Sh
 use Rattle.store.proofs.Shown.{free-not, within-pages, row-on}
 use Rattle.store.proofs.Unique.{read-zero, read-bucket, held, page-long}
 
--- ---- rows in a table
-
-in-tab : {A : Type 0} (f : ℕ → A) (n : ℕ) (a : A) → List·Memᴰ a (tab f n) → (i : ℕ) × (i < n) × (a ≡ f i)
-unfolding tab
-in-tab f zero a m = absurd (List·Memᴰ·not-nil m)
-in-tab f (suc n) a m = go (List·Memᴰ·cases-cons m) (in-tab (λ i. f (suc i)) n a)
-  where
-    go : (a ≡ f zero) ⊎ List·Memᴰ a (tab (λ i. f (suc i)) n) → (List·Memᴰ a (tab (λ i. f (suc i)) n) → (i : ℕ) × (i < n) × (a ≡ f (suc i))) → (i : ℕ) × (i < suc n) × (a ≡ f i)
-    go (inl e) rest = (zero, omega arith, e)
-    go (inr t) rest = let w = rest t in (suc (w .0), omega (arith, w .1), w .2)
+-- ---- tables
 
 pub map-tab : {A B : Type 0} (g : A → B) (f : ℕ → A) (n : ℕ) → map g (tab f n) ≡ tab (λ i. g (f i)) n
 unfolding tab
@@ -55,46 +46,20 @@ unfolding tab needs total
 needs-tab f zero = refl
 needs-tab f (suc n) = ap (λ m. need (f zero) + m) (needs-tab (λ i. f (suc i)) n)
 
--- strictly ascending codes are in code order, and no code is there twice
-module _ (f : ℕ → Row) where
-  abbrev Climbs : ℕ → Type 0
-  Climbs n = (i j : ℕ) → i < j → j < n → Before (f i .code) (f j .code)
-
-front-less : (r : Row) (f : ℕ → Row) (n : ℕ) → (0 < n → Before (r .code) (f 0 .code)) → insert (λ q. q .code) r (tab f n) ≡ r ∷ tab f n
-unfolding tab insert
-front-less r f zero b = refl
-front-less r f (suc n) b = ap (λ o. by o (r ∷ tab f (suc n)) (r ∷ tab f (suc n)) (f 0 ∷ insert (λ q. q .code) r (tab (λ i. f (suc i)) n))) (b (omega arith) .less)
-
-pub climbs-ordered : (f : ℕ → Row) (n : ℕ) → Climbs f n → inOrder (tab f n) ≡ tab f n
-unfolding tab inOrder
-climbs-ordered f zero c = refl
-climbs-ordered f (suc n) c =
-    ap (insert (λ q. q .code) (f zero)) (climbs-ordered (λ i. f (suc i)) n (λ i j l m. c (suc i) (suc j) (omega arith) (omega arith)))
-    ∙ front-less (f zero) (λ i. f (suc i)) n (λ l. c zero (suc zero) (omega arith) (omega arith))
-
-pub climbs-once : (f : ℕ → Row) (n : ℕ) → Climbs f n → Once (tab f n)
-unfolding tab
-climbs-once f zero c = tt
-climbs-once f (suc n) c = (
-  missing (tab (λ i. f (suc i)) n) (f zero .code) (λ r m e. let w = in-tab (λ i. f (suc i)) n r m in
-      irrefl (f zero .code) (subst (λ x. Before (f zero .code) x) (ap (λ q. q .code) (sym (w .2)) ∙ sym e) (c zero (suc (w .0)) (omega arith) (omega (arith, w .1))))),
-  climbs-once (λ i. f (suc i)) n (λ i j l m. c (suc i) (suc j) (omega arith) (omega arith)),
-)
-
 -- ---- the rows of one page
 
 module _ (g : List ℕ) (b : Slotted g) where
   abbrev rowIn : ℕ → Row
   rowIn i = asRow (rowAt g i)
 
-  climbs : Climbs rowIn (count g)
-  climbs i j l m = b .ascending i j l m
+  rising : Rising by-code (map asRow (rows g))
+  rising = rw (map-tab asRow (rowAt g) (count g)) (rising-tab by-code rowIn (count g) (b .ascending))
 
   pub page-ordered : inOrder (map asRow (rows g)) ≡ map asRow (rows g)
-  page-ordered = rw (map-tab asRow (rowAt g) (count g)) (climbs-ordered rowIn (count g) climbs)
+  page-ordered = order-own (map asRow (rows g)) rising
 
   pub page-once : Once (map asRow (rows g))
-  page-once = rw (map-tab asRow (rowAt g) (count g)) (climbs-once rowIn (count g) climbs)
+  page-once = rising-once (map asRow (rows g)) rising
 
   pub page-needs : total-free g + needs (map asRow (rows g)) ≡ length g - 8
   unfolding need
@@ -105,8 +70,8 @@ module _ (g : List ℕ) (b : Slotted g) where
       omega (arith, b .unused)
 
   -- a row of the page is that of a slot
-  pub page-row : (r : Row) → List·Memᴰ r (map asRow (rows g)) → (i : ℕ) × (i < count g) × (r ≡ rowIn i)
-  page-row r m = in-tab rowIn (count g) r (rw (map-tab asRow (rowAt g) (count g)) at m)
+  pub slot-of : (r : Row) → List·Memᴰ r (map asRow (rows g)) → (i : ℕ) × (i < count g) × (r ≡ rowIn i)
+  slot-of r m = tab-member rowIn (count g) r (rw (map-tab asRow (rowAt g) (count g)) at m)
 
 -- ---- pages as the partition's pages
 
@@ -269,26 +234,26 @@ pub pages-held : (S : Shape) (s : List ℕ) → length (contents S s) ≡ pages 
 unfolding contents
 pages-held S s = length-tab (λ i. read (page S s (i + 2))) (pages S s - 2)
 
+-- the bytes under a bucket of the contents
+pub record Under (S : Shape) (h : List ℕ → ℕ) (s : List ℕ) (i k : ℕ) (rs : List Record) : Type 0 where
+  pub within : i + 2 < pages S s
+  pub bytes : Bucket h (page S s (i + 2))
+  pub deep : k ≡ depth (page S s (i + 2))
+  pub its : rs ≡ rows (page S s (i + 2))
+  pub low : k ≤ dirDepth s
+  pub names : (e : ℕ) → e < S .entries → (entryAt S s e ≡ i + 2) ↔ Calls (dirDepth s) k (prefixOn h k rs) e
+
 module _ (S : Shape) (h : List ℕ → ℕ) (sized : Sized S) (hash : Hash h) (s : List ℕ) (T : Opened S h s) where
   abbrev pg : ℕ → List ℕ
   pg i = page S s (i + 2)
 
-  -- the bytes under a bucket of the contents
-  pub record Under (i k : ℕ) (rs : List Record) : Type 0 where
-    pub within : i + 2 < pages S s
-    pub bytes : Bucket h (pg i)
-    pub deep : k ≡ depth (pg i)
-    pub its : rs ≡ rows (pg i)
-    pub low : k ≤ dirDepth s
-    pub names : (e : ℕ) → e < S .entries → (entryAt S s e ≡ i + 2) ↔ Calls (dirDepth s) k (prefixOn h k rs) e
-
-  pub under : (i k : ℕ) (rs : List Record) → Holding (contents S s) i k rs → Under i k rs
+  pub under : (i k : ℕ) (rs : List Record) → Holding (contents S s) i k rs → Under S h s i k rs
   under i k rs e = go (side (i + 2) (pages S s))
     where
       has : i + 2 < pages S s → read (pg i) ≡ bucket k rs
       has l = let q : i + 2 - 2 ≡ i = omega arith in sym (held S s (i + 2) (omega arith) l) ∙ ap (λ n. getD (contents S s) n free) q ∙ e
 
-      stand : i + 2 < pages S s → Stands S h s (i + 2) → Under i k rs
+      stand : i + 2 < pages S s → Stands S h s (i + 2) → Under S h s i k rs
       stand l (unused z _) = absurd (free-not (sym (read-zero (pg i) z) ∙ has l))
       stand l (used b d names) =
           let r : bucket (depth (pg i)) (rows (pg i)) ≡ bucket k rs = sym (read-bucket h (pg i) b) ∙ has l in
@@ -304,7 +269,7 @@ module _ (S : Shape) (h : List ℕ → ℕ) (sized : Sized S) (hash : Hash h) (s
                 (subst (λ n. (entryAt S s e ≡ i + 2) ↔ Calls (dirDepth s) (depth (pg i)) n e) (sym (first-code h (pg i) (b .rules))) (names e m));
           }
 
-      go : (i + 2 < pages S s) ⊎ (pages S s ≤ i + 2) → Under i k rs
+      go : (i + 2 < pages S s) ⊎ (pages S s ≤ i + 2) → Under S h s i k rs
       go (inl l) = stand l (T .stands (i + 2) (omega arith) l)
       go (inr l) = absurd (omega (arith, within-pages (contents S s) i k rs e, pages-held S s))
 
@@ -327,7 +292,7 @@ module _ (S : Shape) (h : List ℕ → ℕ) (sized : Sized S) (hash : Hash h) (s
     shallow = λ i k rs e. le-trans (under i k rs e .low) (T .page0 .depth);
     keeps = λ i k rs e. let u = under i k rs e in
         subst₂ (λ n t. (r : Row) → List·Memᴰ r (map asRow t) → top n (h (r .code)) ≡ prefixOn h n t) (sym (u .deep)) (sym (u .its))
-        (λ r m. let w = page-row (pg i) (u .bytes .rules .rules) r m in
+        (λ r m. let w = slot-of (pg i) (u .bytes .rules .rules) r m in
         ap (λ q. top (depth (pg i)) (h (q .code))) (w .2) ∙ u .bytes .share (w .0) 0 (w .1) (u .bytes .rules .some) ∙ sym (first-code h (pg i) (u .bytes .rules)));
     ordered = λ i k rs e. let u = under i k rs e in subst (λ t. inOrder (map asRow t) ≡ map asRow t) (sym (u .its)) (page-ordered (pg i) (u .bytes .rules .rules));
     once = λ i k rs e. let u = under i k rs e in subst (λ t. Once (map asRow t)) (sym (u .its)) (page-once (pg i) (u .bytes .rules .rules));

@@ -1,27 +1,29 @@
 -- Pages that show rows: where a row is, which page holds a hash, and that pages show rows as soon as each bucket is on one page and no other page is used.
 -- Assumes nothing.
-use mathlib.Core.Path.{_≡_, refl, sym, ap, subst, _∙_}
+use mathlib.Core.Path.{_≡_, refl, sym, ap, ap₂, subst, _∙_}
 use mathlib.Core.Bool.{Bool, true, false}
-use mathlib.Core.List.{List, [], _∷_, _++_, map, flatMap, List·Memᴰ, List·Memᴰ·not-nil, List·Memᴰ·append-cases, Memᴰ·append-left, Memᴰ·append-right}
+use mathlib.Core.List.{List, [], _∷_, map, flatMap, List·Memᴰ, List·Memᴰ·head, List·Memᴰ·tail, List·Memᴰ·not-nil, List·Memᴰ·cases-cons, List·Memᴰ·append-cases, Memᴰ·append-left, Memᴰ·append-right}
 use mathlib.Core.Logic.{_⊎_, inl, inr, _↔_}
-use Prim.Native.Nat.{ℕ, zero, suc, _/_, _≤_, _<_}
+use mathlib.Core.Option.{Option, some, none}
+use Prim.Native.Nat.{ℕ, zero, suc, _/_, _^_, _≤_, _<_}
 use native.Mathlib.Omega.{arith}
 use lib.Dec.{T, eqb, eqb→eq, eqb-refl}
 use lib.ListN.{length, getD, List·getD-eq-default}
 use Rattle.page.specs.Page.{Record}
 use Rattle.partition.specs.Bits.{top}
-use Rattle.partition.specs.Partition.{Shape, Row, IsBucket, Fine, Reordered, chain, rowsOf}
-use Rattle.partition.specs.Listing.{Once}
-use Rattle.partition.proofs.Rows.{to-load, of-load, test}
+use Rattle.partition.specs.Partition.{Shape, Row, Prefix, IsBucket, Fine, Reordered, chain, rowsOf, buckets, orElse}
+use Rattle.partition.specs.Listing.{inOrder, Once}
+use Rattle.partition.proofs.Tree.{pfx}
+use Rattle.partition.proofs.Rows.{test, same-bucket, listed}
 use Rattle.partition.proofs.Laws.{no-overlap, held, load-reordered}
 use Rattle.partition.proofs.Sum.{of-prefix, head-of}
-use Rattle.partition.proofs.Store.{every-row, fine-reordered}
+use Rattle.partition.proofs.Store.{every-row, fine-reordered, not-deeper}
 use Rattle.partition.proofs.Sorted.{some-once, same-map, bucket-same}
 use Rattle.partition.proofs.Pages.{turned}
 use Rattle.partition.proofs.Members.{mem-reordered, in-order-reordered, once-append, once-ext}
 use Rattle.ground.proofs.Sides.{side}
 use Rattle.store.specs.Pages.{Page, free, bucket, asRow, rowsOn, rowsIn}
-use Rattle.store.specs.Moves.{pick, find, holds}
+use Rattle.store.specs.Moves.{pick, find, within, holds, bucketOf}
 use Rattle.store.proofs.Shows.{prefixOn, OnPage, Holding, Shows}
 
 pub free-not : {k : ℕ} {rs : List Record} → free ≡ bucket k rs → ⊥
@@ -89,16 +91,23 @@ find-least f (g ∷ gs) i l e = go (f g) refl i l e (find-least f gs)
     go false p zero l e rest = absurd (let z : true ≡ false = sym e ∙ p in let n : _≡_ {A = ℕ} 0 1 = cc in omega arith)
     go false p (suc i) l e rest = omega (arith, rest i (omega arith) e)
 
+pub within-on : (h : List ℕ → ℕ) (j v k : ℕ) (rs : List Record) → 0 < length rs → (within h j v (bucket k rs) ≡ true) ↔ (prefixOn h j rs ≡ v)
+within-on h j v k [] l = absurd (omega arith)
+within-on h j v k (r ∷ rs) l = (
+  (λ e. eqb→eq (top j (h (r .code))) v (subst T (sym e) tt)),
+  (λ e. test (eqb (top j (h (r .code))) v) (subst (λ n. T (eqb (top j (h (r .code))) n)) e (eqb-refl (top j (h (r .code)))))),
+)
+
 module _ (h : List ℕ → ℕ) where
   pub holds-on : (x k : ℕ) (rs : List Record) → 0 < length rs → (holds h x (bucket k rs) ≡ true) ↔ (prefixOn h k rs ≡ top k x)
-  holds-on x k [] l = absurd (omega arith)
-  holds-on x k (r ∷ rs) l = (
-    (λ e. eqb→eq (top k (h (r .code))) (top k x) (subst T (sym e) tt)),
-    (λ e. test (eqb (top k (h (r .code))) (top k x)) (subst (λ n. T (eqb (top k (h (r .code))) n)) e (eqb-refl (top k (h (r .code)))))),
-  )
+  holds-on x k rs l = within-on h k (top k x) k rs l
 
   holds-free : (x : ℕ) (g : Page) → g ≡ free → holds h x g ≡ true → ⊥
   holds-free x g e t = let z : false ≡ true = ap (λ p. holds h x p) (sym e) ∙ t in let n : _≡_ {A = ℕ} 0 1 = cc in omega arith
+
+-- every bucket
+abbrev pub Any : ℕ → ℕ → Type 0
+Any k v = Unit {0}
 
 -- ---- what a page has
 
@@ -115,14 +124,21 @@ module _ (S : Shape) (h : List ℕ → ℕ) where
       let v : ℕ = prefixOn h k rs in
       subst Once (sym (o .ordered)) (same-map (turned (in-order-reordered (rowsOf h rows k v))) (some-once h k v rows n) .0)
 
+  -- records that are a bucket's rows in code order are its page
+  pub page-of : (rows : List Row) (k v : ℕ) (rs : List Record) → IsBucket S h rows k v → map asRow rs ≡ inOrder (rowsOf h rows k v) → OnPage S h rows k rs × (prefixOn h k rs ≡ v)
+  page-of rows k v [] b e =
+      let r = head-of (rowsOf h rows k v) (b .has) in
+      absurd (List·Memᴰ·not-nil (subst (λ l. List·Memᴰ (r .0) l) (sym e) (mem-reordered (turned (in-order-reordered (rowsOf h rows k v))) (r .1))))
+  page-of rows k v (q ∷ rs) b e =
+      let m = mem-reordered (in-order-reordered (rowsOf h rows k v)) (subst (λ l. List·Memᴰ (asRow q) l) e (List·Memᴰ·head refl)) in
+      let p : prefixOn h k (q ∷ rs) ≡ v = of-prefix S h rows k v (asRow q) m .1 in
+      (record { some = omega arith; is = rw p b; ordered = rw p e }, p)
+
   -- pages that show those buckets of the rows of which P holds, each on one page, and nothing else
   pub record Part (rows : List Row) (P : ℕ → ℕ → Type 0) (gs : List Page) : Type 0 where
     pub page : (i k : ℕ) (rs : List Record) → Holding gs i k rs → OnPage S h rows k rs × P k (prefixOn h k rs)
     pub apart : (i j k : ℕ) (rs qs : List Record) → Holding gs i k rs → Holding gs j k qs → prefixOn h k rs ≡ prefixOn h k qs → i ≡ j
     pub all : (k v : ℕ) → IsBucket S h rows k v → P k v → (i : ℕ) × (rs : List Record) × Holding gs i k rs × (prefixOn h k rs ≡ v)
-
-  abbrev pub Every : ℕ → ℕ → Type 0
-  Every k v = Unit {0}
 
   module _ (rows : List Row) (P : ℕ → ℕ → Type 0) (gs : List Page) (p : Part rows P gs) where
     -- at most one page holds a hash
@@ -132,7 +148,7 @@ module _ (S : Shape) (h : List ℕ → ℕ) where
         p .apart i j k rs qs a (subst (λ n. Holding gs j n qs) (sym (e .0)) b) (e .1 ∙ ap (λ n. prefixOn h n qs) (sym (e .0)))
 
   -- THE VIEW. Pages on which each bucket is once, and nothing else, show the rows
-  pub shows-of : (rows : List Row) (gs : List Page) → Once rows → Fine S h rows → Part rows Every gs → Shows S h rows gs
+  pub shows-of : (rows : List Row) (gs : List Page) → Once rows → Fine S h rows → Part rows Any gs → Shows S h rows gs
   shows-of rows gs n f p = record {
     same = once-ext (rowsIn gs) rows (once-in gs (λ i k rs e. page-once rows k rs n (p .page i k rs e .0)) shared) n into back;
     once = n;
@@ -143,7 +159,7 @@ module _ (S : Shape) (h : List ℕ → ℕ) where
     where
       shared : (i j k l : ℕ) (rs qs : List Record) → Holding gs i k rs → Holding gs j l qs → (r q : Row) → List·Memᴰ r (map asRow rs) → List·Memᴰ q (map asRow qs) → r .code ≡ q .code → i ≡ j
       shared i j k l rs qs a b r q m w e =
-          one-holder rows Every gs p (h (r .code)) i j k l rs qs a b (page-row rows k rs (p .page i k rs a .0) r .0 m .1)
+          one-holder rows Any gs p (h (r .code)) i j k l rs qs a b (page-row rows k rs (p .page i k rs a .0) r .0 m .1)
           (ap (λ c. top l (h c)) e ∙ page-row rows l qs (p .page j l qs b .0) q .0 w .1)
 
       into : (r : Row) → List·Memᴰ r (rowsIn gs) → List·Memᴰ r rows
@@ -170,7 +186,7 @@ module _ (S : Shape) (h : List ℕ → ℕ) where
         let e = no-overlap S h rows (w .1) (prefixOn h (w .1) (w .2)) k v (h (r .0 .code)) (o .is) b (page-row rows (w .1) (w .2) o (r .0) .0 (w .4) .1) (m .1) in
         (w .0, w .2, subst (λ n. Holding gs (w .0) n (w .2)) (e .0) (w .3), ap (λ n. prefixOn h n (w .2)) (sym (e .0)) ∙ e .1)
 
-    pub whole : Part rows Every gs
+    pub whole : Part rows Any gs
     whole = record { page = λ i k rs e. (s .page i k rs e, tt); apart = s .apart; all = λ k v b _. paged k v b }
 
     -- the page that is found for a hash holds it, and is the only one; where none is found no bucket holds it
@@ -187,7 +203,7 @@ module _ (S : Shape) (h : List ℕ → ℕ) where
       where
         go : (g : Page) → getD gs (find (holds h x) gs) free ≡ g → holds h x (getD gs (find (holds h x) gs) free) ≡ true → find (holds h x) gs ≡ i
         go free a t = absurd (holds-free h x (getD gs (find (holds h x) gs) free) a t)
-        go (bucket l qs) a t = one-holder rows Every gs whole x (find (holds h x) gs) i l k qs rs a e (sym (find-held x l qs a)) (sym y)
+        go (bucket l qs) a t = one-holder rows Any gs whole x (find (holds h x) gs) i l k qs rs a e (sym (find-held x l qs a)) (sym y)
 
     pub find-unheld : (x : ℕ) → getD gs (find (holds h x) gs) free ≡ free → (k : ℕ) → IsBucket S h rows k (top k x) → ⊥
     find-unheld x e k b =
@@ -197,13 +213,7 @@ module _ (S : Shape) (h : List ℕ → ℕ) where
   -- ---- the order of the rows does not matter
 
   pub bucket-reordered : {rs qs : List Row} → Reordered rs qs → (k v : ℕ) → IsBucket S h rs k v → IsBucket S h qs k v
-  bucket-reordered {rs} {qs} p k v b =
-      let l = to-load S h rs k v b in
-      of-load S h qs k v (record {
-        pos = rw (← load-reordered S h p k v) (l .pos);
-        fit = rw (← load-reordered S h p k v) (l .fit);
-        split = λ j e. rw (← load-reordered S h p j (v / 2)) (l .split j e);
-      })
+  bucket-reordered {rs} {qs} p k v = same-bucket S h rs qs k v (load-reordered S h p k v) (λ j e. load-reordered S h p j (v / 2))
 
   pub shows-reordered : {rows qs : List Row} (gs : List Page) → Reordered rows qs → Shows S h rows gs → Shows S h qs gs
   shows-reordered {rows} {qs} gs p s = record {
@@ -217,3 +227,48 @@ module _ (S : Shape) (h : List ℕ → ℕ) where
     };
     apart = s .apart;
   }
+
+-- ---- the bucket of a hash, of those worked out afresh
+
+module _ (x : ℕ) where
+  abbrev Has : Prefix → Type 0
+  Has p = top (p .bits) x ≡ p .value
+
+  -- one of the prefixes has the hash, and is the answer; or none has it
+  abbrev Told : List Prefix → Option Prefix → Type 0
+  Told l o = ((p : Prefix) × List·Memᴰ p l × Has p × (o ≡ some p)) ⊎ (((p : Prefix) → List·Memᴰ p l → Has p → ⊥) × (o ≡ none))
+
+  bucket-of : (ps : List Prefix) → Told ps (bucketOf x ps)
+  unfolding bucketOf
+  bucket-of [] = inr ((λ p m. absurd (List·Memᴰ·not-nil m)), refl)
+  bucket-of (q ∷ ps) = go (eqb (top (q .bits) x) (q .value)) refl (bucket-of ps)
+    where
+      go : (b : Bool) → eqb (top (q .bits) x) (q .value) ≡ b → Told ps (bucketOf x ps) → Told (q ∷ ps) (orElse b q (bucketOf x ps))
+      go true e rest = inl (q, List·Memᴰ·head refl, eqb→eq (top (q .bits) x) (q .value) (subst T (sym e) tt), refl)
+      go false e (inl w) = inl (w .0, List·Memᴰ·tail (w .1), w .2, w .3)
+      go false e (inr w) = inr ((λ p m y. other p (List·Memᴰ·cases-cons m) y), w .1)
+        where
+          other : (p : Prefix) → (p ≡ q) ⊎ List·Memᴰ p ps → Has p → ⊥
+          other p (inl z) y =
+              let t : eqb (top (q .bits) x) (q .value) ≡ true = test (eqb (top (q .bits) x) (q .value)) (subst (λ n. T (eqb (top (q .bits) x) n)) (subst Has z y) (eqb-refl (top (q .bits) x))) in
+              let c : true ≡ false = sym t ∙ e in
+              let n : _≡_ {A = ℕ} 0 1 = cc in
+              omega arith
+          other p (inr m) y = w .0 p m y
+
+module _ (S : Shape) (h : List ℕ → ℕ) (small : (c : List ℕ) → h c < 2 ^ 32) (rows : List Row) (f : Fine S h rows) (x : ℕ) where
+  pub bucket-found : (k : ℕ) → IsBucket S h rows k (top k x) → bucketOf x (buckets S h rows) ≡ some (pfx k (top k x))
+  bucket-found k b = go (bucket-of x (buckets S h rows))
+    where
+      go : Told x (buckets S h rows) (bucketOf x (buckets S h rows)) → bucketOf x (buckets S h rows) ≡ some (pfx k (top k x))
+      go (inl (p, m, y, e)) =
+          let o = no-overlap S h rows (p .bits) (p .value) k (top k x) x (listed S h small rows (p .bits) (p .value) .0 m .0) b y refl in
+          e ∙ ap some (ap₂ pfx (o .0) (o .1))
+      go (inr w) = absurd (w .0 (pfx k (top k x)) (listed S h small rows k (top k x) .1 (b, not-deeper S h rows f k (top k x) b)) refl)
+
+  pub bucket-none : ((k : ℕ) → IsBucket S h rows k (top k x) → ⊥) → bucketOf x (buckets S h rows) ≡ none
+  bucket-none n = go (bucket-of x (buckets S h rows))
+    where
+      go : Told x (buckets S h rows) (bucketOf x (buckets S h rows)) → bucketOf x (buckets S h rows) ≡ none
+      go (inl (p, m, y, e)) = absurd (n (p .bits) (subst (λ v. IsBucket S h rows (p .bits) v) (sym y) (listed S h small rows (p .bits) (p .value) .0 m .0)))
+      go (inr w) = w .1

@@ -1,5 +1,4 @@
 -- `page::append` meets its contract. Assumes nothing.
-use Prim.Native.Nat.{_+_}
 use native.Mathlib.Omega.{arith}
 use Rattle.page.proofs.Slots.{lies, code-part}
 use Rattle.page.proofs.Sums.{place-part}

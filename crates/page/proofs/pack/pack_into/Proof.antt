@@ -1,9 +1,7 @@
 -- `page::pack_into` meets its contract. Assumes nothing.
-use Prim.Native.Nat.{ℕ, _+_, _-_, _≤_, _<_}
+use Prim.Native.Nat.{_-_, _≤_}
 use mathlib.Core.Path.{_≡_, sym, _∙_}
 use native.Mathlib.Omega.{arith}
-use borrow.Author.Needs.{needs}
-use lib.ListN.{length}
 use Rattle.page.specs.Packed.{PackedTo}
 use Rattle.page.proofs.pack.pack_into.Statement.{statement}
 use Rattle.page.proofs.pack.pack_into.Tie as tie

@@ -1,5 +1,4 @@
 -- `page::store_place` meets its contract. Assumes nothing.
-use mathlib.Core.Path.{_≡_}
 use mathlib.Core.Logic.{inl, inr}
 use native.Mathlib.Omega.{arith}
 use mir.Syntax.{w16, w32}

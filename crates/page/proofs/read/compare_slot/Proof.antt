@@ -1,9 +1,7 @@
 -- `page::compare_slot` meets its contract. Assumes nothing.
-use Prim.Native.Nat.{ℕ, _+_, _-_, _≤_, _<_}
-use mathlib.Core.Path.{_≡_, sym}
+use Prim.Native.Nat.{_-_}
 use native.Mathlib.Omega.{arith}
-use Rattle.words.specs.Codes.{Ordered}
-use Rattle.page.proofs.Slots.{Lies, lies, code-part}
+use Rattle.page.proofs.Slots.{lies, code-part}
 use borrow.Author.Needs.{needs}
 use Rattle.page.proofs.read.compare_slot.Statement.{statement}
 use Rattle.page.proofs.read.compare_slot.Tie as tie

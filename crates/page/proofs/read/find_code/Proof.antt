@@ -1,13 +1,11 @@
 -- `page::find_code` meets its contract. The codes of the slots before i come before the key. Assumes nothing.
-use Prim.Native.Nat.{ℕ, _+_, _*_, _-_, _≤_, _<_}
-use mathlib.Core.Path.{_≡_, refl, sym, subst}
+use Prim.Native.Nat.{ℕ, _-_, _≤_, _<_}
+use mathlib.Core.Path.{_≡_, subst}
 use native.Mathlib.Omega.{arith}
 use borrow.Author.Needs.{needs}
 use borrow.Author.Count.{below-more}
-use lib.ListN.{length}
-use Rattle.ground.specs.Lists.{byte, part}
 use Rattle.words.specs.Codes.{Before, Ordered}
-use Rattle.page.specs.Page.{BucketPage, Belongs, count, code}
+use Rattle.page.specs.Page.{code}
 use Rattle.words.specs.declared.Order.{Order}
 use Rattle.page.proofs.Slots.{belongs}
 use Rattle.page.proofs.read.find_code.Statement.{statement}

@@ -1,0 +1,30 @@
+-- Demands 2 and 3, whole: for every page size and every hash of 32 bits, and with nothing left to assume.
+-- Assumes nothing.
+use Rattle.store.specs.Demands.{Demand2, Demand3}
+use Rattle.store.proofs.Kept.{check-exact, lookup-is-map, put-refused}
+use Rattle.store.proofs.Format.{format-accepted, accepted-always}
+use Rattle.store.proofs.Walked.{listed-once}
+use Rattle.store.proofs.PutRows.{put-rows}
+use Rattle.store.proofs.MoveRows.{remove-rows}
+use Rattle.store.proofs.Afresh.{put-map, remove-map, always-afresh, next-put-same}
+use Rattle.store.proofs.KeptPages.{kept-pages}
+
+pub demand-2 : Demand2
+demand-2 S h sized hash =
+    let puts = put-rows S h sized hash in
+    let removes = remove-rows S h sized hash in (
+      check-exact S h,
+      lookup-is-map S h,
+      put-map S h sized hash puts removes,
+      remove-map S h sized hash puts removes,
+      put-refused S h,
+      listed-once S h sized hash,
+      accepted-always S h sized,
+      format-accepted S h sized,
+    )
+
+pub demand-3 : Demand3
+demand-3 S h sized hash =
+    let puts = put-rows S h sized hash in
+    let removes = remove-rows S h sized hash in
+    (always-afresh S h sized hash puts removes, next-put-same S h sized hash puts removes, kept-pages S h sized hash)
