@@ -1,4 +1,45 @@
 // The calls that read a store: check, count, lookup, row at place n.
+ghost use Rattle.ground.specs.Ladder.{Answers};
+ghost use Rattle.hash.specs.Fnv.{fnv};
+ghost use Rattle.store.specs.Pages.{S1024};
+ghost use Rattle.store.specs.Tables.{checkTable, countTable, meaning};
+use store::Answer;
+
+mod checks;
 mod directory;
 mod head;
+mod held;
+mod pages;
 mod parted;
+
+pub use checks::first_bad;
+pub use head::good_length;
+
+// Whether the store keeps every rule, and the first page that does not.
+pub fn check(s: &[u8]) -> Answer
+    ensures { λ r. ⌜ Answers (checkTable S1024 fnv (now (s .entry))) (meaning r) ⌝ }
+{
+    if !good_length(s) {
+        return Answer::BadLength;
+    }
+    let p = first_bad(s);
+    if p < s.len() / 1024 {
+        return Answer::BadPage(p);
+    }
+    Answer::Accepted
+}
+
+// The number of rows.
+pub fn count(s: &[u8]) -> Answer
+    ensures { λ r. ⌜ Answers (countTable S1024 fnv (now (s .entry))) (meaning r) ⌝ }
+{
+    if !good_length(s) {
+        return Answer::BadLength;
+    }
+    let n = s.len() / 1024;
+    let p = first_bad(s);
+    if p < n {
+        return Answer::BadPage(p);
+    }
+    Answer::Rows(held::rows_held(s, n))
+}

@@ -38,3 +38,5 @@ pub mod Whole
 pub mod Slotwise
 pub mod PageTies
 pub mod Views
+pub mod Depths
+pub mod Shared
