@@ -1,2 +1,4 @@
 pub mod Formats
 pub mod Directories
+pub mod OnePage
+pub mod Puts

@@ -6,6 +6,7 @@ mod read;
 mod remove;
 
 pub use insert::insert_at_frontier;
+pub use insert::insert_row;
 pub use insert::set_head;
 pub use pack::new_page;
 pub use pack::pack_into;

@@ -1,0 +1,24 @@
+// A row put on an accepted store.
+ghost use mathlib.Core.Path.{_≡_};
+ghost use Prim.Native.Nat.{_+_, _≤_, _<_};
+ghost use lib.ListN.{length};
+ghost use Rattle.ground.specs.Ladder.{Answers};
+ghost use Rattle.hash.specs.Fnv.{fnv};
+ghost use Rattle.page.specs.Page.{Natural, count, code};
+ghost use Rattle.partition.specs.Bits.{top};
+ghost use Rattle.store.specs.Pages.{S1024, page, dirDepth};
+ghost use Rattle.store.specs.Accepted.{Accepted};
+ghost use Rattle.store.specs.Tables.{putAccepted, meaning};
+ghost use Rattle.store.proofs.Reading.{Naming};
+
+// The code in slot i of page p gets another place.
+fn replace(s: &mut [u8], p: usize, i: usize, place: &[u8]) -> store::Answer
+    requires { ⌜ Accepted S1024 fnv (now s) × Naming S1024 fnv (now s) (top (dirDepth (now s)) (fnv (code (page S1024 (now s) p) i))) p × (i < count (page S1024 (now s) p)) × Natural (now place) ⌝ }
+    ensures { λ r. ⌜ Answers (putAccepted S1024 fnv (now (s .entry)) (record { code = code (page S1024 (now (s .entry)) p) i; place = now (place .entry) })) (meaning r, now (s .exit)) ⌝ }
+{
+    let a = p * 1024;
+    let e = a + 1024;
+    let old = page::read_place(&s[a..e], i);
+    page::set_place(&mut s[a..e], i, place);
+    store::Answer::Replaced(old)
+}
