@@ -5,6 +5,7 @@ ghost use lib.ListN.{length};
 ghost use Rattle.ground.specs.Ladder.{Answers};
 ghost use Rattle.hash.specs.Fnv.{fnv};
 ghost use Rattle.page.specs.Page.{Natural, count, code};
+ghost use Rattle.page.specs.Packed.{Fitting};
 ghost use Rattle.partition.specs.Bits.{top};
 ghost use Rattle.store.specs.Pages.{S1024, page, dirDepth};
 ghost use Rattle.store.specs.Accepted.{Accepted};
@@ -21,4 +22,16 @@ fn replace(s: &mut [u8], p: usize, i: usize, place: &[u8]) -> store::Answer
     let old = page::read_place(&s[a..e], i);
     page::set_place(&mut s[a..e], i, place);
     store::Answer::Replaced(old)
+}
+
+// A new code goes to slot i of page p, in which it fits.
+fn add_row(s: &mut [u8], p: usize, i: usize, key: &[u8], place: &[u8]) -> store::Answer
+    requires { ⌜ Accepted S1024 fnv (now s) × Naming S1024 fnv (now s) (top (dirDepth (now s)) (fnv (now key))) p × Fitting (page S1024 (now s) p) i (now key) (now place) ⌝ }
+    ensures { λ r. ⌜ Answers (putAccepted S1024 fnv (now (s .entry)) (record { code = now (key .entry); place = now (place .entry) })) (meaning r, now (s .exit)) ⌝ }
+{
+    let a = p * 1024;
+    let e = a + 1024;
+    let mut scratch = [0u8; 1024];
+    page::insert_row(&mut s[a..e], i, key, place, &mut scratch);
+    store::Answer::New
 }

@@ -1,35 +1,30 @@
 -- `change::replace` meets its contract: the page with the place overwritten. Assumes nothing.
 use borrow.Author.Needs.{needs}
-use mathlib.Core.Path.{_≡_, refl, sym, ap, subst, _∙_}
-use mathlib.Core.List.{List, _++_}
-use Prim.Native.Nat.{ℕ, _+_, _*_, _-_, _<_}
-use lib.ListN.{take, drop}
+use mathlib.Core.Path.{refl, sym, ap, subst, _∙_}
+use mathlib.Core.List.{List}
+use Prim.Native.Nat.{ℕ, _<_}
 use denote.Ref.{now}
 use Rattle.ground.specs.Lists.{byte}
 use Rattle.ground.specs.Ladder.{Answers}
 use Rattle.hash.specs.Fnv.{fnv, fnv-lt}
-use Rattle.page.specs.Page.{Slotted, count, code, place}
-use Rattle.page.specs.Steps.{Overwritable, Overwritten}
+use Rattle.page.specs.Page.{code, place}
+use Rattle.page.specs.Steps.{Overwritten}
 use Rattle.page.specs.Places as Places
 use Rattle.partition.specs.Partition.{Row}
 use Rattle.store.specs.Pages.{S1024, page}
 use Rattle.store.specs.Tables.{replaced, putAccepted}
 use Rattle.store.specs.Demands.{sized-1024}
-use Rattle.store.proofs.Views.{setPage, lent-page, page-back}
+use Rattle.store.proofs.Views.{setPage}
+use Rattle.change.proofs.OnePage.{lent, back}
 use Rattle.change.proofs.Puts.{put-known}
 use Rattle.change.proofs.put.replace.Statement.{statement}
 use Rattle.change.proofs.put.replace.Tie as tie
 
-module _ (z : tie.Start) where
-  abbrev s : List ℕ
-  s = now (z .args .s)
+abbrev s : tie.Start → List ℕ
+s z = now (z .args .s)
 
-  abbrev p : ℕ
-  p = z .args .p
-
-  -- the page that is lent
-  lent : take (p * 1024 + 1024 - p * 1024) (drop (p * 1024) s) ≡ page S1024 s p
-  lent = lent-page S1024 s p (p * 1024) (p * 1024 + 1024) refl refl
+abbrev p : tie.Start → ℕ
+p z = z .args .p
 
 mul-a : tie.Need-mul-a
 mul-a c = search needs
@@ -47,7 +42,7 @@ part-read-place-end : tie.Need-part-read-place-end
 part-read-place-end c = search needs
 
 read-place-requires : tie.Need-read-place-requires
-read-place-requires c κs = let z = c .before .before .before .before in rw (lent z) (z .pre .1 .bytes .rules .rules, z .pre .2)
+read-place-requires c κs = let z = c .before .before .before .before in rw (lent (s z) (p z)) (z .pre .1 .bytes .rules .rules, z .pre .2)
 
 sub-set-place : tie.Need-sub-set-place
 sub-set-place c = search needs
@@ -61,7 +56,7 @@ part-set-place-end c = search needs
 set-place-requires : tie.Need-set-place-requires
 set-place-requires c κs =
     let z = c .before .before .before .before .before .before in
-    rw (lent z) (record { page = z .pre .1 .bytes .rules .rules; within = z .pre .2; natural = z .pre .3 })
+    rw (lent (s z) (p z)) (record { page = z .pre .1 .bytes .rules .rules; within = z .pre .2; natural = z .pre .3 })
 
 same-length : tie.Need-same-length
 same-length c = search needs
@@ -70,14 +65,13 @@ returns : tie.Need-returns
 returns c =
     let z = c .before .before .before .before .before .before .before .before .before in
     let q = c .before .before .set-place .last .0 in
-    let old = c .before .before .before .before .read-place .ensures ∙ ap (λ g. Places.place (place g (z .args .i))) (lent z) in
-    let O : Overwritten (page S1024 (s z) (p z)) (z .args .i) (now (z .args .place)) q = rw (lent z) at (c .before .before .set-place .ensures) in
-    let back = page-back S1024 (s z) q (p z) (p z * 1024) (p z * 1024 + 1024) refl refl in
+    let old = c .before .before .before .before .read-place .ensures ∙ ap (λ g. Places.place (place g (z .args .i))) (lent (s z) (p z)) in
+    let O : Overwritten (page S1024 (s z) (p z)) (z .args .i) (now (z .args .place)) q = rw (lent (s z) (p z)) at (c .before .before .set-place .ensures) in
     let row : Row = record { code = code (page S1024 (s z) (p z)) (z .args .i); place = now (z .args .place) } in
-    subst (λ t. Answers (putAccepted S1024 fnv (s z) row) (replaced (c .before .before .before .before .read-place .result), t)) (sym back)
+    subst (λ t. Answers (putAccepted S1024 fnv (s z) row) (replaced (c .before .before .before .before .read-place .result), t)) (sym (back (s z) (p z) q))
     (subst (λ o. Answers (putAccepted S1024 fnv (s z) row) (replaced o, setPage S1024 (s z) (p z) q)) (sym old)
     (put-known S1024 fnv sized-1024 fnv-lt (s z) (z .pre .0) (code (page S1024 (s z) (p z)) (z .args .i)) (p z) (z .pre .1) (z .args .i) (z .pre .2) refl (now (z .args .place)) q O
-    (λ k. subst (λ t. byte t k < 256) back ((c .slice-known2 .given k) .fits))))
+    (λ k. subst (λ t. byte t k < 256) (back (s z) (p z) q) ((c .slice-known2 .given k) .fits))))
 
 pub replace-spec : {M : Type 1} → statement M
 replace-spec =
