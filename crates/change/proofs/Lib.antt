@@ -2,3 +2,4 @@ pub mod Formats
 pub mod Directories
 pub mod OnePage
 pub mod Puts
+pub mod Frees

@@ -5,6 +5,7 @@ ghost use Rattle.store.specs.Pages.{S1024};
 ghost use Rattle.store.specs.Tables.{formatTable, meaning};
 
 mod directory;
+mod pages;
 mod put;
 
 // Page 0 with depth 0, all other pages cleared, whatever the store held.
