@@ -23,8 +23,8 @@ pub or-small : (x y : ℕ) → bitOr x y < 128 → (x < 128) × (y < 128)
 or-small x y h = omega (arith, or-add-and x y, and-le-l x y, and-le-r x y)
 
 -- a stretch of bytes, one more at its end
-pub free-none : (m : List ℕ) (a : ℕ) → Free m a a
-free-none m a = record { at = λ k f t. absurd (omega arith) }
+pub free-none : (m : List ℕ) (a b : ℕ) → b ≤ a → Free m a b
+free-none m a b h = record { at = λ k f t. absurd (omega arith) }
 
 pub free-more : (m : List ℕ) (a b : ℕ) → Free m a b → byte m b ≡ 255 → Free m a (b + 1)
 free-more m a b h e = record { at = λ k f t. ⊎-elim (λ s. rw s e) (λ n. h .at k f (omega (arith, n))) (same k b) }

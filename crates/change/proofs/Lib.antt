@@ -3,3 +3,4 @@ pub mod Directories
 pub mod OnePage
 pub mod Puts
 pub mod Frees
+pub mod Laying

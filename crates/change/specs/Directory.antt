@@ -10,7 +10,7 @@ use Rattle.words.specs.Moves.{Frame}
 use Rattle.page.specs.Page.{BucketPage, depth, code}
 use Rattle.partition.specs.Bits.{top}
 use Rattle.store.specs.Pages.{S1024, page, dirDepth, entryAt}
-use Rattle.store.specs.Accepted.{Calls}
+use Rattle.store.specs.Accepted.{Zero, Calls}
 
 -- page p of the store is a bucket whose prefix calls for entry i in a directory of depth d
 pub record CallsFor (h : List ℕ → ℕ) (s : List ℕ) (d i p : ℕ) : Type 0 where
@@ -53,3 +53,15 @@ pub record Directable (s : List ℕ) (n d : ℕ) : Type 0 where
   pub most : n ≤ 258
   pub deep : d ≤ 8
   pub pages : (p : ℕ) → 2 ≤ p → p < n → Standing d (page S1024 s p)
+
+-- a free page, or a bucket page of depth 0 to 8
+pub data Sound (g : List ℕ) : Type 0 where
+  free : Zero g → Sound g
+  used : BucketPage g → depth g ≤ 8 → Sound g
+
+-- a store of n pages, each of them sound
+pub record Settling (s : List ℕ) (n : ℕ) : Type 0 where
+  pub size : length s ≡ n * 1024
+  pub least : 3 ≤ n
+  pub most : n ≤ 258
+  pub pages : (p : ℕ) → 2 ≤ p → p < n → Sound (page S1024 s p)

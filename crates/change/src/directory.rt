@@ -4,8 +4,8 @@ ghost use Prim.Native.Nat.{_+_, _*_, _≤_, _<_};
 ghost use lib.ListN.{length};
 ghost use Rattle.hash.specs.Fnv.{fnv};
 ghost use Rattle.page.specs.Page.{BucketPage, code};
-ghost use Rattle.store.specs.Pages.{S1024, page};
-ghost use Rattle.change.specs.Directory.{RunSet, PageNamed, Standing, Directable, Directed};
+ghost use Rattle.store.specs.Pages.{S1024, page, contents, deepestIn};
+ghost use Rattle.change.specs.Directory.{RunSet, PageNamed, Standing, Directable, Directed, Settling};
 
 // The entries from a up to b name page p.
 fn set_run(s: &mut [u8], a: usize, b: usize, p: usize)
@@ -46,7 +46,7 @@ fn name_page(s: &mut [u8], p: usize, d: u32)
 }
 
 // Depth d, and the directory of the n pages.
-pub fn write_directory(s: &mut [u8], n: usize, d: u32)
+fn write_directory(s: &mut [u8], n: usize, d: u32)
     requires { ⌜ Directable (now s) n d ⌝ }
     ensures { λ _. ⌜ Directed fnv (now (s .entry)) d n (now (s .exit)) ⌝ }
 {
@@ -57,4 +57,13 @@ pub fn write_directory(s: &mut [u8], n: usize, d: u32)
         name_page(s, p, d);
         p += 1;
     }
+}
+
+// Directory and depth are then as defined: those of the pages.
+pub fn settle(s: &mut [u8], n: usize)
+    requires { ⌜ Settling (now s) n ⌝ }
+    ensures { λ _. ⌜ Directed fnv (now (s .entry)) (deepestIn (contents S1024 (now (s .entry)))) n (now (s .exit)) ⌝ }
+{
+    let d = store::deepest(s, n);
+    write_directory(s, n, d as u32);
 }

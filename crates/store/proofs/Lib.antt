@@ -38,3 +38,4 @@ pub mod Whole
 pub mod Slotwise
 pub mod PageTies
 pub mod Views
+pub mod Depths

@@ -1,3 +1,4 @@
+use mathlib.Core.Bool.{true}
 use Rattle.ground.specs.Lists.{part}
 use Rattle.audit.proofs.Whole.{Known, head-of, slots-of, top-of, clean-of, zeros-of, whole}
 use Rattle.audit.proofs.Marks.{covers-none}
@@ -22,7 +23,7 @@ known : (c : tie.Else2) → Known (start c .args .page .now) (c .before .before 
 known c =
     let a = c .before .before .before in
     let d = a .before .before .before .before .before .before in
-    let y = not-false _ (c .if2 .left) in
+    let y : a .slots-ok .result ≡ true = not-false _ (c .if2 .left) in
     record {
       head = head (d .before .before);
       bytes = λ k. omega (arith, d .before .before .before .before .before .shared-slice-known .given k);
