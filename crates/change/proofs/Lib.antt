@@ -4,3 +4,4 @@ pub mod OnePage
 pub mod Puts
 pub mod Frees
 pub mod Laying
+pub mod Vacancy

@@ -1,1 +1,2 @@
 pub mod Directory
+pub mod Put
