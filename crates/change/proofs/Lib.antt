@@ -5,3 +5,5 @@ pub mod Puts
 pub mod Frees
 pub mod Laying
 pub mod Vacancy
+pub mod Settles
+pub mod NewBuckets

@@ -9,7 +9,7 @@ ghost use Rattle.store.proofs.Rooms.{frees};
 // The lowest-numbered free page of n, or n where none is free.
 pub fn lowest_free(s: &[u8], n: usize) -> usize
     requires { ⌜ (length (now s) ≡ n * 1024) × (2 ≤ n) ⌝ }
-    ensures { λ r. ⌜ r ≡ 2 + find isFree (contents S1024 (now (s .entry))) ⌝ }
+    ensures { λ r. ⌜ (r ≡ 2 + find isFree (contents S1024 (now (s .entry)))) × (r ≤ n) ⌝ }
 {
     let mut p = 2;
     while p < n {

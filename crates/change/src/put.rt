@@ -10,7 +10,11 @@ ghost use Rattle.partition.specs.Bits.{top};
 ghost use Rattle.store.specs.Pages.{S1024, page, dirDepth};
 ghost use Rattle.store.specs.Accepted.{Accepted};
 ghost use Rattle.store.specs.Tables.{putAccepted, meaning};
-ghost use Rattle.store.proofs.Reading.{Naming};
+ghost use Rattle.store.proofs.Reading.{Naming, entryOf};
+ghost use Rattle.change.specs.Put.{Puttable};
+use super::directory::settle;
+use super::pages::lowest_free;
+use super::vacant::vacant_depth;
 
 // The code in slot i of page p gets another place.
 fn replace(s: &mut [u8], p: usize, i: usize, place: &[u8]) -> store::Answer
@@ -33,5 +37,23 @@ fn add_row(s: &mut [u8], p: usize, i: usize, key: &[u8], place: &[u8]) -> store:
     let e = a + 1024;
     let mut scratch = [0u8; 1024];
     page::insert_row(&mut s[a..e], i, key, place, &mut scratch);
+    store::Answer::New
+}
+
+// No bucket holds the hash x of the code: a new one takes the lowest free page.
+fn new_bucket(s: &mut [u8], x: u32, d: u32, key: &[u8], place: &[u8]) -> store::Answer
+    requires { ⌜ Puttable fnv (now s) (now key) (now place) × (x ≡ fnv (now key)) × (d ≡ dirDepth (now s)) × (entryOf S1024 fnv (now s) (now key) ≡ 0) ⌝ }
+    ensures { λ r. ⌜ Answers (putAccepted S1024 fnv (now (s .entry)) (record { code = now (key .entry); place = now (place .entry) })) (meaning r, now (s .exit)) ⌝ }
+{
+    let n = s.len() / 1024;
+    let p = lowest_free(s, n);
+    if p == n {
+        return store::Answer::PagesFull;
+    }
+    let k = vacant_depth(s, x, d);
+    let a = p * 1024;
+    let e = a + 1024;
+    page::start_page(&mut s[a..e], k as u8, key, place);
+    settle(s, n);
     store::Answer::New
 }

@@ -27,7 +27,7 @@ returns : tie.Need-returns Inv-loop μ-loop
 returns c =
     let z = c .before .before .before .before in
     let l = c .before .before .before .loop in
-    lowest (z .args .s .now) (l .p) (z .args .n) (omega arith) (omega arith) (omega arith) (λ q a b. l .inv .2 q b a) (λ _. c .if1 .taken)
+    (lowest (z .args .s .now) (l .p) (z .args .n) (omega arith) (omega arith) (omega arith) (λ q a b. l .inv .2 q b a) (λ _. c .if1 .taken), omega arith)
 
 add-p : tie.Need-add-p Inv-loop μ-loop
 add-p c = omega arith
@@ -42,7 +42,7 @@ returns-2 : tie.Need-returns-2 Inv-loop μ-loop
 returns-2 c =
     let z = c .before .before in
     let l = c .before .loop in
-    lowest (z .args .s .now) (l .p) (z .args .n) (omega arith) (omega arith) (omega arith) (λ q a b. l .inv .2 q b a) (λ b. absurd (omega arith))
+    (lowest (z .args .s .now) (l .p) (z .args .n) (omega arith) (omega arith) (omega arith) (λ q a b. l .inv .2 q b a) (λ b. absurd (omega arith)), omega arith)
 
 pub lowest-free-spec : {M : Type 1} → statement M
 lowest-free-spec =
