@@ -2,4 +2,10 @@ pub mod Formats
 pub mod Directories
 pub mod Prefixes
 pub mod Gathers
+pub mod OnePage
+pub mod Puts
+pub mod Frees
 pub mod Laying
+pub mod Vacancy
+pub mod Settles
+pub mod NewBuckets

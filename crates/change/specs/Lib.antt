@@ -1,3 +1,4 @@
 pub mod Directory
 pub mod Prefix
 pub mod Join
+pub mod Put

@@ -6,7 +6,10 @@ ghost use Rattle.store.specs.Tables.{formatTable, meaning};
 
 mod directory;
 mod join;
+mod pages;
 mod prefix;
+mod put;
+mod vacant;
 
 // Page 0 with depth 0, all other pages cleared, whatever the store held.
 pub fn format(s: &mut [u8]) -> store::Answer
