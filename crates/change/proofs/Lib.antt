@@ -9,3 +9,5 @@ pub mod Laying
 pub mod Vacancy
 pub mod Settles
 pub mod NewBuckets
+pub mod Empties
+pub mod Joins

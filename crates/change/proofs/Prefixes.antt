@@ -8,6 +8,7 @@ use lib.Dec.{eqb}
 use lib.ListN.{length, getD, take, drop}
 use Rattle.ground.specs.Lists.{byte, tab, total}
 use Rattle.ground.proofs.Tests.{untrue}
+use Rattle.ground.proofs.Parts.{length-part}
 use Rattle.page.specs.Page.{Record, BucketPage, count, code, depth, rows, rowAt}
 use Rattle.page.specs.Page as Page
 use Rattle.page.proofs.Sums.{total-more}
@@ -15,7 +16,7 @@ use Rattle.partition.specs.Bits.{top}
 use Rattle.partition.specs.Partition.{needs}
 use Rattle.store.specs.Pages.{S1024, pages, page, free, bucket, read, reading, contents, asRow, rowsOn}
 use Rattle.store.specs.Moves.{pick, within}
-use Rattle.store.proofs.Unique.{read-used, held, page-long}
+use Rattle.store.proofs.Unique.{read-used, held}
 use Rattle.store.proofs.Views.{lent-page}
 use Rattle.store.proofs.Showing.{pages-held}
 use Rattle.store.proofs.PageTies.{page-needs}
@@ -53,6 +54,11 @@ load-used h j v g s l e =
 pub load-not : (h : List ℕ → ℕ) (j v : ℕ) (g : List ℕ) → within h j v (read g) ≡ false → loadOn h j v (read g) ≡ 0
 load-not h j v g e = ap (λ t. pick t (needs (rowsOn (read g))) 0) e
 
+-- page p, as s[p * 1024 .. p * 1024 + 1024]
+pub lent-whole : (s : List ℕ) (p : ℕ) → p * 1024 + 1024 ≤ length s → (take (p * 1024 + 1024 - p * 1024) (drop (p * 1024) s) ≡ page S1024 s p) × (length (page S1024 s p) ≡ 1024)
+unfolding page
+lent-whole s p l = (lent-page S1024 s p (p * 1024) (p * 1024 + 1024) refl refl, length-part s (p * 1024) 1024 l)
+
 -- ---- page after page
 
 module _ (s : List ℕ) (n : ℕ) (P : Settling s n) where
@@ -65,9 +71,8 @@ module _ (s : List ℕ) (n : ℕ) (P : Settling s n) where
   pub listed : length (contents S1024 s) ≡ n - 2
   listed = pages-held S1024 s ∙ ap (λ m. m - 2) many
 
-  -- page p, as s[p * 1024 .. p * 1024 + 1024]
   pub lent-sound : (p : ℕ) → 2 ≤ p → p < n → (take (p * 1024 + 1024 - p * 1024) (drop (p * 1024) s) ≡ page S1024 s p) × Sound (page S1024 s p) × (length (page S1024 s p) ≡ 1024)
-  lent-sound p a b = (lent-page S1024 s p (p * 1024) (p * 1024 + 1024) refl refl, P .pages p a b, page-long S1024 s p (omega (arith, many)))
+  lent-sound p a b = let w = lent-whole s p (omega (arith, P .size)) in (w .0, P .pages p a b, w .1)
 
   module _ (h : List ℕ → ℕ) (j v : ℕ) where
     abbrev pub loadTo : ℕ → ℕ

@@ -2,14 +2,16 @@
 ghost use mathlib.Core.Path.{_≡_};
 ghost use mathlib.Core.List.{List, [], _∷_};
 ghost use Prim.Native.Nat.{_+_, _*_, _≤_, _<_};
-ghost use lib.ListN.{length};
+ghost use lib.ListN.{length, replicate};
 ghost use Rattle.ground.specs.Says.{Says};
 ghost use Rattle.hash.specs.Fnv.{fnv};
 ghost use Rattle.page.specs.Page.{Slotted, count, code, place};
 ghost use Rattle.partition.specs.Listing.{without};
-ghost use Rattle.store.specs.Pages.{S1024, contents, read};
+ghost use Rattle.store.specs.Pages.{S1024, page as pageOf, contents, read};
+ghost use Rattle.store.specs.Moves.{pick, find, within};
+ghost use Rattle.store.proofs.Views.{setPage};
 ghost use Rattle.change.specs.Directory.{Sound, Settling};
-ghost use Rattle.change.specs.Join.{Taking, Gathered, Storable, rowOf, rowsAt, othersOn, othersIn};
+ghost use Rattle.change.specs.Join.{Taking, Gathered, Storable, rowOf, rowsAt, othersOn, othersIn, Emptied, Joinable, Rejoined};
 use super::prefix::is_within;
 use page::Found;
 use words::Order;
@@ -88,4 +90,48 @@ fn gather(to: &mut [u8], s: &[u8], n: usize, j: u32, v: u64, key: &[u8])
         add_page(to, &s[a..e], j, v, key);
         p += 1;
     }
+}
+
+// Page p is cleared if it is of the prefix; the lowest-numbered page so far.
+fn clear_if(s: &mut [u8], p: usize, j: u32, v: u64, low: usize) -> usize
+    requires { ⌜ (p < 258) × (p * 1024 + 1024 ≤ length (now s)) × Sound (pageOf S1024 (now s) p) × (j ≤ 8) ⌝ }
+    ensures wrote { λ r. ⌜ now (s .exit) ≡ pick (within fnv j v (read (pageOf S1024 (now (s .entry)) p))) (setPage S1024 (now (s .entry)) p (replicate 1024 0)) (now (s .entry)) ⌝ }
+    ensures lowest { λ r. ⌜ r ≡ pick (within fnv j v (read (pageOf S1024 (now (s .entry)) p))) p low ⌝ }
+{
+    let a = p * 1024;
+    let e = a + 1024;
+    if !is_within(&s[a..e], j, v) {
+        return low;
+    }
+    page::clear_page(&mut s[a..e]);
+    p
+}
+
+// The pages of the prefix are cleared; the lowest-numbered of them.
+fn clear_all(s: &mut [u8], n: usize, j: u32, v: u64) -> usize
+    requires { ⌜ Settling (now s) n × (j ≤ 8) ⌝ }
+    ensures wrote { λ r. ⌜ Emptied fnv (now (s .entry)) n j v 2 (now (s .exit)) ⌝ }
+    ensures lowest { λ r. ⌜ r ≡ 2 + find (within fnv j v) (contents S1024 (now (s .entry))) ⌝ }
+{
+    let mut low = n;
+    let mut p = n;
+    while 2 < p {
+        p -= 1;
+        low = clear_if(s, p, j, v, low);
+    }
+    low
+}
+
+// The rows of the prefix of another code go packed into the lowest-numbered of its pages, and the others are cleared.
+pub fn join(s: &mut [u8], n: usize, j: u32, v: u64, key: &[u8])
+    requires { ⌜ Settling (now s) n × (j ≤ 8) × Joinable fnv (now s) j v (now key) ⌝ }
+    ensures { λ _. ⌜ Rejoined fnv (now (s .entry)) n j v (now (key .entry)) (now (s .exit)) ⌝ }
+{
+    let mut scratch = [0u8; 1024];
+    page::new_page(&mut scratch, j as u8);
+    gather(&mut scratch, s, n, j, v, key);
+    let low = clear_all(s, n, j, v);
+    let a = low * 1024;
+    let e = a + 1024;
+    page::pack_into(&mut s[a..e], &scratch);
 }
