@@ -11,3 +11,4 @@ pub mod Settles
 pub mod NewBuckets
 pub mod Empties
 pub mod Joins
+pub mod Removes

@@ -2,3 +2,4 @@ pub mod Directory
 pub mod Prefix
 pub mod Join
 pub mod Put
+pub mod Remove

@@ -9,6 +9,7 @@ mod join;
 mod pages;
 mod prefix;
 mod put;
+mod remove;
 mod vacant;
 
 // Page 0 with depth 0, all other pages cleared, whatever the store held.

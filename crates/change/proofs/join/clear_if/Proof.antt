@@ -14,6 +14,7 @@ use Rattle.change.proofs.Prefixes.{lent-whole}
 use Rattle.change.proofs.join.clear_if.Statement.{statement}
 use Rattle.change.proofs.join.clear_if.Tie as tie
 
+-- what the test says of the page
 answered : (z : tie.Start) (r b : Bool) → r ≡ within fnv (z .args .j) (z .args .v) (read (take (z .args .p * 1024 + 1024 - z .args .p * 1024) (drop (z .args .p * 1024) (now (z .args .s))))) → r ≡ b
     → within fnv (z .args .j) (z .args .v) (read (page S1024 (now (z .args .s)) (z .args .p))) ≡ b
 answered z r b e f = ap (λ g. within fnv (z .args .j) (z .args .v) (read g)) (sym (lent-whole (now (z .args .s)) (z .args .p) (z .pre .1) .0)) ∙ sym e ∙ f

@@ -13,6 +13,7 @@ use Rattle.change.proofs.Joins.{fresh-taking, low-within, rejoined}
 use Rattle.change.proofs.join.join.Statement.{statement}
 use Rattle.change.proofs.join.join.Tie as tie
 
+-- the lowest-numbered page of the prefix is there
 bound : (z : tie.Start) → 2 + find (within fnv (z .args .j) (z .args .v)) (contents S1024 (now (z .args .s))) < z .args .n
 bound z = low-within fnv (now (z .args .s)) (z .args .n) (z .args .j) (z .args .v) (now (z .args .key)) (z .pre .0) (z .pre .1) (z .pre .2)
 
