@@ -58,7 +58,7 @@ nth rs n out fits = each (λ x. Nth rs n out (x .0) (x .1)) (rowOf rs n out) (
   (λ un x q. record { is = λ r e. absurd (un r e); past = λ l. (ap (λ y. y .0) q, ap (λ y. y .1) q) }),
 )
 
-member : (rs : List Row) (n : ℕ) (r : Row) → getElem? rs n ≡ some r → List·Memᴰ r rs
+pub member : (rs : List Row) (n : ℕ) (r : Row) → getElem? rs n ≡ some r → List·Memᴰ r rs
 member [] n r e = absurd (differ refl e)
 member (q ∷ rs) zero r e = let f : r ≡ q = cc in List·Memᴰ·head f
 member (q ∷ rs) (suc n) r e = List·Memᴰ·tail (member rs n r e)
