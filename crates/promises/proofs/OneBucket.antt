@@ -1,11 +1,11 @@
 -- ONE BUCKET FOR EVERYTHING IS TURNED AWAY: rows that do not fit together have a directory of more than one entry. Under any hash, after any history;
 -- and under the hash chosen for the worked cases a program that keeps the tables comes to such rows.
-use mathlib.Core.Path.{_≡_, refl, sym, ap, subst, _∙_}
+use mathlib.Core.Path.{_≡_, refl, sym, ap, _∙_}
 use mathlib.Core.Bool.{Bool, true, false}
-use mathlib.Core.List.{List, [], _∷_, map, List·Memᴰ·head}
-use mathlib.Core.Logic.{_⊎_, inl, inr, ⊎-elim}
+use mathlib.Core.List.{List, [], _∷_, List·Memᴰ·head}
+use mathlib.Core.Logic.{_⊎_, ⊎-elim}
 use mathlib.Core.Option.{Option, some, none}
-use Prim.Native.Nat.{ℕ, zero, suc, _+_, _^_, _≤_, _<_}
+use Prim.Native.Nat.{ℕ, zero, suc, _^_, _≤_, _<_}
 use native.Mathlib.Omega.{arith}
 use lib.Dec.{leb, leb→le}
 use lib.ListN.{length, replicate}
@@ -28,7 +28,7 @@ use Rattle.store.proofs.Kept.{clash}
 use Rattle.store.proofs.Showing.{accepted-shows}
 use Rattle.store.proofs.Whole.{demand-3}
 use Rattle.promises.specs.Programs.{Program, Bytes, Meets, OneBucket}
-use Rattle.promises.proofs.Runs.{rowOf, at, in-range, natural, At, begun, at-first, then, at-next}
+use Rattle.promises.proofs.Runs.{rowOf, at, in-range, natural, At, begun, at-first, at-next}
 
 module _ (h : List ℕ → ℕ) (hash : Hash h) where
   -- a row's bucket at depth 0 holds all rows

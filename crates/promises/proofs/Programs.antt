@@ -1,38 +1,36 @@
 -- THE WRONG PROGRAMS ARE TURNED AWAY: none of them keeps the tables.
 use mathlib.Core.Path.{_≡_, refl, sym, ap, subst, _∙_}
 use mathlib.Core.Bool.{Bool, true, false}
-use mathlib.Core.List.{List, [], _∷_, List·Memᴰ, List·Memᴰ·head}
-use mathlib.Core.Logic.{_⊎_, inl, inr, ⊎-elim}
+use mathlib.Core.List.{List, [], _∷_}
+use mathlib.Core.Logic.{_⊎_, ⊎-elim}
 use mathlib.Core.Option.{Option, some, none}
-use Prim.Native.Nat.{ℕ, zero, suc, _+_, _≤_, _<_, zero-le, Ordering·eq}
+use Prim.Native.Nat.{ℕ, zero, suc, _+_, _≤_, _<_}
 use native.Mathlib.Omega.{arith}
-use native.Mathlib.Nat.{le-trans}
 use lib.Dec.{leb, eqb, le→leb}
 use lib.Signed.{mag}
-use lib.ListN.{length, replicate, length-replicate, getElem?}
+use lib.ListN.{length, replicate, getElem?}
 use lib.Seq.{ext-getD}
 use Rattle.ground.specs.Ladder.{Answers}
-use Rattle.ground.specs.Lists.{byte}
 use Rattle.ground.proofs.Sides.{side}
 use Rattle.words.specs.Codes.{order}
 use Rattle.words.proofs.Bytes.{small-zeros}
 use Rattle.partition.specs.Bits.{top}
-use Rattle.partition.specs.Partition.{Row, keep, need, needs, rowsOf, grade, fitting, walk, buckets, depthOf}
+use Rattle.partition.specs.Partition.{Row, keep, need, needs, rowsOf, grade, fitting, walk, buckets}
 use Rattle.partition.specs.Listing.{placeOf, listing, Once}
 use Rattle.partition.proofs.Maps.{absent}
-use Rattle.partition.proofs.Reorders.{length-same, needs-same}
-use Rattle.partition.proofs.Rows.{test, rows-all, listed}
+use Rattle.partition.proofs.Reorders.{length-same}
+use Rattle.partition.proofs.Rows.{test, rows-all}
 use Rattle.partition.proofs.Splice.{walk-fits}
 use Rattle.page.specs.declared.Place.{Place}
 use Rattle.page.specs.Places.{place, stored}
-use Rattle.store.specs.Pages.{S1024, dirDepth, rowsHeld}
+use Rattle.store.specs.Pages.{S1024, rowsHeld}
 use Rattle.store.specs.Accepted.{Accepted}
-use Rattle.store.specs.Tables.{Out, refused, row, new, found, rowTable}
-use Rattle.store.specs.Demands.{Hash, Call, lookup, remove, count, Made, ok, GoodCode, AtStart, Nth, map-of, update, answerOf, History, sized-1024}
+use Rattle.store.specs.Tables.{Out, row, new, found, rowTable}
+use Rattle.store.specs.Demands.{Hash, lookup, remove, count, ok, GoodCode, AtStart, Nth, map-of, update, answerOf, sized-1024}
 use Rattle.store.proofs.Kept.{clash}
 use Rattle.store.proofs.Given.{member}
-use Rattle.store.proofs.Whole.{demand-2, demand-3}
-use Rattle.promises.specs.Programs.{Program, Bytes, Meets, RefusesEveryPut, OneFixedPlace, RepeatsOneRow, OnlyAnswers, StoresOnlyTheFirst, Miscounts, OneBucket}
+use Rattle.store.proofs.Whole.{demand-2}
+use Rattle.promises.specs.Programs.{Program, Bytes, Meets, RefusesEveryPut, OneFixedPlace, RepeatsOneRow, OnlyAnswers, StoresOnlyTheFirst, Miscounts}
 use Rattle.promises.proofs.Runs.{rowOf, at, in-range, natural, At, accepted-at, same-at, map-at, begun, at-first, says-new, at-next}
 
 -- ---- what is put: the codes "a" and "b", at the places (n, 0, 0)

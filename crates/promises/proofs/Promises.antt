@@ -1,9 +1,9 @@
 -- THE THREE DEMANDS hold of the tables, for pages of 1,024 bytes and FNV-1a, with nothing left to assume.
 use mathlib.Core.Path.{_≡_, refl, sym, ap, _∙_}
 use mathlib.Core.Bool.{Bool, true, false}
-use mathlib.Core.List.{List, _∷_}
-use mathlib.Core.Logic.{_⊎_, inl, inr, ⊎-elim, _↔_}
-use mathlib.Core.Option.{Option, some, none}
+use mathlib.Core.List.{List}
+use mathlib.Core.Logic.{_⊎_, inl, inr, ⊎-elim}
+use mathlib.Core.Option.{some, none}
 use Prim.Native.Nat.{ℕ, _-_, _/_, _≤_, _<_}
 use native.Mathlib.Omega.{arith}
 use lib.ListN.{length}
@@ -22,7 +22,7 @@ use Rattle.store.proofs.Settled.{format-settled, check-settled, count-settled, 
 use Rattle.store.proofs.Meaning.{meaning-one}
 use Rattle.store.proofs.Kept.{demand-1, no-three, three}
 use Rattle.store.proofs.Whole.{demand-2, demand-3}
-use Rattle.promises.specs.Promises.{Settled, First, joining, near, PutSays, Second, Third, Promised}
+use Rattle.promises.specs.Promises.{First, joining, near, PutSays, Second, Third, Promised}
 
 pair : {A B : Type 0} (x y : A × B) → x ≡ y → (x .0 ≡ y .0) × (x .1 ≡ y .1)
 pair x y e = (ap (λ q. q .0) e, ap (λ q. q .1) e)

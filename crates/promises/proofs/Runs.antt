@@ -1,21 +1,19 @@
 -- A program that keeps the tables, run from a format of four pages: what it has stored so far, and that a put that need not be refused is not.
 use mathlib.Core.Path.{_≡_, refl, sym, ap, subst, _∙_}
 use mathlib.Core.Bool.{Bool, true, false}
-use mathlib.Core.List.{List, [], _∷_, _++_}
+use mathlib.Core.List.{List, [], _∷_}
 use mathlib.Core.Logic.{_⊎_, inl, inr, ⊎-elim}
-use mathlib.Core.Option.{some, none}
+use mathlib.Core.Option.{none}
 use Prim.Native.Nat.{ℕ, _-_, _/_, _≤_, _<_}
 use native.Mathlib.Omega.{arith}
 use lib.IntN.{pos}
 use lib.ListN.{length, replicate, length-replicate}
 use Rattle.ground.specs.Ladder.{Answers}
-use Rattle.ground.specs.Lists.{byte}
 use Rattle.ground.proofs.Ladders.{each}
-use Rattle.words.specs.Le.{bytes}
-use Rattle.words.proofs.Bytes.{Small, small-append, small-bytes, small-zeros}
+use Rattle.words.proofs.Bytes.{small-append, small-bytes, small-zeros}
 use Rattle.partition.specs.Bits.{top}
 use Rattle.partition.specs.Partition.{Row, Reordered, front, needs, rowsOf, buckets}
-use Rattle.partition.specs.Listing.{without, placeOf, Once}
+use Rattle.partition.specs.Listing.{placeOf}
 use Rattle.partition.proofs.Laws.{load-reordered, reordered}
 use Rattle.partition.proofs.Maps.{cut-none}
 use Rattle.partition.proofs.Reorders.{turned}
@@ -26,8 +24,8 @@ use Rattle.page.proofs.Signs.{positive}
 use Rattle.store.specs.Pages.{S1024, pages, rowsHeld}
 use Rattle.store.specs.Accepted.{GoodLength, Accepted}
 use Rattle.store.specs.Moves.{pick}
-use Rattle.store.specs.Tables.{Out, refused, formatted, new, blank, formatTable, putTable}
-use Rattle.store.specs.Demands.{Hash, Call, format, put, Made, ok, GoodCode, map-of, putAnswer, Refuses, History, begin, next, surviving, after, sized-1024}
+use Rattle.store.specs.Tables.{Out, formatted, new, blank, formatTable, putTable}
+use Rattle.store.specs.Demands.{Hash, format, put, Made, ok, GoodCode, map-of, putAnswer, Refuses, History, begin, next, after, sized-1024}
 use Rattle.store.proofs.Whole.{demand-2, demand-3}
 use Rattle.promises.specs.Programs.{Program, Bytes, Meets}
 

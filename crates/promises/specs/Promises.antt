@@ -2,8 +2,8 @@
 use mathlib.Core.Path.{_≡_}
 use mathlib.Core.Bool.{false}
 use mathlib.Core.List.{List, [], _∷_}
-use mathlib.Core.Logic.{_⊎_, _↔_}
-use mathlib.Core.Option.{Option, some, none}
+use mathlib.Core.Logic.{_↔_}
+use mathlib.Core.Option.{some, none}
 use Prim.Native.Nat.{ℕ, _-_, _/_, _%_, _≤_, _<_}
 use lib.ListN.{length}
 use Rattle.ground.specs.Ladder.{Answers}

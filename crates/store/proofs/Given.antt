@@ -13,7 +13,7 @@ use Rattle.ground.specs.Ladder.{Answers}
 use Rattle.ground.proofs.Sides.{side}
 use Rattle.ground.proofs.Parts.{byte-part}
 use Rattle.ground.proofs.Ladders.{each}
-use Rattle.page.specs.Page.{Slotted, depth, count, rows, code, place as bytesAt, off, Natural}
+use Rattle.page.specs.Page.{Slotted, rows, code, place as bytesAt, off}
 use Rattle.page.specs.Places.{place, stored}
 use Rattle.page.specs.declared.Place.{Place}
 use Rattle.page.proofs.Sums.{len-of-code}
@@ -24,8 +24,8 @@ use Rattle.partition.proofs.Maps.{found}
 use Rattle.partition.proofs.Reorders.{mem-reordered, turned, length-same}
 use Rattle.store.specs.Pages.{size, page, read, asRow, rowsOn, contents, rowsHeld}
 use Rattle.store.specs.Accepted.{GoodLength, Zero, Bucket, Accepted}
-use Rattle.store.specs.Tables.{Out, refused, refusedAt, row, counted, giving, rowOf, PageKeeps, countTable, rowTable, inspectTable}
-use Rattle.store.specs.Demands.{Sized, Hash, Made, GoodCode, AtStart, Nth, CountIsSize, RowIsListed, InspectIsSlot, PlaceComesBack}
+use Rattle.store.specs.Tables.{Out, refused, refusedAt, row, counted, rowOf, PageKeeps, countTable, rowTable, inspectTable}
+use Rattle.store.specs.Demands.{Sized, Hash, GoodCode, AtStart, Nth, CountIsSize, RowIsListed, InspectIsSlot, PlaceComesBack}
 use Rattle.store.proofs.Rules.{accepted-whole, opened}
 use Rattle.store.proofs.Shown.{some-page}
 use Rattle.store.proofs.Showing.{accepted-shows, under, slot-of}

@@ -1,22 +1,22 @@
 -- Demand 1 of the tables, and those of demand 2's statements that the tables alone give.
-use mathlib.Core.Path.{_≡_, refl, sym, ap, subst, _∙_}
-use mathlib.Core.Bool.{Bool, true, false}
+use mathlib.Core.Path.{_≡_, refl, sym, ap, _∙_}
+use mathlib.Core.Bool.{true, false}
 use mathlib.Core.List.{List}
 use mathlib.Core.Logic.{_⊎_, inl, inr, ⊎-elim, _↔_}
 use mathlib.Core.Option.{Option, some, none}
 use Prim.Native.Nat.{ℕ, _≤_, _<_}
 use native.Mathlib.Omega.{arith}
 use lib.ListN.{length}
-use Rattle.partition.specs.Partition.{Shape, Row}
+use Rattle.partition.specs.Partition.{Shape}
 use Rattle.page.specs.declared.Place.{Place}
-use Rattle.ground.specs.Ladder.{Ladder, rung, given, ends, answer, Answers}
-use Rattle.store.specs.Pages.{Page, contents}
-use Rattle.store.specs.Accepted.{Accepted, Broken}
+use Rattle.ground.specs.Ladder.{Answers}
+use Rattle.store.specs.Pages.{Page}
+use Rattle.store.specs.Accepted.{Accepted}
 use Rattle.page.specs.Places.{place, stored}
-use Rattle.store.specs.Tables.{Out, refused, refusedAt, found, new, replaced, accepted, Becomes, writes, checked, rowOf, formatTable, checkTable, countTable, lookupTable, putTable, removeTable, rowTable, inspectTable, Refusal3}
-use Rattle.store.specs.Demands.{Call, format, check, count, lookup, remove, put, rowAt, inspect, Made, ok, RefusalKeeps, OutputKept, Demand1, GoodCode, CheckExact, LookupIsMap, Refuses, PutRefused, AcceptedAgain, FormatAccepted, map-of, answerOf}
+use Rattle.store.specs.Tables.{Out, refused, refusedAt, accepted, Becomes, formatTable, checkTable, lookupTable, putTable, removeTable, rowTable, inspectTable, Refusal3}
+use Rattle.store.specs.Demands.{format, check, count, lookup, remove, put, rowAt, inspect, Made, ok, RefusalKeeps, OutputKept, Demand1, GoodCode, CheckExact, LookupIsMap, Refuses, PutRefused, AcceptedAgain, map-of, answerOf}
 use Rattle.ground.proofs.Sides.{side}
-use Rattle.ground.proofs.Ladders.{Each, each}
+use Rattle.ground.proofs.Ladders.{each}
 use Rattle.store.proofs.Rules.{accepted-whole}
 
 -- the result, if it is refused, keeps x

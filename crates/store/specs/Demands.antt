@@ -5,16 +5,16 @@ use mathlib.Core.Bool.{Bool, true, false}
 use mathlib.Core.List.{List, [], _∷_, map}
 use mathlib.Core.Logic.{_↔_, _⊎_}
 use mathlib.Core.Option.{Option, some, none}
-use Prim.Native.Nat.{ℕ, zero, suc, _+_, _-_, _*_, _^_, _≤_, _<_}
+use Prim.Native.Nat.{ℕ, zero, suc, _-_, _*_, _^_, _≤_, _<_}
 use lib.ListN.{length, getElem?}
 use Rattle.ground.specs.Lists.{byte, tab}
 use Rattle.page.specs.Page.{Record, depth, rows}
 use Rattle.partition.specs.Partition.{Shape, Row, Prefix, Reordered, rowsOf, buckets, depthOf, entry}
 use Rattle.page.specs.declared.Place.{Place}
-use Rattle.ground.specs.Ladder.{Ladder, Answers}
+use Rattle.ground.specs.Ladder.{Answers}
 use Rattle.words.specs.Codes.{order}
 use Rattle.partition.specs.Listing.{by, without, inOrder, listing, placeOf, Once}
-use Rattle.store.specs.Pages.{S1024, size, pages, page, Page, free, bucket, read, contents, asRow, rowsHeld, dirDepth, entryAt}
+use Rattle.store.specs.Pages.{S1024, size, pages, page, Page, free, bucket, read, asRow, rowsHeld, dirDepth, entryAt}
 use Rattle.store.specs.Accepted.{GoodLength, Zero, Bucket, Accepted}
 use Rattle.store.specs.Moves.{pick}
 use Rattle.page.specs.Places.{place, stored, Negative, InRange}
