@@ -4,6 +4,7 @@ pub mod Tree
 pub mod Path
 pub mod Frame
 pub mod Reorders
+pub mod Strict
 pub mod Rows
 pub mod Order
 pub mod Laws

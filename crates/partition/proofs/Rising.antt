@@ -1,6 +1,6 @@
 -- Lists in code order, strictly ascending: sorted insertion puts in where the code belongs, leaving out a code takes out where it stands.
 -- Over anything that has a code: rows here, records of a page above. Assumes nothing.
-use mathlib.Core.Path.{_≡_, refl, sym, ap, ap₂, subst, _∙_}
+use mathlib.Core.Path.{_≡_, refl, sym, ap, subst, _∙_}
 use mathlib.Core.Logic.{_⊎_, inl, inr}
 use mathlib.Core.List.{List, [], _∷_, map, List·Memᴰ, List·Memᴰ·head, List·Memᴰ·tail, List·Memᴰ·not-nil, List·Memᴰ·cases-cons}
 use Prim.Native.Nat.{ℕ, zero, suc, _≤_, _<_, Ordering, Ordering·lt, Ordering·eq, Ordering·gt}
@@ -9,6 +9,7 @@ use Rattle.ground.specs.Lists.{insertAt, removeAt, tab}
 use Rattle.words.specs.Codes.{order, Before}
 use Rattle.words.proofs.Orders.{order-refl, order-eq, after-order, is-after, is-before, gt-or, not-gt, irrefl, before-trans}
 use Rattle.partition.specs.Listing.{by, insert, without}
+use Rattle.partition.proofs.Strict.{Strict, strict-ext}
 
 by-gt : {A : Type 0} (o : Ordering) (a b c : A) → o ≡ Ordering·gt → by o a b c ≡ c
 by-gt o a b c e = ap (λ p. by p a b c) e
@@ -49,8 +50,7 @@ module _ {A : Type 0} (code : A → List ℕ) where
 
   -- in code order, strictly ascending
   abbrev pub Rising : List A → Type 0
-  Rising [] = Unit {0}
-  Rising (a ∷ l) = Ahead a l × Rising l
+  Rising l = Strict (λ a b. Before (code a) (code b)) l
 
   pub rising-tab : (f : ℕ → A) (n : ℕ) → ((i j : ℕ) → i < j → j < n → Before (code (f i)) (code (f j))) → Rising (tab f n)
   unfolding tab
@@ -62,26 +62,7 @@ module _ {A : Type 0} (code : A → List ℕ) where
 
   -- two lists in order with the same members are equal
   pub rising-ext : (s t : List A) → Rising s → Rising t → ((a : A) → List·Memᴰ a s → List·Memᴰ a t) → ((a : A) → List·Memᴰ a t → List·Memᴰ a s) → s ≡ t
-  rising-ext [] [] u v f g = refl
-  rising-ext [] (q ∷ t) u v f g = absurd (List·Memᴰ·not-nil (g q (List·Memᴰ·head refl)))
-  rising-ext (p ∷ s) [] u v f g = absurd (List·Memᴰ·not-nil (f p (List·Memᴰ·head refl)))
-  rising-ext (p ∷ s) (q ∷ t) u v f g =
-      ap₂ (λ (x : A) (l : List A). x ∷ l) heads
-      (rising-ext s t (u .1) (v .1)
-      (λ a m. rest p s q t (sym heads) (u .0) a m (List·Memᴰ·cases-cons (f a (List·Memᴰ·tail m))))
-      (λ a m. rest q t p s heads (v .0) a m (List·Memᴰ·cases-cons (g a (List·Memᴰ·tail m)))))
-    where
-      heads : p ≡ q
-      heads = go (List·Memᴰ·cases-cons (f p (List·Memᴰ·head refl))) (List·Memᴰ·cases-cons (g q (List·Memᴰ·head refl)))
-        where
-          go : (p ≡ q) ⊎ List·Memᴰ p t → (q ≡ p) ⊎ List·Memᴰ q s → p ≡ q
-          go (inl e) y = e
-          go (inr m) (inl e) = sym e
-          go (inr m) (inr n) = absurd (irrefl (code p) (before-trans (u .0 q n) (v .0 p m)))
-
-      rest : (p : A) (s : List A) (q : A) (t : List A) → q ≡ p → Ahead p s → (a : A) → List·Memᴰ a s → (a ≡ q) ⊎ List·Memᴰ a t → List·Memᴰ a t
-      rest p s q t e u a m (inl y) = absurd (irrefl (code p) (subst (λ z. Before (code p) (code z)) (y ∙ e) (u a m)))
-      rest p s q t e u a m (inr y) = y
+  rising-ext = strict-ext (λ a b. Before (code a) (code b)) (λ a b x y. irrefl (code a) (before-trans x y))
 
   -- ---- insertion
 
