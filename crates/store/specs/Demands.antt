@@ -76,6 +76,7 @@ module _ (S : Shape) (h : List ℕ → ℕ) where
 
 -- ---- demand 2: on an accepted store the calls answer as a plain map from code to row place
 
+-- the map from code to row place
 abbrev pub map-of : Shape → List ℕ → List ℕ → Option (List ℕ)
 map-of S s c = placeOf (rowsHeld S s) c
 
@@ -100,10 +101,12 @@ pub record Nth (rs : List Row) (n : ℕ) (out : List ℕ) (o : Out) (out′ : Li
   pub is : (r : Row) → getElem? rs n ≡ some r → (o ≡ row (length (r .code)) (place (r .place))) × AtStart (r .code) out out′
   pub past : length rs ≤ n → (o ≡ refused 9) × (out′ ≡ out)
 
+-- what lookup and remove answer: the map's place, or 5
 abbrev pub answerOf : Option (List ℕ) → Out
 answerOf none = refused 5
 answerOf (some b) = found (place b)
 
+-- what put answers: new, or replaced with the old place
 abbrev pub putAnswer : Option (List ℕ) → Out
 putAnswer none = new
 putAnswer (some b) = replaced (place b)
@@ -188,6 +191,7 @@ after (put c p) rs = record { code = c; place = stored p } ∷ without (λ q. q 
 after (rowAt n out) rs = rs
 after (inspect g n out) rs = rs
 
+-- a refused call leaves the rows as they were
 abbrev pub surviving : Call → Out → List Row → List Row
 surviving c o rs = pick (ok o) (after c rs) rs
 
