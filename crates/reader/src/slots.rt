@@ -4,9 +4,11 @@ ghost use Prim.Native.Nat.{_+_, _-_, _≤_, _<_};
 ghost use lib.ListN.{length};
 ghost use Rattle.ground.specs.Says.{Says};
 ghost use Rattle.ground.specs.Ladder.{Answers};
-ghost use Rattle.page.specs.Page.{code, count};
+ghost use Rattle.page.specs.Page.{code, place, count};
+ghost use Rattle.page.specs.Places as Places;
 ghost use Rattle.store.specs.Tables.{meaning};
 ghost use Rattle.reader.specs.Read.{Sound, Reads, Readable, nthTable};
+use page::Place;
 use store::Answer;
 
 // Whether a page is a bucket page that keeps every rule.
@@ -56,6 +58,14 @@ pub fn code_at(page: &[u8], slot: usize) -> &[u8]
     &page[from..to]
 }
 
+// A slot's place.
+pub fn place_at(page: &[u8], slot: usize) -> Place
+    requires { ⌜ Readable (now page) × (slot < count (now page)) ⌝ }
+    ensures { λ p. ⌜ p ≡ Places.place (place (now (page .entry)) slot) ⌝ }
+{
+    page::read_place(page, slot)
+}
+
 // The slot of the next row.
 pub fn next_at(page: &[u8], slot: usize) -> usize
     requires { ⌜ Readable (now page) × (slot < count (now page)) ⌝ }
@@ -77,5 +87,5 @@ pub fn give_at(page: &[u8], slot: usize, out: &mut [u8]) -> Answer
     }
     let c = code_at(page, slot);
     words::copy_at(out, 0, c);
-    Answer::RowOf(c.len(), page::read_place(page, slot))
+    Answer::RowOf(c.len(), place_at(page, slot))
 }
