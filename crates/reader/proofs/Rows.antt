@@ -3,19 +3,19 @@ use mathlib.Core.Path.{_≡_, refl, sym, ap, _∙_}
 use mathlib.Core.List.{List, [], _∷_, _++_}
 use mathlib.Core.Logic.{inl, inr, ⊎-elim}
 use mathlib.Core.Option.{some, none}
-use Prim.Native.Nat.{ℕ, suc, _≤_, _<_}
+use Prim.Native.Nat.{ℕ, _≤_, _<_}
 use native.Mathlib.Omega.{arith}
-use lib.ListN.{length, drop, getElem?}
+use lib.ListN.{length, drop}
 use Rattle.ground.specs.Ladder.{Answers}
 use Rattle.words.specs.Le.{le16}
 use Rattle.words.specs.Zeros.{Zero}
 use Rattle.hash.specs.Fnv.{fnv}
-use Rattle.page.specs.Page.{Slotted, BucketPage, count, rowAt}
+use Rattle.page.specs.Page.{Slotted, count, rowAt}
 use Rattle.page.specs.Page as Page
 use Rattle.page.specs.declared.Place.{Place}
 use Rattle.page.specs.Places.{place}
 use Rattle.partition.specs.Partition.{Row}
-use Rattle.store.specs.Pages.{S1024, read, asRow, rowsOn}
+use Rattle.store.specs.Pages.{S1024, read, asRow}
 use Rattle.store.specs.Tables.{Out, refused, refusedAt, row, PageKeeps, inspectTable}
 use Rattle.store.proofs.Reading.{row-slot, row-past, row-free}
 use Rattle.reader.specs.Read.{Sound, Reads, whole, nothing, Readable, nthTable}

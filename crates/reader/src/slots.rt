@@ -41,10 +41,10 @@ pub fn left_at(page: &[u8], slot: usize) -> usize
         return 0;
     }
     let n = words::get16(page, 2);
-    if n < slot {
-        return 0;
+    if slot < n {
+        return n - slot;
     }
-    n - slot
+    0
 }
 
 // A slot's code, as a part of the page.

@@ -24,7 +24,6 @@ use denote.RattleType.{RattleType, owns}
 use denote.Laws.{Is, shows}
 use denote.Builtin.{u8}
 use denote.Ref.{RefT, now}
-use denote.Signature.{namedLft}
 use denote.Slice.{ShrSlice, shr-slice-lawful}
 use denote.Steps.{peeks, heard, nothing}
 use denote.Struct.Laws as LL

@@ -25,7 +25,6 @@ use denote.Laws.{Is, shows}
 use denote.Plain.{uint-lawful}
 use denote.Builtin.{usize}
 use denote.Ref.{now}
-use denote.Signature.{namedLft}
 use denote.Steps.{peeks, heard, nothing}
 use denote.Struct.Laws as LL
 use denote.Triple.Statement.{Contract, Triple}

@@ -26,7 +26,6 @@ use denote.Laws.{Is, shows}
 use denote.Plain.{uint-lawful, uint-makes}
 use denote.Builtin.{usize}
 use denote.Ref.{now}
-use denote.Signature.{namedLft}
 use denote.Steps.{only, owned, peeks, heard, nothing}
 use denote.Struct.Laws as LL
 use denote.Struct.Rest.{own-put}

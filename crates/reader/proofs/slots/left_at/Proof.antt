@@ -1,11 +1,6 @@
 -- `reader::left_at` meets its contract. Assumes nothing.
-use mathlib.Core.Path.{subst, sym}
-use mathlib.Core.List.{List}
-use Prim.Native.Nat.{ℕ, _-_, _≤_}
-use lib.ListN.{length}
 use native.Mathlib.Omega.{arith}
 use borrow.Author.Needs.{needs}
-use Rattle.page.specs.Page.{count}
 use Rattle.reader.proofs.Rows.{empty, count-none, slotted}
 use Rattle.reader.proofs.slots.left_at.Statement.{statement}
 use Rattle.reader.proofs.slots.left_at.Tie as tie
@@ -18,6 +13,9 @@ returns c =
 get16-requires : tie.Need-get16-requires
 get16-requires c κs = let s = c .before .before in omega (arith, slotted (s .args .page .now) (s .pre .sound (omega arith)) .least)
 
+sub-result : tie.Need-sub-result
+sub-result c = search needs
+
 returns-2 : tie.Need-returns-2
 returns-2 c = search needs
 
@@ -25,4 +23,4 @@ returns-3 : tie.Need-returns-3
 returns-3 c = search needs
 
 pub left-at-spec : {M : Type 1} → statement M
-left-at-spec = tie.close (tie.spec returns get16-requires returns-2 returns-3)
+left-at-spec = tie.close (tie.spec returns get16-requires sub-result returns-2 returns-3)
