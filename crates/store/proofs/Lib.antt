@@ -39,3 +39,4 @@ pub mod Slotwise
 pub mod PageTies
 pub mod Views
 pub mod Depths
+pub mod Shared

@@ -1,7 +1,6 @@
 -- PUT of a new code as the code finds it: refusals 6 and 7 from the page that holds the hash and the number of free pages, then one of three writes.
 -- Assumes nothing.
 use mathlib.Core.Path.{_≡_, refl, sym, ap, _∙_}
-use mathlib.Core.Bool.{Bool}
 use mathlib.Core.List.{List, [], _∷_, map}
 use mathlib.Core.Logic.{inr, _↔_}
 use mathlib.Core.Option.{some}

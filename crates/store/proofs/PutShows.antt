@@ -31,7 +31,7 @@ use Rattle.store.proofs.Shown.{within-pages, Part, Any, page-of, whole,
 use Rattle.store.proofs.Holder.{its-bucket, its-shallowest, its-order, its-rows, its-needs}
 use Rattle.store.proofs.Rooms.{Its, bucket-one, set-other, fill, fill-keeps, clear, becomes, enough, find-free}
 use Rattle.store.proofs.Records.{rows-packed, rows-added}
-use Rattle.store.proofs.Written.{Found, New, Wrote, write-all, written-over}
+use Rattle.store.proofs.Written.{NextFree, New, Wrote, write-all, written-over, next-free}
 
 module _ (S : Shape) (h : List ℕ → ℕ) (small : (c : List ℕ) → h c < 2 ^ 32) (rows : List Row) (r : Row) where
   abbrev x : ℕ
@@ -127,7 +127,7 @@ module _ (S : Shape) (h : List ℕ → ℕ) (small : (c : List ℕ) → h c < 2 
           its w = ap (λ a. prefixOn h a qs) (w .0) ∙ ap (λ t. prefixOn h k t) (w .1) ∙ held ∙ ap (λ a. top a x) (sym (w .0))
 
       -- it fits its bucket
-      pub put-fitting : needs (r ∷ map asRow rs) ≤ S .capacity → Puts gs (set gs i (bucket k (added S rs r)))
+      put-fitting : needs (r ∷ map asRow rs) ≤ S .capacity → Puts gs (set gs i (bucket k (added S rs r)))
       unfolding inOrder
       put-fitting fits = subst (Puts gs) (set-set gs i free (bucket k (added S rs r))) (record {
         part = one-more k shallow cleared others now i there′ is-free (added S rs r) rows-now;
@@ -165,10 +165,10 @@ module _ (S : Shape) (h : List ℕ → ℕ) (small : (c : List ℕ) → h c < 2 
             write-all S h small (r ∷ rows) fine recs news (Out k) cleared i others
             (asc-distinct (S .deepest) 0 (2 ^ S .deepest) news (in-order S h page-rows)) not-shown (omega (arith, seven, length-set gs i free)) (λ _. (there′, is-free))
 
-        -- after the room test a free page is found at every step
-        pub put-found : Found (set gs i free) i (map (packed h (r ∷ map asRow rs)) (buckets S h (r ∷ map asRow rs)))
+        -- THE ROOM TEST: after it a free page is found at every step
+        pub put-found : NextFree gs i (map (packed h (r ∷ map asRow rs)) (buckets S h (r ∷ map asRow rs)))
         unfolding packed recs
-        put-found = wrote .found
+        put-found = next-free gs i (map (packed h page-rows) news) (wrote .found)
 
         some-new : 0 < length (map (packed h page-rows) news)
         some-new =
@@ -181,13 +181,9 @@ module _ (S : Shape) (h : List ℕ → ℕ) (small : (c : List ℕ) → h c < 2 
             go y [] m = absurd (List·Memᴰ·not-nil m)
             go y (z ∷ l) m = omega arith
 
-        over-old : (ns : List Page) → 0 < length ns → written cleared i ns ≡ written gs i ns
-        over-old [] l = absurd (omega arith)
-        over-old (n ∷ ns) l = written-over gs i n ns
-
-        pub put-splitting : Puts gs (written gs i (map (packed h (r ∷ map asRow rs)) (buckets S h (r ∷ map asRow rs))))
+        put-splitting : Puts gs (written gs i (map (packed h (r ∷ map asRow rs)) (buckets S h (r ∷ map asRow rs))))
         unfolding packed recs
-        put-splitting = subst (Puts gs) (over-old (map (packed h page-rows) news) some-new) (record {
+        put-splitting = subst (Puts gs) (written-over gs i (map (packed h page-rows) news) some-new) (record {
           part = becomes S h (r ∷ rows) (λ l w. Out k l w ⊎ List·Memᴰ (pfx l w) news) (written cleared i (map (packed h page-rows) news)) (wrote .part) (r ∷ rows) Any
               (λ l qs o u. (o, tt)) (λ l w b _. (b, which l w b (dec-under k v l w)));
           keeps = λ m l qs y n. wrote .keeps m l qs (elsewhere m l qs y n);

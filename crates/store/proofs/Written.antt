@@ -4,9 +4,9 @@
 use mathlib.Core.Path.{_≡_, refl, sym, ap, ap₂, subst, _∙_}
 use mathlib.Core.List.{List, [], _∷_, map, List·Memᴰ, List·Memᴰ·head, List·Memᴰ·tail, List·Memᴰ·not-nil, List·Memᴰ·cases-cons, Memᴰ·cast}
 use mathlib.Core.Logic.{_⊎_, inl, inr}
-use Prim.Native.Nat.{ℕ, _^_, _≤_, _<_}
+use Prim.Native.Nat.{ℕ, zero, suc, _^_, _≤_, _<_}
 use native.Mathlib.Omega.{arith}
-use lib.ListN.{length, getD, set, length-set}
+use lib.ListN.{length, getD, set, take, length-set}
 use lib.Seq.{set-set}
 use Rattle.page.specs.Page.{Record}
 use Rattle.partition.specs.Partition.{Shape, Row, Prefix, IsBucket, Fine, rowsOf, buckets}
@@ -107,6 +107,39 @@ module _ (S : Shape) (h : List ℕ → ℕ) (small : (c : List ℕ) → h c < 2 
       out k v (inr m) = inr (List·Memᴰ·tail m)
 
 -- a page that is written first need not be cleared before
-pub written-over : (gs : List Page) (i : ℕ) (n : Page) (ns : List Page) → written (set gs i free) i (n ∷ ns) ≡ written gs i (n ∷ ns)
+pub written-over : (gs : List Page) (i : ℕ) (ns : List Page) → 0 < length ns → written (set gs i free) i ns ≡ written gs i ns
 unfolding written
-written-over gs i n ns = ap (λ fs. written fs (find isFree fs) ns) (set-set gs i free n)
+written-over gs i [] l = absurd (omega arith)
+written-over gs i (n ∷ ns) l = ap (λ fs. written fs (find isFree fs) ns) (set-set gs i free n)
+
+-- the first page is given; each next that is taken is there, and free
+abbrev pub NextFree : List Page → ℕ → List Page → Type 0
+NextFree gs i [] = Unit {0}
+NextFree gs i (n ∷ ns) = Found (set gs i n) (find isFree (set gs i n)) ns
+
+pub next-free : (gs : List Page) (i : ℕ) (ns : List Page) → Found (set gs i free) i ns → NextFree gs i ns
+next-free gs i [] f = tt
+next-free gs i (n ∷ ns) f = subst (λ fs. Found fs (find isFree fs) ns) (set-set gs i free n) (f .2)
+
+-- ---- one step of a loop that writes them: after the first and m more
+
+pub length-written : (gs : List Page) (i : ℕ) (ns : List Page) → length (written gs i ns) ≡ length gs
+unfolding written
+length-written gs i [] = refl
+length-written gs i (n ∷ ns) = length-written (set gs i n) (find isFree (set gs i n)) ns ∙ length-set gs i n
+
+pub step-writes : (gs : List Page) (i : ℕ) (n : Page) (ns : List Page) (m : ℕ) → m < length ns
+    → written gs i (n ∷ take (suc m) ns) ≡ set (written gs i (n ∷ take m ns)) (find isFree (written gs i (n ∷ take m ns))) (getD ns m free)
+unfolding written
+step-writes gs i n [] m l = absurd (omega arith)
+step-writes gs i n (p ∷ ns) zero l = refl
+step-writes gs i n (p ∷ ns) (suc m) l = step-writes (set gs i n) (find isFree (set gs i n)) p ns m (omega arith)
+
+pub step-free : (gs : List Page) (i : ℕ) (n : Page) (ns : List Page) → NextFree gs i (n ∷ ns) → (m : ℕ) → m < length ns
+    → (find isFree (written gs i (n ∷ take m ns)) < length gs) × (getD (written gs i (n ∷ take m ns)) (find isFree (written gs i (n ∷ take m ns))) free ≡ free)
+unfolding written
+step-free gs i n [] f m l = absurd (omega arith)
+step-free gs i n (p ∷ ns) f zero l = (omega (arith, f .0, length-set gs i n), f .1)
+step-free gs i n (p ∷ ns) f (suc m) l =
+    let w = step-free (set gs i n) (find isFree (set gs i n)) p ns (f .2) m (omega arith) in
+    (omega (arith, w .0, length-set gs i n), w .1)
