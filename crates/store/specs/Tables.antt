@@ -105,13 +105,16 @@ countTable S h s =
     (checked S h s (λ o. o)
     (answer (counted (length (rowsHeld S s)))))
 
+-- the place that the map gives; 5: code not there
+abbrev pub lookedUp : Shape → List ℕ → List ℕ → Ladder Out
+lookedUp S s c = rung (λ b. placeOf (rowsHeld S s) c ≡ some b) (λ b. answer (found (place b))) (answer (refused 5))
+
 unfoldable pub lookupTable : Shape → (List ℕ → ℕ) → List ℕ → List ℕ → Ladder Out
 lookupTable S h s c =
     refuse (Refusal1 S s) (refused 1)
     (refuse (Refusal3 c) (refused 3)
     (checked S h s (λ o. o)
-    (rung (λ b. placeOf (rowsHeld S s) c ≡ some b) (λ b. answer (found (place b)))
-    (answer (refused 5)))))
+    (lookedUp S s c)))
 
 -- ---- put, remove: answer and store
 
