@@ -28,8 +28,6 @@ use Rattle.change.specs.Join.{Housed, Tight, Taking, Gathered, Storable,
 
 -- ---- rows left out of lists
 
--- ---- rows left out of lists
-
 abbrev cut : List ℕ → List Row → List Row
 cut c rs = without (λ q. q .code) c rs
 

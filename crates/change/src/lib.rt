@@ -9,8 +9,11 @@ mod join;
 mod pages;
 mod prefix;
 mod put;
-mod remove;
+mod removal;
 mod vacant;
+
+pub use removal::remove;
+pub use removal::remove_row;
 
 // Page 0 with depth 0, all other pages cleared, whatever the store held.
 pub fn format(s: &mut [u8]) -> store::Answer

@@ -5,7 +5,7 @@ ghost use Rattle.hash.specs.Fnv.{fnv};
 ghost use Rattle.store.specs.Pages.{S1024, contents};
 ghost use Rattle.store.specs.Accepted.{Accepted};
 ghost use Rattle.store.specs.Moves.{removed};
-ghost use Rattle.store.specs.Tables.{Becomes, removeAccepted, meaning};
+ghost use Rattle.store.specs.Tables.{Becomes, removeAccepted, removeTable, meaning};
 ghost use Rattle.change.specs.Remove.{Leaving};
 use super::directory::settle;
 use super::join::join;
@@ -51,4 +51,24 @@ pub fn remove_row(s: &mut [u8], key: &[u8]) -> store::Answer
             store::Answer::Found(old)
         }
     }
+}
+
+// The row of a code goes; its place.
+pub fn remove(s: &mut [u8], key: &[u8]) -> store::Answer
+    ensures { λ r. ⌜ Answers (removeTable S1024 fnv (now (s .entry)) (now (key .entry))) (meaning r, now (s .exit)) ⌝ }
+{
+    if !reading::good_length(s) {
+        return store::Answer::BadLength;
+    }
+    if key.len() == 0 {
+        return store::Answer::BadCode;
+    }
+    if 64 < key.len() {
+        return store::Answer::BadCode;
+    }
+    let p = reading::first_bad(s);
+    if p < s.len() / 1024 {
+        return store::Answer::BadPage(p);
+    }
+    remove_row(s, key)
 }

@@ -15,8 +15,8 @@ use Rattle.store.specs.Tables.{found}
 use Rattle.store.specs.Pages.{S1024, page, rowsHeld}
 use Rattle.change.specs.Remove.{Leaving}
 use Rattle.change.proofs.OnePage.{lent}
-use Rattle.change.proofs.remove.remove_row.Statement.{statement}
-use Rattle.change.proofs.remove.remove_row.Tie as tie
+use Rattle.change.proofs.removal.remove_row.Statement.{statement}
+use Rattle.change.proofs.removal.remove_row.Tie as tie
 use Rattle.rows.specs.declared.Spot.{Spot}
 use Rattle.rows.specs.Spots.{OnPage, Stands}
 

@@ -25,8 +25,8 @@ use Rattle.change.proofs.Settles.{Rewritten, unwritten, settling}
 use Rattle.change.proofs.Removes.{climbed-fits, loses, settles, clear-written, clear-holds, joinable, join-written, join-holds}
 use Rattle.change.proofs.Directories.{page-byte}
 use Rattle.change.proofs.OnePage.{lent, back}
-use Rattle.change.proofs.remove.take_out.Statement.{statement}
-use Rattle.change.proofs.remove.take_out.Tie as tie
+use Rattle.change.proofs.removal.take_out.Statement.{statement}
+use Rattle.change.proofs.removal.take_out.Tie as tie
 
 -- the store, and where the row stands
 module _ (z : tie.Start) where
