@@ -192,7 +192,7 @@ clear-page-requires c κs = search needs
 settle-requires-2 : tie.Need-settle-requires-2
 settle-requires-2 c κs = let d = c .before .before .before .before .before .before in
     let z = z₂ d in
-    let one = c .before .before .before .before .before .if2 .taken in
+    let one : d .get16 .result ≡ 1 = omega (arith, c .before .before .before .before .before .if2 .taken) in
     subst (λ y. Settling y (n z)) (sym (blank z (c .before .before .before .clear-page .last .0) (c .before .before .before .clear-page .ensures)))
     (settling fnv fnv-lt (s z) (z .pre .accepted) (setPage S1024 (s z) (p z) (replicate 1024 0)) (cleared d one))
 
@@ -202,7 +202,7 @@ same-length-2 c = search needs
 returns-2 : tie.Need-returns-2
 returns-2 c = let d = c .before .before .before .before .before .before .before .before .before in
     let z = z₂ d in
-    let one = c .before .before .before .before .before .before .before .before .if2 .taken in
+    let one : d .get16 .result ≡ 1 = omega (arith, c .before .before .before .before .before .before .before .before .if2 .taken) in
     let w = c .before .before .before .before .before .before .clear-page in
     let u = c .before .before .settle2 .last .0 in
     settles fnv fnv-lt (s z) (p z) (z .args .i) (key z) (z .pre) (j (b₂ d)) (fits (b₂ d)) (n z) refl (cleared d one) (cleared-holds d one)
