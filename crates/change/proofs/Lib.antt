@@ -7,3 +7,4 @@ pub mod Laying
 pub mod Vacancy
 pub mod Settles
 pub mod NewBuckets
+pub mod Weighs

@@ -8,6 +8,7 @@ mod directory;
 mod pages;
 mod put;
 mod vacant;
+mod weigh;
 
 // Page 0 with depth 0, all other pages cleared, whatever the store held.
 pub fn format(s: &mut [u8]) -> store::Answer
