@@ -8,3 +8,4 @@ pub mod Vacancy
 pub mod Settles
 pub mod NewBuckets
 pub mod Weighs
+pub mod Appends

@@ -1,9 +1,14 @@
 -- What the steps of a split ask and answer. Assumes nothing.
 use mathlib.Core.Path.{_≡_}
-use mathlib.Core.List.{List, [], _∷_}
+use mathlib.Core.List.{List, [], _∷_, _++_, map}
 use Prim.Native.Nat.{ℕ, _-_, _≤_, _<_}
-use lib.ListN.{length}
-use Rattle.partition.specs.Partition.{Row, Prefix, rowsOf, grade, walk}
+use lib.ListN.{length, take, drop}
+use Rattle.page.specs.Page.{Slotted, BucketPage, Belongs, Natural, depth, rows}
+use Rattle.partition.specs.Partition.{Row, Prefix, needs, rowsOf, grade, walk}
+use Rattle.partition.specs.Listing.{inOrder}
+use Rattle.partition.proofs.Rising.{Rising}
+use Rattle.store.specs.Pages.{asRow}
+use Rattle.store.specs.Moves.{packFrom}
 
 -- a row of the code, its place left aside
 abbrev pub keyed : List ℕ → Row
@@ -13,3 +18,37 @@ keyed c = record { code = c; place = [] }
 unfoldable pub below : (List ℕ → ℕ) → List Row → ℕ → ℕ → List Prefix
 unfolding walk grade rowsOf
 below h rs k v = walk (λ j w. grade 1016 (rowsOf h rs j w)) (8 - k) (grade 1016 (rowsOf h rs k v)) k v
+
+-- the rows of a page's slots from a up to b
+abbrev pub slots : List ℕ → ℕ → ℕ → List Row
+slots g a b = take (b - a) (drop a (map asRow (rows g)))
+
+-- the rows ts can go behind those of the packed page p: in code order, and all fit
+pub record Behind (p : List ℕ) (ts : List Row) : Type 0 where
+  pub page : Slotted p
+  pub size : length p ≡ 1024
+  pub packed : rows p ≡ packFrom 8 (map asRow (rows p))
+  pub rising : Rising (λ r. r .code) (map asRow (rows p) ++ ts)
+  pub fits : needs (map asRow (rows p) ++ ts) ≤ 1016
+
+-- q is p with the rows ts behind its own
+pub record Appended (p : List ℕ) (ts : List Row) (q : List ℕ) : Type 0 where
+  pub page : Slotted q
+  pub size : length q ≡ length p
+  pub deep : depth q ≡ depth p
+  pub rowsOf : rows q ≡ packFrom 8 (map asRow (rows p) ++ ts)
+
+-- the page that is split, and the new row, whose code belongs at slot i
+pub record Source (g : List ℕ) (i : ℕ) (c pl : List ℕ) : Type 0 where
+  pub page : Slotted g
+  pub belongs : Belongs g i c
+  pub natural : Natural pl
+  pub some : 1 ≤ length c
+  pub short : length c ≤ 64
+
+-- q is a bucket written packed: of the rows rs those whose hashes begin with the k bits of v, in code order
+pub record Bucketed (h : List ℕ → ℕ) (rs : List Row) (k v : ℕ) (q : List ℕ) : Type 0 where
+  pub page : BucketPage q
+  pub size : length q ≡ 1024
+  pub deep : depth q ≡ k
+  pub rowsOf : rows q ≡ packFrom 8 (inOrder (Rattle.partition.specs.Partition.rowsOf h rs k v))

@@ -4,6 +4,7 @@ ghost use Rattle.ground.specs.Ladder.{Answers};
 ghost use Rattle.store.specs.Pages.{S1024};
 ghost use Rattle.store.specs.Tables.{formatTable, meaning};
 
+mod bucket;
 mod directory;
 mod pages;
 mod put;
