@@ -9,3 +9,4 @@ pub mod Settles
 pub mod NewBuckets
 pub mod Weighs
 pub mod Appends
+pub mod Splits

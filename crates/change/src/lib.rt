@@ -8,6 +8,7 @@ mod bucket;
 mod directory;
 mod pages;
 mod put;
+mod split;
 mod vacant;
 mod weigh;
 
