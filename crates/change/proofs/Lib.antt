@@ -10,3 +10,4 @@ pub mod NewBuckets
 pub mod Weighs
 pub mod Appends
 pub mod Splits
+pub mod Heavy
