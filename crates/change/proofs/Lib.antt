@@ -1,3 +1,13 @@
 pub mod Formats
 pub mod Directories
+pub mod OnePage
+pub mod Puts
+pub mod Frees
 pub mod Laying
+pub mod Vacancy
+pub mod Settles
+pub mod NewBuckets
+pub mod Weighs
+pub mod Appends
+pub mod Splits
+pub mod Heavy

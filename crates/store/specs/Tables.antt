@@ -122,17 +122,21 @@ lookupTable S h s c =
 abbrev pub writes : Shape → (List ℕ → ℕ) → List ℕ → Out → List Page → Ladder (Out × List ℕ)
 writes S h s o gs = ends (λ r. (r .0 ≡ o) × Becomes S h s gs (r .1))
 
+-- put of the row r on an accepted store
+abbrev pub putAccepted : Shape → (List ℕ → ℕ) → List ℕ → Row → Ladder (Out × List ℕ)
+putAccepted S h s r =
+    rung (λ old. placeOf (rowsHeld S s) (r .code) ≡ some old) (λ old. writes S h s (replaced (place old)) (overwritten (contents S s) r))
+    (refuse (Refusal6 S h (rowsHeld S s) r) (refused 6, s)
+    (refuse (Refusal7 S h s (rowsHeld S s) r) (refused 7, s)
+    (writes S h s new (putNew S h (contents S s) r))))
+
 unfoldable pub putTable : Shape → (List ℕ → ℕ) → List ℕ → List ℕ → Place → Ladder (Out × List ℕ)
 putTable S h s c p =
-    let r : Row = record { code = c; place = stored p } in
     refuse (Refusal1 S s) (refused 1, s)
     (refuse (Refusal3 c) (refused 3, s)
     (refuse (Refusal4 p) (refused 4, s)
     (checked S h s (λ o. (o, s))
-    (rung (λ old. placeOf (rowsHeld S s) c ≡ some old) (λ old. writes S h s (replaced (place old)) (overwritten (contents S s) r))
-    (refuse (Refusal6 S h (rowsHeld S s) r) (refused 6, s)
-    (refuse (Refusal7 S h s (rowsHeld S s) r) (refused 7, s)
-    (writes S h s new (putNew S h (contents S s) r))))))))
+    (putAccepted S h s (record { code = c; place = stored p })))))
 
 unfoldable pub removeTable : Shape → (List ℕ → ℕ) → List ℕ → List ℕ → Ladder (Out × List ℕ)
 removeTable S h s c =
