@@ -7,7 +7,6 @@ mod remove;
 
 pub use insert::insert_at_frontier;
 pub use insert::insert_row;
-pub use insert::set_head;
 pub use pack::clear_page;
 pub use pack::new_page;
 pub use pack::pack_into;

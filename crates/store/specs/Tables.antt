@@ -138,13 +138,18 @@ putTable S h s c p =
     (checked S h s (λ o. (o, s))
     (putAccepted S h s (record { code = c; place = stored p })))))
 
+-- remove of the code c on an accepted store
+abbrev pub removeAccepted : Shape → (List ℕ → ℕ) → List ℕ → List ℕ → Ladder (Out × List ℕ)
+removeAccepted S h s c =
+    rung (λ old. placeOf (rowsHeld S s) c ≡ some old) (λ old. writes S h s (found (place old)) (removed S h (contents S s) c))
+    (answer (refused 5, s))
+
 unfoldable pub removeTable : Shape → (List ℕ → ℕ) → List ℕ → List ℕ → Ladder (Out × List ℕ)
 removeTable S h s c =
     refuse (Refusal1 S s) (refused 1, s)
     (refuse (Refusal3 c) (refused 3, s)
     (checked S h s (λ o. (o, s))
-    (rung (λ old. placeOf (rowsHeld S s) c ≡ some old) (λ old. writes S h s (found (place old)) (removed S h (contents S s) c))
-    (answer (refused 5, s)))))
+    (removeAccepted S h s c)))
 
 -- ---- row at place n, inspection: answer and output
 
