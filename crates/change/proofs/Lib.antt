@@ -1,5 +1,7 @@
 pub mod Formats
 pub mod Directories
+pub mod Prefixes
+pub mod Gathers
 pub mod OnePage
 pub mod Puts
 pub mod Frees
@@ -11,3 +13,6 @@ pub mod Weighs
 pub mod Appends
 pub mod Splits
 pub mod Heavy
+pub mod Empties
+pub mod Joins
+pub mod Removes

@@ -10,8 +10,10 @@ use Rattle.ground.proofs.Sides.{side, same}
 use Rattle.ground.proofs.Parts.{byte-part, length-part, lent-part}
 use Rattle.words.specs.Zeros.{Zero}
 use Rattle.store.specs.Pages.{S1024, pages, dirDepth, entryAt}
-use Rattle.store.specs.Accepted.{Page1}
+use Rattle.hash.specs.Fnv.{fnv}
+use Rattle.store.specs.Accepted.{GoodLength, Page0, Page1, Stands}
 use Rattle.reading.specs.Directory.{Entries, AllAre, NoneIs, AllBelow, Ranges}
+use Rattle.reading.specs.Begun.{Begun, Standing}
 
 -- the bytes lent from a up to e
 pub lent-zero : (s : List ℕ) (a e : ℕ) → a ≤ e → e ≤ length s → Zero (take (e - a) (drop a s)) → (k : ℕ) → a ≤ k → k < e → byte s k ≡ 0
@@ -43,3 +45,20 @@ module _ (s dir : List ℕ) (n m : ℕ) (decoded : Entries s dir) (number : n �
     below = λ i _ l. ⊎-elim (λ z. omega (arith, decoded .entry i l)) (λ b. omega (arith, decoded .entry i l, b .1)) (r .range i l);
     beyond = λ i h l. decoded .entry i l ∙ r .beyond i l (omega arith);
   }
+
+-- what the passes over the pages start from
+module _ (s : List ℕ) (good : GoodLength S1024 s) (zeroth : Page0 S1024 s) where
+  pub begun : (dir : List ℕ) (d : ℕ) → d ≡ dirDepth s → Entries s dir → AllAre dir (2 ^ d) 256 0 → Begun s dir (pages S1024 s) d
+  begun dir d e decoded z = record {
+    long = omega (arith, good .whole);
+    number = refl;
+    least = good .least;
+    most = good .most;
+    depth = e;
+    deep = omega (arith, zeroth .depth);
+    entries = decoded;
+    beyond = z;
+  }
+
+  pub standing : ((p : ℕ) → 2 ≤ p → p < pages S1024 s → Stands S1024 fnv s p) → Standing s (pages S1024 s)
+  standing f = record { long = omega (arith, good .whole); number = refl; least = good .least; most = good .most; deep = zeroth .depth; each = f }

@@ -5,3 +5,7 @@ pub mod Fills
 pub mod Naming
 pub mod Heads
 pub mod Sums
+pub mod Standing
+pub mod Parting
+pub mod Holdings
+pub mod Calls

@@ -23,7 +23,7 @@ use Rattle.store.specs.Moves.{pick}
 use Rattle.store.specs.Demands.{Sized, Hash}
 use Rattle.store.proofs.Unique.{read-zero, read-bucket}
 use Rattle.store.proofs.Owner.{called, shared}
-use Rattle.store.proofs.Showing.{page-row}
+use Rattle.store.proofs.Showing.{slot-of}
 
 needs-append : (s t : List Row) → needs (s ++ t) ≡ needs s + needs t
 unfolding needs
@@ -39,26 +39,27 @@ load-pages h f (suc n) j v =
     ∙ needs-append (rowsOf h (rowsOn (f zero)) j v) (rowsOf h (rowsIn (tab (λ i. f (suc i)) n)) j v)
     ∙ ap (λ m. needs (rowsOf h (rowsOn (f zero)) j v) + m) (load-pages h (λ i. f (suc i)) n j v)
 
+-- the first j of the top k bits
+pub cut-top : (x j k : ℕ) → j ≤ k → top k x / 2 ^ (k - j) ≡ top j x
+cut-top x j k l = let q : k ≡ j + (k - j) = omega arith in ap (λ n. top n x / 2 ^ (k - j)) q ∙ path-cut (λ i. top i x) (top-step x) (k - j) j
+
 -- shorter prefixes of hashes that have one prefix are one
 pub shorter : (a b j k : ℕ) → j ≤ k → top k a ≡ top k b → top j a ≡ top j b
-shorter a b j k l e =
-    let q : k ≡ j + (k - j) = omega arith in
-    let cut : (x : ℕ) → top k x / 2 ^ (k - j) ≡ top j x = λ x. ap (λ n. top n x / 2 ^ (k - j)) q ∙ path-cut (λ i. top i x) (top-step x) (k - j) j in
-    sym (cut a) ∙ ap (λ n. n / 2 ^ (k - j)) e ∙ cut b
+shorter a b j k l e = sym (cut-top a j k l) ∙ ap (λ n. n / 2 ^ (k - j)) e ∙ cut-top b j k l
 
 -- a bucket's rows, by its slots
 module _ (h : List ℕ → ℕ) (g : List ℕ) (b : Slotted g) (j v : ℕ) where
   all-on : ((i : ℕ) → i < count g → top j (h (code g i)) ≡ v) → rowsOf h (map asRow (rows g)) j v ≡ map asRow (rows g)
   all-on f = rows-every h (map asRow (rows g)) j v (λ r m.
-      let y = page-row g b r m in
+      let y = slot-of g b r m in
       ap (λ q. top j (h (q .code))) (y .2) ∙ f (y .0) (y .1))
 
   all-off : ((i : ℕ) → i < count g → top j (h (code g i)) ≡ v → ⊥) → rowsOf h (map asRow (rows g)) j v ≡ []
   all-off f = rows-none h (map asRow (rows g)) j v (λ r m e.
-      let y = page-row g b r m in
+      let y = slot-of g b r m in
       f (y .0) (y .1) (sym (ap (λ q. top j (h (q .code))) (y .2)) ∙ e))
 
-pick-none : (b : Bool) → _≡_ {A = ℕ} (pick b 0 0) 0
+pub pick-none : (b : Bool) → _≡_ {A = ℕ} (pick b 0 0) 0
 pick-none true = refl
 pick-none false = refl
 

@@ -1,3 +1,4 @@
 pub mod First
 pub mod Directory
 pub mod Digest
+pub mod Begun

@@ -1,0 +1,89 @@
+-- Whether a page stands, from the tests of pass 1. Assumes nothing.
+use mathlib.Core.Path.{_≡_, refl, sym, ap, subst, _∙_}
+use mathlib.Core.List.{List}
+use mathlib.Core.Logic.{_↔_}
+use Prim.Native.Nat.{ℕ, _+_, _-_, _*_, _^_, _≤_, _<_}
+use native.Mathlib.Omega.{arith}
+use lib.ListN.{length, getD, take, drop}
+use Rattle.ground.specs.Lists.{byte, part}
+use Rattle.ground.proofs.Parts.{lent-part}
+use Rattle.hash.specs.Fnv.{fnv}
+use Rattle.page.specs.Page.{BucketPage, depth, count, code}
+use Rattle.partition.specs.Bits.{top}
+use Rattle.store.specs.Pages.{S1024, size, pages, page, dirDepth, entryAt}
+use Rattle.store.specs.Accepted.{Bucket, Calls, Stands, unused, used}
+use Rattle.reading.specs.Directory.{Named}
+use Rattle.words.specs.Zeros.{Zero}
+use Rattle.reading.specs.First.{FirstBad}
+use Rattle.reading.specs.Begun.{Begun, Free, Own}
+
+-- the part of a store that is lent as page p
+pub seen : (s : List ℕ) (p : ℕ) → take (p * 1024 + 1024 - p * 1024) (drop (p * 1024) s) ≡ page S1024 s p
+unfolding page
+seen s p = lent-part s (p * 1024) (p * 1024 + 1024) 1024 refl
+
+-- the prefix of a bucket, by its first code
+abbrev pub prefixOf : List ℕ → ℕ
+prefixOf g = top (depth g) (fnv (code g 0))
+
+-- slot i has the prefix of slot 0
+abbrev pub Like : List ℕ → ℕ → Type 0
+Like g i = top (depth g) (fnv (code g 0)) ≡ top (depth g) (fnv (code g i))
+
+module _ (s dir : List ℕ) (n d p : ℕ) (B : Begun s dir n d) where
+  free-of : byte (page S1024 s p) 0 ≡ 0 → Stands S1024 fnv s p → Free (page S1024 s p) dir p
+  free-of z (unused a u) = record { zero = a; unnamed = λ i _ l e. u i l (sym (B .entries .entry i l) ∙ e) }
+  free-of z (used b _ _) = absurd (omega (arith, b .rules .rules .one))
+
+  module _ (nz : byte (page S1024 s p) 0 ≡ 0 → ⊥) where
+    own-of : Stands S1024 fnv s p → Own (page S1024 s p) d
+    own-of (unused a u) = absurd (nz (a 0))
+    own-of (used b k _) = record { rules = b .rules; deep = omega (arith, k, B .depth) }
+
+    like-of : Stands S1024 fnv s p → (i : ℕ) → i < count (page S1024 s p) → Like (page S1024 s p) i
+    like-of (unused a u) i l = absurd (nz (a 0))
+    like-of (used b k _) i l = b .share 0 i (b .rules .some) l
+
+    named-of : Stands S1024 fnv s p → Named dir d (depth (page S1024 s p)) (prefixOf (page S1024 s p)) p
+    named-of (unused a u) i l = absurd (nz (a 0))
+    named-of (used b k names) i l =
+        let y = names i l in (
+          (λ e. subst (λ k. Calls k (depth (page S1024 s p)) (prefixOf (page S1024 s p)) i) (sym (B .depth)) (y .0 (sym (B .entries .entry i l) ∙ e))),
+          (λ c. B .entries .entry i l ∙ y .1 (subst (λ k. Calls k (depth (page S1024 s p)) (prefixOf (page S1024 s p)) i) (B .depth) c)),
+        )
+
+  -- g is page p, as it was lent
+  module _ (g : List ℕ) (e : g ≡ page S1024 s p) where
+    pub free-stands : Free g dir p → Stands S1024 fnv s p
+    free-stands f = unused (subst Zero e (f .zero)) (λ i l q. f .unnamed i (omega arith) l (B .entries .entry i l ∙ q))
+
+    pub used-stands : Own g d → ((i : ℕ) → i < count g → Like g i) → Named dir d (depth g) (prefixOf g) p → Stands S1024 fnv s p
+    used-stands o like names = used
+        (subst (Bucket fnv) e (record { rules = o .rules; share = λ i j l m. sym (like i l) ∙ like j m }))
+        (subst (λ x. depth x ≤ dirDepth s) e (omega (arith, o .deep, B .depth)))
+        (λ i l. subst (λ x. (entryAt S1024 s i ≡ p) ↔ Calls (dirDepth s) (depth x) (prefixOf x) i) e (
+          (λ q. subst (λ k. Calls k (depth g) (prefixOf g) i) (B .depth) (names i l .0 (B .entries .entry i l ∙ q))),
+          (λ c. sym (B .entries .entry i l) ∙ names i l .1 (subst (λ k. Calls k (depth g) (prefixOf g) i) (sym (B .depth)) c)),
+        ))
+
+    -- a page that stands and whose byte 0 is 0 is free, any other a bucket
+    pub stands-free : byte g 0 ≡ 0 → Stands S1024 fnv s p → Free g dir p
+    stands-free z st = subst (λ x. Free x dir p) (sym e) (free-of (subst (λ x. byte x 0 ≡ 0) e z) st)
+
+    module _ (nz : byte g 0 ≡ 0 → ⊥) where
+      pub stands-own : Stands S1024 fnv s p → Own g d
+      stands-own st = subst (λ x. Own x d) (sym e) (own-of (subst (λ x. byte x 0 ≡ 0 → ⊥) e nz) st)
+
+      pub stands-like : Stands S1024 fnv s p → (i : ℕ) → i < count g → Like g i
+      stands-like st = subst (λ x. (i : ℕ) → i < count x → Like x i) (sym e) (like-of (subst (λ x. byte x 0 ≡ 0 → ⊥) e nz) st)
+
+      pub stands-named : Stands S1024 fnv s p → Named dir d (depth g) (prefixOf g) p
+      stands-named st = subst (λ x. Named dir d (depth x) (prefixOf x) p) (sym e) (named-of (subst (λ x. byte x 0 ≡ 0 → ⊥) e nz) st)
+
+-- the first bad page, where page p is the first not passed
+module _ (n : ℕ) (P : ℕ → Type 0) where
+  pub ends-bad : (p : ℕ) → 2 ≤ p → p ≤ n → ((q : ℕ) → q < p → 2 ≤ q → P q) → (P p → ⊥) → FirstBad n P p
+  ends-bad p a b before bad = record { within = b; start = a; before = before; bad = λ _. bad }
+
+  pub ends-fine : (p : ℕ) → 2 ≤ p → p ≤ n → n ≤ p → ((q : ℕ) → q < p → 2 ≤ q → P q) → FirstBad n P n
+  ends-fine p a b c before = record { within = omega arith; start = omega arith; before = λ q l. before q (omega arith); bad = λ l. absurd (omega arith) }

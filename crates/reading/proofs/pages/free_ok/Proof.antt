@@ -1,0 +1,46 @@
+use Prim.Native.Nat.{_^_}
+use Rattle.reading.proofs.Naming.{unnamed}
+use Rattle.reading.specs.Directory.{NoneIs}
+use Rattle.words.specs.Zeros.{Zero}
+use Rattle.ground.proofs.Tests.{says-true, says-false, says-same}
+use borrow.Author.Tests.{not-true, not-false, leb-true, leb-false}
+use mathlib.Core.Path.{_≡_, ap}
+use native.Mathlib.Omega.{arith}
+use borrow.Author.Needs.{needs}
+use Rattle.reading.proofs.pages.free_ok.Statement.{statement}
+use Rattle.reading.proofs.pages.free_ok.Tie as tie
+use Rattle.reading.proofs.pages.free_ok.Reads as reads
+use Rattle.reading.proofs.pages.free_ok.Lts as lts
+use Rattle.reading.proofs.directory.none_is.Reads as none-is-reads
+use Rattle.reading.proofs.directory.two_to.Reads as two-to-reads
+use Rattle.words.proofs.all_zero.Reads as all-zero-reads
+
+-- src/pages.rt:19:9
+all-zero-requires : tie.Need-all-zero-requires
+all-zero-requires c κs = search needs
+
+-- src/pages.rt:20:9
+returns : tie.Need-returns
+returns c = λ e. says-false {P = Zero (c .before .before .before .before .args .pg .now)} (c .before .all-zero .result) (not-true _ (c .if1 .taken)) (c .before .all-zero .ensures) (e .zero)
+
+-- src/pages.rt:22:21
+two-to-requires : tie.Need-two-to-requires
+two-to-requires c κs = search needs
+
+-- src/pages.rt:22:5
+none-is-requires : tie.Need-none-is-requires
+none-is-requires c κs = search needs
+
+-- src/pages.rt:15:1
+returns-2 : tie.Need-returns-2
+returns-2 c =
+    let a = c .before .before .before .before .before .before in
+    let x = a .args in
+    let m : NoneIs (x .dir .now) 0 (c .before .two-to .result) (x .p) → NoneIs (x .dir .now) 0 256 (x .p) = λ n. unnamed (x .dir .now) (x .d) (x .p) (a .pre .2) (a .pre .3) (λ i l h. n i l (omega (arith, c .before .two-to .ensures))) in
+    says-same {P = NoneIs (x .dir .now) 0 (c .before .two-to .result) (x .p)} (c .none-is .result) (c .none-is .ensures)
+    (λ n. record { zero = says-true {P = Zero (x .pg .now)} (c .before .before .before .all-zero .result) (not-false _ (c .before .before .if1 .left)) (c .before .before .before .all-zero .ensures); unnamed = m n })
+    (λ e i l h. e .unnamed i l (omega (arith, c .before .two-to .ensures)))
+
+pub free-ok-spec : {M : Type 1} → statement M
+free-ok-spec =
+    tie.close (tie.spec all-zero-requires returns two-to-requires none-is-requires returns-2)

@@ -1,0 +1,40 @@
+// The check's passes, in document order.
+ghost use Rattle.hash.specs.Fnv.{fnv};
+ghost use Rattle.store.specs.Pages.{S1024};
+ghost use Rattle.store.specs.Accepted.{GoodLength};
+ghost use Rattle.reading.specs.First.{Judged};
+use super::directory::entries;
+use super::directory::ranges;
+use super::directory::two_to;
+use super::head::page0_ok;
+use super::pages::first_unsound;
+use super::parted::first_joinable;
+
+// The page at which the check stops, or the number of pages.
+pub fn first_bad(s: &[u8]) -> usize
+    requires { ⌜ GoodLength S1024 (now s) ⌝ }
+    ensures { λ r. ⌜ Judged S1024 fnv (now (s .entry)) r ⌝ }
+{
+    let n = s.len() / 1024;
+    if !page0_ok(s, n) {
+        return 0;
+    }
+    let d = words::get32(s, 16) as u32;
+    let mut dir = [0u32; 256];
+    entries(s, &mut dir);
+    if !ranges(&dir, n as u32, two_to(d)) {
+        return 1;
+    }
+    let p = first_unsound(s, &dir, n, d);
+    if p < n {
+        return p;
+    }
+    let q = first_joinable(s, n);
+    if q < n {
+        return q;
+    }
+    if store::deepest(s, n) != d as usize {
+        return 0;
+    }
+    n
+}

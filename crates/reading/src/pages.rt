@@ -1,0 +1,77 @@
+// Pass 1: pages 2 upward, each for its own bytes, its depth and the entries that name it.
+ghost use mathlib.Core.Path.{_≡_};
+ghost use Prim.Native.Nat.{_≤_, _^_};
+ghost use lib.ListN.{length};
+ghost use Rattle.ground.specs.Says.{Says};
+ghost use Rattle.hash.specs.Fnv.{fnv};
+ghost use Rattle.store.specs.Pages.{S1024};
+ghost use Rattle.store.specs.Accepted.{Stands};
+ghost use Rattle.reading.specs.First.{FirstBad};
+ghost use Rattle.reading.specs.Directory.{AllAre};
+ghost use Rattle.reading.specs.Begun.{Begun, Free, Own};
+use super::directory::named;
+use super::directory::none_is;
+use super::directory::two_to;
+
+// Whether a page is free and named by none.
+fn free_ok(pg: &[u8], dir: &[u32], d: u32, p: u32) -> bool
+    requires { ⌜ (length (now dir) ≡ 256) × (d ≤ 8) × (2 ≤ p) × AllAre (now dir) (2 ^ d) 256 0 ⌝ }
+    ensures { λ r. ⌜ Says r (Free (now (pg .entry)) (now (dir .entry)) p) ⌝ }
+{
+    if !words::all_zero(pg) {
+        return false;
+    }
+    none_is(dir, 0, two_to(d), p)
+}
+
+// Whether a page is a bucket of depth at most d, but for its hashes.
+fn own_ok(pg: &[u8], marks: &mut [u8], d: u32) -> bool
+    requires { ⌜ length (now marks) ≡ length (now pg) ⌝ }
+    ensures { λ r. ⌜ Says r (Own (now (pg .entry)) d) ⌝ }
+{
+    if !audit::page_ok(pg, marks) {
+        return false;
+    }
+    (pg[1] as u32) <= d
+}
+
+// The first page that does not stand, or n.
+pub fn first_unsound(s: &[u8], dir: &[u32], n: usize, d: u32) -> usize
+    requires { ⌜ Begun (now s) (now dir) n d ⌝ }
+    ensures { λ r. ⌜ FirstBad n (Stands S1024 fnv (now (s .entry))) r ⌝ }
+{
+    let mut marks = [255u8; 1024];
+    let mut p = 2;
+    'pages: loop {
+        if n <= p {
+            break 'pages n;
+        }
+        let a = p * 1024;
+        let e = a + 1024;
+        let pg = &s[a..e];
+        if pg[0] == 0 {
+            if !free_ok(pg, dir, d, p as u32) {
+                break 'pages p;
+            }
+            p += 1;
+            continue 'pages;
+        }
+        if !own_ok(pg, &mut marks, d) {
+            break 'pages p;
+        }
+        let k = pg[1];
+        let first = audit::hash_slot(pg, 0);
+        let count = words::get16(pg, 2);
+        let mut i = 1;
+        'slots: while i < count {
+            if !audit::shares(first, audit::hash_slot(pg, i), k) {
+                break 'pages p;
+            }
+            i += 1;
+        }
+        if !named(dir, d, k as u32, first, p as u32) {
+            break 'pages p;
+        }
+        p += 1;
+    }
+}
