@@ -9,6 +9,10 @@ pub mod Laying
 pub mod Vacancy
 pub mod Settles
 pub mod NewBuckets
+pub mod Weighs
+pub mod Appends
+pub mod Splits
+pub mod Heavy
 pub mod Empties
 pub mod Joins
 pub mod Removes

@@ -38,7 +38,8 @@ use Rattle.store.proofs.Views.{setPage}
 use Rattle.change.specs.Directory.{Directed}
 use Rattle.change.specs.Put.{Puttable, Unset, Vacant}
 use Rattle.change.proofs.Vacancy.{off, set-entry, some-row}
-use Rattle.change.proofs.Settles.{Rewritten, rewritten-set, set-holds, unwritten, settled}
+use Rattle.change.specs.Split.{Rewritten}
+use Rattle.change.proofs.Settles.{rewritten-set, set-holds, unwritten, settled}
 
 -- a free page is one of those counted
 pub free-some : (gs : List Page) (i : ℕ) → i < length gs → isFree (getD gs i free) ≡ true → 0 < frees gs

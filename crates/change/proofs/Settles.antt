@@ -19,13 +19,8 @@ use Rattle.store.proofs.Unique.{read-used}
 use Rattle.store.proofs.Accepting.{accepted-laid, head-kept, laid-becomes}
 use Rattle.store.proofs.Views.{setPage, set-long, set-same, set-other, set-below, set-contents}
 use Rattle.change.specs.Directory.{Directed, Sound, free, used, Settling}
+use Rattle.change.specs.Split.{Rewritten}
 use Rattle.change.proofs.Laying.{directed-laid}
-
--- t is s but for its pages from 2 on, which are sound
-pub record Rewritten (s t : List ℕ) : Type 0 where
-  pub long : length t ≡ length s
-  pub low : (k : ℕ) → k < 2048 → byte t k ≡ byte s k
-  pub sound : (p : ℕ) → 2 ≤ p → p < pages S1024 s → Sound (page S1024 t p)
 
 -- one page more
 module _ (s t : List ℕ) (W : Rewritten s t) (p : ℕ) (two : 2 ≤ p) (to : p < pages S1024 s) (q : List ℕ) (Q : BucketPage q) (long : length q ≡ 1024) (deep : depth q ≤ 8) where

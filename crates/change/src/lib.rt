@@ -4,13 +4,16 @@ ghost use Rattle.ground.specs.Ladder.{Answers};
 ghost use Rattle.store.specs.Pages.{S1024};
 ghost use Rattle.store.specs.Tables.{formatTable, meaning};
 
+mod bucket;
 mod directory;
 mod join;
 mod pages;
 mod prefix;
 mod put;
 mod removal;
+mod split;
 mod vacant;
+mod weigh;
 
 pub use removal::remove;
 pub use removal::remove_row;

@@ -24,7 +24,7 @@ pub fn lowest_free(s: &[u8], n: usize) -> usize
 // How many of n pages are free.
 pub fn free_pages(s: &[u8], n: usize) -> usize
     requires { ⌜ (length (now s) ≡ n * 1024) × (2 ≤ n) ⌝ }
-    ensures { λ r. ⌜ r ≡ frees (contents S1024 (now (s .entry))) ⌝ }
+    ensures { λ r. ⌜ (r ≡ frees (contents S1024 (now (s .entry)))) × (r ≤ n) ⌝ }
 {
     let mut many = 0;
     let mut p = 2;

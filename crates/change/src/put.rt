@@ -14,6 +14,7 @@ ghost use Rattle.store.proofs.Reading.{Naming, entryOf};
 ghost use Rattle.change.specs.Put.{Puttable};
 use super::directory::settle;
 use super::pages::lowest_free;
+use super::split::split;
 use super::vacant::vacant_depth;
 
 // The code in slot i of page p gets another place.
@@ -56,4 +57,39 @@ fn new_bucket(s: &mut [u8], x: u32, d: u32, key: &[u8], place: &[u8]) -> store::
     page::start_page(&mut s[a..e], k as u8, key, place);
     settle(s, n);
     store::Answer::New
+}
+
+// Page p holds the hash of the code.
+fn put_on(s: &mut [u8], p: usize, key: &[u8], place: &[u8]) -> store::Answer
+    requires { ⌜ Puttable fnv (now s) (now key) (now place) × Naming S1024 fnv (now s) (top (dirDepth (now s)) (fnv (now key))) p ⌝ }
+    ensures { λ r. ⌜ Answers (putAccepted S1024 fnv (now (s .entry)) (record { code = now (key .entry); place = now (place .entry) })) (meaning r, now (s .exit)) ⌝ }
+{
+    let a = p * 1024;
+    let e = a + 1024;
+    let found = page::find_code(&s[a..e], key);
+    match found {
+        page::Found::At(i) => replace(s, p, i, place),
+        page::Found::Absent(i) => {
+            let room = words::get16(&s[a..e], 6);
+            if 12 + key.len() <= room {
+                return add_row(s, p, i, key, place);
+            }
+            split(s, p, i, key, place)
+        }
+    }
+}
+
+// The row on an accepted store.
+pub fn put_row(s: &mut [u8], key: &[u8], place: &[u8]) -> store::Answer
+    requires { ⌜ Puttable fnv (now s) (now key) (now place) ⌝ }
+    ensures { λ r. ⌜ Answers (putAccepted S1024 fnv (now (s .entry)) (record { code = now (key .entry); place = now (place .entry) })) (meaning r, now (s .exit)) ⌝ }
+{
+    let x = hash::hash(key);
+    let d = words::get32(s, 16) as u32;
+    let i = partition::top_bits(x, d) as usize;
+    let p = words::get32(s, 1024 + 4 * i);
+    if p == 0 {
+        return new_bucket(s, x, d, key, place);
+    }
+    put_on(s, p, key, place)
 }

@@ -48,7 +48,7 @@ loop-again c =
 returns : tie.Need-returns Inv-loop μ-loop
 returns c =
     let s = c .before .before .args .s .now in
-    omega (arith, frees-end (contents S1024 s) (c .before .loop .p - 2) (omega (arith, pages-held S1024 s)))
+    (omega (arith, frees-end (contents S1024 s) (c .before .loop .p - 2) (omega (arith, pages-held S1024 s))), omega arith)
 
 pub free-pages-spec : {M : Type 1} → statement M
 free-pages-spec =
