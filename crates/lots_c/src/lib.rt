@@ -136,3 +136,10 @@ pub extern "C" fn lots_inspect(page: &[u8], n: u64, out: &mut [u8], code_len: &m
     *code_len = length_after(a, old);
     word_of(a)
 }
+
+#[no_mangle]
+pub extern "C" fn lots_remove(store: &mut [u8], code: &[u8]) -> u64
+    ensures { λ r. ⌜ TellsAnd (removeTable S1024 fnv (now (store .entry)) (now (code .entry))) (now (store .exit)) r ⌝ }
+{
+    word_of(change::remove(store, code))
+}
