@@ -22,7 +22,7 @@ use ghost.Atoms.{Atoms, sem}
 use contract.Lifetimes.{Lfts}
 use contract.Monad.{Fun, fact}
 use contract.Running.{givenOf, tables, tablesOf}
-use types.Kit.{Given, Item, ‵, raw, runs, anyQ, atRet, Sq, _⊛_, ⋆, some, later, _$_, _∵_, !, qed, by, move, keep, drop, use1, use2, split, pick, rewrite, fsplit, fjoin, suffices, frame, await, done}
+use types.Kit.{Given, Item, ‵, raw, runs, anyQ, atRet, Sq, _⊛_, ⋆, some, later, _$_, _∵_, !, qed, by, move, drop, use1, use2, split, pick, rewrite, fsplit, fjoin, suffices, frame, await, done}
 use types.Part.{whole, sub, look-in}
 use types.Run.{look, store, init, forget, stop, fld, from, load, of-opd, bin, and-then, no-more, assigns, land, land-last, first, skips, jumps, blocks, branches, returns, enter, alloc1, alloc0, params1, pass1, pass0, free1, free0, exec, Below, again, loops}
 use sound.WpLaws.{FmC, fmOf, WpFn-mono}
