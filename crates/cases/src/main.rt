@@ -1,4 +1,5 @@
 // The worked cases of document 01 that run; what they must write stands in `stdout`.
+mod reads;
 mod show;
 
 use libc::STDOUT_FILENO;
@@ -6,6 +7,7 @@ use page::Place;
 
 fn main() {
     case_10();
+    reads::row_by_row();
 }
 
 // "a" with place (7, 2, 0): page 2, whatever it held.

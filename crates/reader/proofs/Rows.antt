@@ -5,7 +5,7 @@ use mathlib.Core.Logic.{_⊎_, inl, inr, ⊎-elim}
 use mathlib.Core.Option.{some, none}
 use Prim.Native.Nat.{ℕ, _+_, _-_, _≤_, _<_, min}
 use native.Mathlib.Omega.{arith}
-use lib.ListN.{length, drop}
+use lib.ListN.{length, drop, length-append}
 use Rattle.ground.specs.Ladder.{Answers}
 use Rattle.ground.proofs.Sides.{side}
 use Rattle.words.specs.Le.{le16}
@@ -47,6 +47,13 @@ few (x ∷ q) r = let b = slotted (x ∷ q) (r .sound (omega arith)) in omega (a
 
 not-both : {r : Row} → none ≡ some r → ⊥
 not-both e = let z : _≡_ {A = ℕ} 0 1 = cc in omega arith
+
+-- a row is no refusal
+unanswered : {m k : ℕ} {p : Place} → row m p ≡ refused k → ⊥
+unanswered e = let z : _≡_ {A = ℕ} 0 1 = cc in omega arith
+
+unanswered′ : {m k j : ℕ} {p : Place} → row m p ≡ refusedAt k j → ⊥
+unanswered′ e = let z : _≡_ {A = ℕ} 0 1 = cc in omega arith
 
 module _ (g : List ℕ) (n : ℕ) (out : List ℕ) where
   pub nth-none : (Sound g → ⊥) → Answers (nthTable g n out) (refusedAt 2 0, out)
@@ -102,6 +109,19 @@ module _ (g : List ℕ) (n : ℕ) (out : List ℕ) where
   pub inspect-length : (length g ≡ 1024 → ⊥) → Answers (inspectTable S1024 fnv g n out) (refused 1, out)
   unfolding inspectTable
   inspect-length h = inl (tt, (h, refl))
+
+  -- the code that is given fits the output
+  pub inspect-fits : (m : ℕ) (p : Place) (out′ : List ℕ) → Answers (inspectTable S1024 fnv g n out) (row m p, out′) → m ≤ length out′
+  unfolding inspectTable
+  inspect-fits m p out′ (inl x) = absurd (unanswered (ap (λ r. r .0) (x .1 .1)))
+  inspect-fits m p out′ (inr (_, inl x)) = absurd (unanswered (ap (λ r. r .0) (x .1 .1)))
+  inspect-fits m p out′ (inr (_, inr (_, inl x))) = absurd (unanswered′ (ap (λ r. r .0) (x .1 .1)))
+  inspect-fits m p out′ (inr (_, inr (_, inr (_, (_, inr x))))) = absurd (unanswered (ap (λ r. r .0) (x .1)))
+  inspect-fits m p out′ (inr (_, inr (_, inr (_, (_, inl (r, (_, e))))))) =
+      let a : row m p ≡ row (length (r .code)) (place (r .place)) = ap (λ r. r .0) e in
+      let b : m ≡ length (r .code) = cc in
+      let c : length out′ ≡ length (r .code) + length (drop (length (r .code)) out) = ap (λ r. length (r .1)) e ∙ length-append (r .code) (drop (length (r .code)) out) in
+      omega arith
 
   module _ (long : length g ≡ 1024) where
     pub inspect-short : length out < 64 → Answers (inspectTable S1024 fnv g n out) (refused 8, out)
