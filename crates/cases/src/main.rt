@@ -1,5 +1,7 @@
 // The worked cases of document 01 that run; what they must write stands in `stdout`.
 mod answers;
+mod history;
+mod reads;
 mod refusals;
 mod show;
 
@@ -15,6 +17,9 @@ fn main() {
     refusals::all(&store, &damaged, &damaged[..3071]);
     let free = [0u8; 1024];
     refusals::inspections(&store[2048..3072], &damaged[1024..2048], &damaged[1024..2047], &free);
+    reads::row_by_row();
+    history::case_11();
+    history::up_and_down();
 }
 
 // In 3 pages, "a" with place (7, 2, 0), whatever they held.

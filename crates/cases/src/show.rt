@@ -16,7 +16,7 @@ fn end() {
 }
 
 // The bytes on one line.
-fn digits(b: &[u8]) {
+pub fn digits(b: &[u8]) {
     let mut i = 0;
     while i < b.len() {
         space();

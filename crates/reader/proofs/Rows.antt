@@ -1,12 +1,13 @@
 -- Laws of what a reader reads, and of the table of one row. Assumes nothing.
 use mathlib.Core.Path.{_≡_, refl, sym, ap, _∙_}
 use mathlib.Core.List.{List, [], _∷_, _++_}
-use mathlib.Core.Logic.{inl, inr, ⊎-elim}
+use mathlib.Core.Logic.{_⊎_, inl, inr, ⊎-elim}
 use mathlib.Core.Option.{some, none}
-use Prim.Native.Nat.{ℕ, _≤_, _<_}
+use Prim.Native.Nat.{ℕ, _+_, _-_, _≤_, _<_, min}
 use native.Mathlib.Omega.{arith}
-use lib.ListN.{length, drop}
+use lib.ListN.{length, drop, length-append}
 use Rattle.ground.specs.Ladder.{Answers}
+use Rattle.ground.proofs.Sides.{side}
 use Rattle.words.specs.Le.{le16}
 use Rattle.words.specs.Zeros.{Zero}
 use Rattle.hash.specs.Fnv.{fnv}
@@ -15,8 +16,8 @@ use Rattle.page.specs.Page as Page
 use Rattle.page.specs.declared.Place.{Place}
 use Rattle.page.specs.Places.{place}
 use Rattle.partition.specs.Partition.{Row}
-use Rattle.store.specs.Pages.{S1024, read, asRow}
-use Rattle.store.specs.Tables.{Out, refused, refusedAt, row, PageKeeps, inspectTable}
+use Rattle.store.specs.Pages.{S1024, read, asRow, rowsOn}
+use Rattle.store.specs.Tables.{Out, refused, refusedAt, row, rowOf, PageKeeps, inspectTable}
 use Rattle.store.proofs.Reading.{row-slot, row-past, row-free}
 use Rattle.reader.specs.Read.{Sound, Reads, whole, nothing, Readable, nthTable}
 
@@ -40,8 +41,19 @@ at-row (x ∷ q) k r h = r .sound (omega arith)
 pub slotted : (q : List ℕ) → Sound q → Slotted q
 slotted q s = s .keeps .rules .rules
 
+pub few : (q : List ℕ) → Readable q → count q ≤ 4096
+few [] r = omega (arith, count-none)
+few (x ∷ q) r = let b = slotted (x ∷ q) (r .sound (omega arith)) in omega (arith, b .room, b .most)
+
 not-both : {r : Row} → none ≡ some r → ⊥
 not-both e = let z : _≡_ {A = ℕ} 0 1 = cc in omega arith
+
+-- a row is no refusal
+unanswered : {m k : ℕ} {p : Place} → row m p ≡ refused k → ⊥
+unanswered e = let z : _≡_ {A = ℕ} 0 1 = cc in omega arith
+
+unanswered′ : {m k j : ℕ} {p : Place} → row m p ≡ refusedAt k j → ⊥
+unanswered′ e = let z : _≡_ {A = ℕ} 0 1 = cc in omega arith
 
 module _ (g : List ℕ) (n : ℕ) (out : List ℕ) where
   pub nth-none : (Sound g → ⊥) → Answers (nthTable g n out) (refusedAt 2 0, out)
@@ -69,6 +81,17 @@ module _ (g : List ℕ) (n : ℕ) (out : List ℕ) where
     ),
   )
 
+  -- past the rows it is as at their end: k is n, or the end where n is past it
+  pub nth-near : (z k : ℕ) → z ≡ 0 → k ≡ z + min (count g - z) n → (r : Out × List ℕ) → Answers (nthTable g k out) r → Answers (nthTable g n out) r
+  unfolding nthTable
+  nth-near z k e f r (inl x) = inl x
+  nth-near z k e f r (inr x) = inr ((λ _ u. u (x .1 .0)), (x .1 .0, go (side n (count g)) (x .1 .1)))
+    where
+      go : (n < count g) ⊎ (count g ≤ n) → Answers (rowOf (rowsOn (read g)) k out) r → Answers (rowOf (rowsOn (read g)) n out) r
+      go (inl l) a = let q : k ≡ n = omega arith in rw q at a
+      go (inr l) (inl y) = let b : count g ≤ k = omega arith in absurd (not-both (sym (row-past g (x .1 .0 .keeps .rules) k b) ∙ y .1 .0))
+      go (inr l) (inr y) = inr ((λ s b. not-both (sym (row-past g (x .1 .0 .keeps .rules) n l) ∙ b)), y .1)
+
 -- what is read of page g may be read, and its row n is g's
 pub reads-readable : {g q : List ℕ} → Reads g q → Readable q
 reads-readable (whole s e) = record { sound = λ _. rw e s }
@@ -86,6 +109,19 @@ module _ (g : List ℕ) (n : ℕ) (out : List ℕ) where
   pub inspect-length : (length g ≡ 1024 → ⊥) → Answers (inspectTable S1024 fnv g n out) (refused 1, out)
   unfolding inspectTable
   inspect-length h = inl (tt, (h, refl))
+
+  -- the code that is given fits the output
+  pub inspect-fits : (m : ℕ) (p : Place) (out′ : List ℕ) → Answers (inspectTable S1024 fnv g n out) (row m p, out′) → m ≤ length out′
+  unfolding inspectTable
+  inspect-fits m p out′ (inl x) = absurd (unanswered (ap (λ r. r .0) (x .1 .1)))
+  inspect-fits m p out′ (inr (_, inl x)) = absurd (unanswered (ap (λ r. r .0) (x .1 .1)))
+  inspect-fits m p out′ (inr (_, inr (_, inl x))) = absurd (unanswered′ (ap (λ r. r .0) (x .1 .1)))
+  inspect-fits m p out′ (inr (_, inr (_, inr (_, (_, inr x))))) = absurd (unanswered (ap (λ r. r .0) (x .1)))
+  inspect-fits m p out′ (inr (_, inr (_, inr (_, (_, inl (r, (_, e))))))) =
+      let a : row m p ≡ row (length (r .code)) (place (r .place)) = ap (λ r. r .0) e in
+      let b : m ≡ length (r .code) = cc in
+      let c : length out′ ≡ length (r .code) + length (drop (length (r .code)) out) = ap (λ r. length (r .1)) e ∙ length-append (r .code) (drop (length (r .code)) out) in
+      omega arith
 
   module _ (long : length g ≡ 1024) where
     pub inspect-short : length out < 64 → Answers (inspectTable S1024 fnv g n out) (refused 8, out)

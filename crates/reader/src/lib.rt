@@ -1,7 +1,7 @@
 // A page reader: it borrows one bucket page and hands out row after row. Inspection is built on it.
 // Each function over the struct is a walk by hand: it takes the struct apart, and the work is in slots.
 ghost use mathlib.Core.Path.{_≡_};
-ghost use Prim.Native.Nat.{_+_, _-_, _≤_, _<_};
+ghost use Prim.Native.Nat.{_+_, _-_, _≤_, _<_, min};
 ghost use lib.ListN.{length};
 ghost use Rattle.ground.specs.Ladder.{Answers};
 ghost use Rattle.hash.specs.Fnv.{fnv};
@@ -21,13 +21,13 @@ pub struct Reader<'a> {
     pub slot: usize,
 }
 
-// A reader of a page, at a slot; of a page that is free or breaks a rule it reads nothing.
-pub fn open<'a>(page: &'a [u8], slot: usize) -> Reader<'a>
-    ensures { λ r. ⌜ Reads (now (page .entry)) (now (r .page)) × (r .slot ≡ slot) ⌝ }
+// A reader of a page, at its first row; of a page that is free or breaks a rule it reads nothing.
+pub fn open<'a>(page: &'a [u8]) -> Reader<'a>
+    ensures { λ r. ⌜ Reads (now (page .entry)) (now (r .page)) × (r .slot ≡ 0) ⌝ }
 {
     Reader {
         page: slots::sound_part(page),
-        slot,
+        slot: 0,
     }
 }
 
@@ -66,6 +66,19 @@ pub fn next<'a>(r: Reader<'a>) -> Reader<'a>
     }
 }
 
+// The reader n rows on, or at the end where fewer are left.
+pub fn skip<'a>(r: Reader<'a>, n: usize) -> Reader<'a>
+    requires { ⌜ Readable (now (r .page)) ⌝ }
+    ensures { λ q. ⌜ (q .page ≡ r .entry .page) × (q .slot ≡ r .entry .slot + min (Page.count (now (r .entry .page)) - r .entry .slot) n) ⌝ }
+{
+    let end = slots::row_after(r.page, r.slot, n);
+    let mut q = r;
+    while q.slot < end {
+        q = next(q);
+    }
+    q
+}
+
 // The row, its code to the start of out.
 pub fn give<'a, 'o>(r: Reader<'a>, out: &'o mut [u8]) -> Answer
     requires { ⌜ Readable (now (r .page)) × (64 ≤ length (now out)) ⌝ }
@@ -74,12 +87,12 @@ pub fn give<'a, 'o>(r: Reader<'a>, out: &'o mut [u8]) -> Answer
     slots::give_at(r.page, r.slot, out)
 }
 
-// Row n of a page, with plain parameters, by way of the reader.
+// Row n of a page, with plain parameters: the reader goes there row after row.
 pub fn nth(page: &[u8], n: usize, out: &mut [u8]) -> Answer
     requires { ⌜ 64 ≤ length (now out) ⌝ }
     ensures { λ r. ⌜ Answers (nthTable (now (page .entry)) n (now (out .entry))) (meaning r, now (out .exit)) ⌝ }
 {
-    give(open(page, n), out)
+    give(skip(open(page), n), out)
 }
 
 // Inspection of one page.

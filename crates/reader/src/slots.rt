@@ -1,6 +1,6 @@
 // What a reader does, over its page and its slot number: the covered work under the struct.
 ghost use mathlib.Core.Path.{_≡_};
-ghost use Prim.Native.Nat.{_+_, _-_, _≤_, _<_};
+ghost use Prim.Native.Nat.{_+_, _-_, _≤_, _<_, min};
 ghost use lib.ListN.{length};
 ghost use Rattle.ground.specs.Says.{Says};
 ghost use Rattle.ground.specs.Ladder.{Answers};
@@ -72,6 +72,18 @@ pub fn next_at(page: &[u8], slot: usize) -> usize
     ensures { λ k. ⌜ k ≡ slot + 1 ⌝ }
 {
     slot + 1
+}
+
+// The slot n rows after a slot, or the end where fewer are left.
+pub fn row_after(page: &[u8], slot: usize, n: usize) -> usize
+    requires { ⌜ Readable (now page) ⌝ }
+    ensures { λ k. ⌜ k ≡ slot + min (count (now (page .entry)) - slot) n ⌝ }
+{
+    let rest = left_at(page, slot);
+    if rest < n {
+        return slot + rest;
+    }
+    slot + n
 }
 
 // A slot's row: its code goes to the start of out.
