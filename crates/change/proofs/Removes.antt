@@ -48,7 +48,8 @@ use Rattle.change.specs.Prefix.{loadIn, Climbed}
 use Rattle.change.specs.Join.{othersIn, Joinable, Rejoined}
 use Rattle.change.specs.Remove.{Leaving, left, Fits}
 use Rattle.change.proofs.OnePage.{laid-set}
-use Rattle.change.proofs.Settles.{Rewritten, unwritten, settled}
+use Rattle.change.specs.Split.{Rewritten}
+use Rattle.change.proofs.Settles.{unwritten, settled}
 use Rattle.change.proofs.Gathers.{cut-append, cut-same as cut-key}
 
 module _ (h : List ℕ → ℕ) (hash : Hash h) (s : List ℕ) (p i : ℕ) (c : List ℕ) (L : Leaving h s p i c) where

@@ -21,7 +21,8 @@ use Rattle.change.specs.Remove.{Fits}
 use Rattle.change.specs.Join.{Joinable, Rejoined}
 use Rattle.change.specs.Prefix.{Climbed}
 use Rattle.change.specs.Directory.{Sound, free, used, Settling, Directed}
-use Rattle.change.proofs.Settles.{Rewritten, unwritten, settling}
+use Rattle.change.specs.Split.{Rewritten}
+use Rattle.change.proofs.Settles.{unwritten, settling}
 use Rattle.change.proofs.Removes.{climbed-fits, loses, settles, clear-written, clear-holds, joinable, join-written, join-holds}
 use Rattle.change.proofs.Directories.{page-byte}
 use Rattle.change.proofs.OnePage.{lent, back}
