@@ -9,12 +9,14 @@ mod directory;
 mod join;
 mod pages;
 mod prefix;
-mod put;
+mod putting;
 mod removal;
 mod split;
 mod vacant;
 mod weigh;
 
+pub use putting::put;
+pub use putting::put_row;
 pub use removal::remove;
 pub use removal::remove_row;
 

@@ -17,8 +17,8 @@ use Rattle.store.specs.Demands.{sized-1024}
 use Rattle.store.proofs.Views.{setPage}
 use Rattle.change.proofs.OnePage.{lent, back}
 use Rattle.change.proofs.Puts.{put-known}
-use Rattle.change.proofs.put.replace.Statement.{statement}
-use Rattle.change.proofs.put.replace.Tie as tie
+use Rattle.change.proofs.putting.replace.Statement.{statement}
+use Rattle.change.proofs.putting.replace.Tie as tie
 
 abbrev s : tie.Start → List ℕ
 s z = now (z .args .s)

@@ -14,8 +14,8 @@ use mathlib.Core.List.{List}
 use mathlib.Core.Path.{_≡_, sym, ap, subst, _∙_}
 -- `change::put_on` meets its contract, by where the code stands. Assumes nothing.
 use borrow.Author.Needs.{needs}
-use Rattle.change.proofs.put.put_on.Statement.{statement}
-use Rattle.change.proofs.put.put_on.Tie as tie
+use Rattle.change.proofs.putting.put_on.Statement.{statement}
+use Rattle.change.proofs.putting.put_on.Tie as tie
 
 module _ (a : tie.After-find-code) where
   abbrev z : tie.Start

@@ -18,8 +18,8 @@ use mathlib.Core.List.{List}
 use mathlib.Core.Path.{subst₂}
 -- `change::new_bucket` meets its contract: the row alone in the lowest free page, then the directory. Assumes nothing.
 use borrow.Author.Needs.{needs}
-use Rattle.change.proofs.put.new_bucket.Statement.{statement}
-use Rattle.change.proofs.put.new_bucket.Tie as tie
+use Rattle.change.proofs.putting.new_bucket.Statement.{statement}
+use Rattle.change.proofs.putting.new_bucket.Tie as tie
 
 abbrev s : tie.Start → List ℕ
 s z = now (z .args .s)

@@ -9,7 +9,7 @@ ghost use Rattle.page.specs.Packed.{Fitting};
 ghost use Rattle.partition.specs.Bits.{top};
 ghost use Rattle.store.specs.Pages.{S1024, page, dirDepth};
 ghost use Rattle.store.specs.Accepted.{Accepted};
-ghost use Rattle.store.specs.Tables.{putAccepted, meaning};
+ghost use Rattle.store.specs.Tables.{putAccepted, putTable, meaning};
 ghost use Rattle.store.proofs.Reading.{Naming, entryOf};
 ghost use Rattle.change.specs.Put.{Puttable};
 use super::directory::settle;
@@ -92,4 +92,29 @@ pub fn put_row(s: &mut [u8], key: &[u8], place: &[u8]) -> store::Answer
         return new_bucket(s, x, d, key, place);
     }
     put_on(s, p, key, place)
+}
+
+// A code gets a place.
+pub fn put(s: &mut [u8], key: &[u8], place: page::Place) -> store::Answer
+    ensures { λ r. ⌜ Answers (putTable S1024 fnv (now (s .entry)) (now (key .entry)) place) (meaning r, now (s .exit)) ⌝ }
+{
+    if !reading::good_length(s) {
+        return store::Answer::BadLength;
+    }
+    if key.len() == 0 {
+        return store::Answer::BadCode;
+    }
+    if 64 < key.len() {
+        return store::Answer::BadCode;
+    }
+    if page::negative(place) {
+        return store::Answer::BadPlace;
+    }
+    let p = reading::first_bad(s);
+    if p < s.len() / 1024 {
+        return store::Answer::BadPage(p);
+    }
+    let mut bytes = [0u8; 8];
+    page::store_place(&mut bytes, place);
+    put_row(s, key, &bytes)
 }

@@ -15,8 +15,8 @@ use Rattle.store.specs.Demands.{sized-1024}
 use Rattle.store.proofs.Unique.{page-long}
 use Rattle.change.proofs.OnePage.{lent, back}
 use Rattle.change.proofs.Puts.{put-fitted}
-use Rattle.change.proofs.put.add_row.Statement.{statement}
-use Rattle.change.proofs.put.add_row.Tie as tie
+use Rattle.change.proofs.putting.add_row.Statement.{statement}
+use Rattle.change.proofs.putting.add_row.Tie as tie
 
 abbrev s : tie.Start → List ℕ
 s z = now (z .args .s)

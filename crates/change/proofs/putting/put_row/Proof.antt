@@ -12,8 +12,8 @@ use mathlib.Core.List.{List}
 use mathlib.Core.Path.{_≡_, sym, ap, subst, _∙_}
 -- `change::put_row` meets its contract, by the entry of the hash. Assumes nothing.
 use borrow.Author.Needs.{needs}
-use Rattle.change.proofs.put.put_row.Statement.{statement}
-use Rattle.change.proofs.put.put_row.Tie as tie
+use Rattle.change.proofs.putting.put_row.Statement.{statement}
+use Rattle.change.proofs.putting.put_row.Tie as tie
 
 -- the depth, and the entry of the hash
 module _ (b : tie.After-top-bits) where
