@@ -1,6 +1,5 @@
 // The worked cases of document 01 that run; what they must write stands in `stdout`.
 mod answers;
-mod history;
 mod reads;
 mod refusals;
 mod show;
@@ -14,12 +13,8 @@ fn main() {
     case_10(&mut store);
     let mut damaged = store;
     damaged[1024] = 1;
-    refusals::all(&store, &damaged, &damaged[..3071]);
-    let free = [0u8; 1024];
-    refusals::inspections(&store[2048..3072], &damaged[1024..2048], &damaged[1024..2047], &free);
+    refusals::all(&store, &damaged);
     reads::row_by_row();
-    history::case_11();
-    history::up_and_down();
 }
 
 // In 3 pages, "a" with place (7, 2, 0), whatever they held.

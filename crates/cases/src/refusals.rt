@@ -2,6 +2,16 @@
 use crate::answers::say_number;
 use crate::answers::say_place;
 
+// The bytes from a up to e, where there are so many.
+fn part(b: &[u8], a: usize, e: usize) -> &[u8] {
+    if a <= e {
+        if e <= b.len() {
+            return &b[a..e];
+        }
+    }
+    b
+}
+
 fn checks(sound: &[u8], damaged: &[u8], short: &[u8]) {
     say_number(b"check, 3071 bytes:", lots_c::lots_check(short));
     say_number(b"check, damaged store:", lots_c::lots_check(damaged));
@@ -54,15 +64,23 @@ fn rows(sound: &[u8], damaged: &[u8], short: &[u8]) {
     say_number(b"its length:", len as u64);
 }
 
-// The store, the same with a fault in page 1, and that one byte short.
-pub fn all(sound: &[u8], damaged: &[u8], short: &[u8]) {
+// The store of case 10, and the same with a fault in page 1.
+pub fn all(sound: &[u8], damaged: &[u8]) {
+    let short = part(damaged, 0, 3071);
     checks(sound, damaged, short);
     lookups(sound, damaged, short);
     rows(sound, damaged, short);
+    let free = [0u8; 1024];
+    inspections(
+        part(sound, 2048, 3072),
+        part(damaged, 1024, 2048),
+        part(damaged, 1024, 2047),
+        &free,
+    );
 }
 
 // A bucket page, one that is none, that one byte short, and a free page.
-pub fn inspections(bucket: &[u8], other: &[u8], short: &[u8], free: &[u8]) {
+fn inspections(bucket: &[u8], other: &[u8], short: &[u8], free: &[u8]) {
     let mut little = [0u8; 63];
     let mut out = [0u8; 64];
     let mut len = 0;
