@@ -23,7 +23,7 @@ use Rattle.store.specs.Moves.{pick}
 use Rattle.store.specs.Demands.{Sized, Hash}
 use Rattle.store.proofs.Unique.{read-zero, read-bucket}
 use Rattle.store.proofs.Owner.{called, shared}
-use Rattle.store.proofs.Showing.{page-row}
+use Rattle.store.proofs.Showing.{slot-of}
 
 needs-append : (s t : List Row) → needs (s ++ t) ≡ needs s + needs t
 unfolding needs
@@ -51,12 +51,12 @@ shorter a b j k l e = sym (cut-top a j k l) ∙ ap (λ n. n / 2 ^ (k - j)) e ∙
 module _ (h : List ℕ → ℕ) (g : List ℕ) (b : Slotted g) (j v : ℕ) where
   all-on : ((i : ℕ) → i < count g → top j (h (code g i)) ≡ v) → rowsOf h (map asRow (rows g)) j v ≡ map asRow (rows g)
   all-on f = rows-every h (map asRow (rows g)) j v (λ r m.
-      let y = page-row g b r m in
+      let y = slot-of g b r m in
       ap (λ q. top j (h (q .code))) (y .2) ∙ f (y .0) (y .1))
 
   all-off : ((i : ℕ) → i < count g → top j (h (code g i)) ≡ v → ⊥) → rowsOf h (map asRow (rows g)) j v ≡ []
   all-off f = rows-none h (map asRow (rows g)) j v (λ r m e.
-      let y = page-row g b r m in
+      let y = slot-of g b r m in
       f (y .0) (y .1) (sym (ap (λ q. top j (h (q .code))) (y .2)) ∙ e))
 
 pub pick-none : (b : Bool) → _≡_ {A = ℕ} (pick b 0 0) 0

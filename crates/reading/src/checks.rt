@@ -7,7 +7,6 @@ use super::directory::entries;
 use super::directory::ranges;
 use super::directory::two_to;
 use super::head::page0_ok;
-use super::held::deepest;
 use super::pages::first_unsound;
 use super::parted::first_joinable;
 
@@ -34,7 +33,7 @@ pub fn first_bad(s: &[u8]) -> usize
     if q < n {
         return q;
     }
-    if deepest(s, n) != d as usize {
+    if store::deepest(s, n) != d as usize {
         return 0;
     }
     n

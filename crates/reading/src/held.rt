@@ -1,8 +1,8 @@
-// What the pages of a store hold, each page once: the rows counted, the largest bucket depth.
+// The rows of a store, counted page by page.
 ghost use mathlib.Core.Path.{_≡_};
 ghost use Prim.Native.Nat.{_≤_};
 ghost use lib.ListN.{length};
-ghost use Rattle.store.specs.Pages.{S1024, contents, rowsHeld, deepestIn};
+ghost use Rattle.store.specs.Pages.{S1024, rowsHeld};
 ghost use Rattle.reading.specs.Begun.{Standing};
 
 // The number of rows; a free page's count is 0.
@@ -17,21 +17,4 @@ pub fn rows_held(s: &[u8], n: usize) -> usize
         p += 1;
     }
     sum
-}
-
-// The largest bucket depth; a free page's depth is 0.
-pub fn deepest(s: &[u8], n: usize) -> usize
-    requires { ⌜ Standing (now s) n ⌝ }
-    ensures { λ r. ⌜ r ≡ deepestIn (contents S1024 (now (s .entry))) ⌝ }
-{
-    let mut best = 0;
-    let mut p = 2;
-    while p < n {
-        let d = s[p * 1024 + 1] as usize;
-        if best < d {
-            best = d;
-        }
-        p += 1;
-    }
-    best
 }

@@ -19,7 +19,7 @@ use Rattle.reading.proofs.directory.entries.Reads as entries-reads
 use Rattle.reading.proofs.directory.ranges.Reads as ranges-reads
 use Rattle.reading.proofs.directory.two_to.Reads as two-to-reads
 use Rattle.reading.proofs.head.page0_ok.Reads as page0-ok-reads
-use Rattle.reading.proofs.held.deepest.Reads as deepest-reads
+use Rattle.store.proofs.deepest.Reads as deepest-reads
 use Rattle.reading.proofs.pages.first_unsound.Reads as first-unsound-reads
 use Rattle.reading.proofs.parted.first_joinable.Reads as first-joinable-reads
 use Rattle.words.proofs.get32.Reads as get32-reads
@@ -141,9 +141,9 @@ returns-4 c =
 -- src/checks.rt:35:8
 deepest-requires : tie.Need-deepest-requires
 deepest-requires c κs =
-    let y = c .before .before in
-    let x = y .before .before .before .before in
-    standing (store x) (at x .before .before .before .pre) (zeroth (at x)) (stands y)
+    let x = c .before .before .before .before .before .before in
+    let g = at x .before .before .before .pre in
+    (omega (arith, g .whole), omega (arith, g .least))
 
 -- src/checks.rt:35:25
 cast-if5 : tie.Need-cast-if5
@@ -156,7 +156,7 @@ returns-5 c =
     let y = z .before .before in
     let x = y .before .before .before .before in
     bad-last S1024 fnv (store x) (at x .before .before .before .pre) (zeroth (at x)) (to-1 x (ranged (y .before .before .before))) (stands y) (parted z)
-    (λ e. c .if5 .taken (c .before .deepest .ensures ∙ sym e ∙ sym (x .before .before .before .before .before .before .get32 .ensures .0)))
+    (λ e. c .if5 .taken (c .before .deepest .ensures .0 ∙ sym e ∙ sym (x .before .before .before .before .before .before .get32 .ensures .0)))
 
 -- src/checks.rt:13:1
 returns-6 : tie.Need-returns-6
@@ -165,7 +165,7 @@ returns-6 c =
     let y = z .before .before in
     let x = y .before .before .before .before in
     all-sound S1024 fnv (store x) (at x .before .before .before .pre) (zeroth (at x)) (to-1 x (ranged (y .before .before .before))) (stands y) (parted z)
-    (sym (x .before .before .before .before .before .before .get32 .ensures .0) ∙ sym (c .if5 .left) ∙ c .before .deepest .ensures)
+    (sym (x .before .before .before .before .before .before .get32 .ensures .0) ∙ sym (c .if5 .left) ∙ c .before .deepest .ensures .0)
 
 pub first-bad-spec : {M : Type 1} → statement M
 first-bad-spec =
