@@ -9,3 +9,4 @@ pub mod Standing
 pub mod Parting
 pub mod Holdings
 pub mod Calls
+pub mod Lookups

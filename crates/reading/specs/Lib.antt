@@ -2,3 +2,4 @@ pub mod First
 pub mod Directory
 pub mod Digest
 pub mod Begun
+pub mod Found

@@ -11,9 +11,18 @@ mod head;
 mod held;
 mod pages;
 mod parted;
+mod search;
 
 pub use checks::first_bad;
 pub use head::good_length;
+pub use search::find;
+pub use search::page_of;
+
+// Where a row is: page and slot.
+pub enum Spot {
+    At(usize, usize),
+    Absent,
+}
 
 // Whether the store keeps every rule, and the first page that does not.
 pub fn check(s: &[u8]) -> Answer
