@@ -1,13 +1,37 @@
 -- What the calls know past the check. Assumes nothing.
-use Prim.Native.Nat.{ℕ}
+use mathlib.Core.Path.{_≡_, refl, sym, ap, _∙_}
 use mathlib.Core.List.{List}
+use mathlib.Core.Logic.{inl, inr, ⊎-elim}
+use mathlib.Core.Option.{some, none}
+use Prim.Native.Nat.{ℕ, _≤_}
+use native.Mathlib.Omega.{arith}
+use lib.ListN.{length}
+use Rattle.ground.specs.Ladder.{Answers}
 use Rattle.hash.specs.Fnv.{fnv}
-use Rattle.store.specs.Pages.{S1024, pages}
-use Rattle.store.specs.Accepted.{Accepted}
-use Rattle.store.proofs.Rules.{Opened, opened}
+use Rattle.page.specs.declared.Place.{Place}
+use Rattle.page.specs.Places.{place}
+use Rattle.partition.specs.Listing.{placeOf}
+use Rattle.store.specs.Pages.{S1024, pages, rowsHeld}
+use Rattle.store.specs.Accepted.{GoodLength, Accepted}
+use Rattle.store.specs.Tables.{Out, refused, found, Refusal3, lookupTable}
+use Rattle.store.proofs.Rules.{Opened, opened, accepted-whole}
 use Rattle.reading.specs.Begun.{Standing}
 use Rattle.reading.proofs.Heads.{standing}
 
 -- the pages of an accepted store all stand
 pub accepted-standing : (s : List ℕ) → Accepted S1024 fnv s → Standing s (pages S1024 s)
 accepted-standing s a = let o = opened S1024 fnv s a in standing s (o .long) (o .page0) (o .stands)
+
+-- a code of good length is not refused with 3
+pub fine-code : (c : List ℕ) → (length c ≡ 0 → ⊥) → length c ≤ 64 → Refusal3 c → ⊥
+fine-code c n l r = ⊎-elim (λ z. n z) (λ m. omega arith) r
+
+-- lookup's last rows
+module _ (s c : List ℕ) (fine : Refusal3 c → ⊥) (a : Accepted S1024 fnv s) where
+  pub lookup-found : (b : List ℕ) (p : Place) → placeOf (rowsHeld S1024 s) c ≡ some b → p ≡ place b → Answers (lookupTable S1024 fnv s c) (found p)
+  unfolding lookupTable
+  lookup-found b p e f = inr ((λ _ n. n (a .long)), inr ((λ _ r. fine r), inr (accepted-whole S1024 fnv s a, (a, inl (b, (e, ap found f))))))
+
+  pub lookup-missing : placeOf (rowsHeld S1024 s) c ≡ none → Answers (lookupTable S1024 fnv s c) (refused 5)
+  unfolding lookupTable
+  lookup-missing e = inr ((λ _ n. n (a .long)), inr ((λ _ r. fine r), inr (accepted-whole S1024 fnv s a, (a, inr ((λ b f. let z : _≡_ {A = ℕ} 0 1 = cc in omega arith), refl)))))

@@ -2,7 +2,7 @@
 ghost use Rattle.ground.specs.Ladder.{Answers};
 ghost use Rattle.hash.specs.Fnv.{fnv};
 ghost use Rattle.store.specs.Pages.{S1024};
-ghost use Rattle.store.specs.Tables.{checkTable, countTable, meaning};
+ghost use Rattle.store.specs.Tables.{checkTable, countTable, lookupTable, meaning};
 use store::Answer;
 
 mod checks;
@@ -51,4 +51,27 @@ pub fn count(s: &[u8]) -> Answer
         return Answer::BadPage(p);
     }
     Answer::Rows(held::rows_held(s, n))
+}
+
+// The place of a code.
+pub fn lookup(s: &[u8], key: &[u8]) -> Answer
+    ensures { λ r. ⌜ Answers (lookupTable S1024 fnv (now (s .entry)) (now (key .entry))) (meaning r) ⌝ }
+{
+    if !good_length(s) {
+        return Answer::BadLength;
+    }
+    if key.len() == 0 {
+        return Answer::BadCode;
+    }
+    if 64 < key.len() {
+        return Answer::BadCode;
+    }
+    let bad = first_bad(s);
+    if bad < s.len() / 1024 {
+        return Answer::BadPage(bad);
+    }
+    match search::find(s, key) {
+        Spot::At(p, i) => Answer::Found(search::place_at(s, p, i)),
+        Spot::Absent => Answer::NoCode,
+    }
 }
