@@ -10,3 +10,4 @@ pub mod Parting
 pub mod Holdings
 pub mod Calls
 pub mod Lookups
+pub mod Listings

@@ -9,12 +9,14 @@ mod checks;
 mod directory;
 mod head;
 mod held;
+mod listing;
 mod pages;
 mod parted;
 mod search;
 
 pub use checks::first_bad;
 pub use head::good_length;
+pub use listing::listed;
 pub use search::find;
 pub use search::page_of;
 

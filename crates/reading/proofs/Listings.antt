@@ -1,0 +1,65 @@
+-- The walk over the directory to row n of the listing. Assumes nothing.
+use mathlib.Core.Path.{_≡_, refl, sym, ap, subst, _∙_}
+use mathlib.Core.List.{List, []}
+use mathlib.Core.Option.{Option, some, none}
+use Prim.Native.Nat.{ℕ, _+_, _-_, _*_, _^_, _≤_, _<_}
+use native.Mathlib.Omega.{arith}
+use lib.ListN.{length, getElem?}
+use Rattle.hash.specs.Fnv.{fnv, fnv-lt}
+use Rattle.page.specs.Page.{BucketPage, depth, count, rowAt}
+use Rattle.partition.specs.Partition.{Row}
+use Rattle.partition.specs.Listing.{listing}
+use Rattle.store.specs.Pages.{S1024, pages, page, dirDepth, entryAt, asRow, rowsHeld}
+use Rattle.store.specs.Accepted.{Accepted}
+use Rattle.store.specs.Demands.{sized-1024}
+use Rattle.store.proofs.Reading.{Naming}
+use Rattle.store.proofs.Walked.{walkFrom, Start, behind, walk-start, walk-end, walk-none, walk-page, walk-here, walk-past}
+use Rattle.reading.specs.declared.Spot.{Spot}
+use Rattle.reading.specs.declared.Spot.the-variants.{At, Absent}
+use Rattle.reading.specs.Found.{Slot, Listed}
+
+-- row n of the listing is row `left` of what is listed from entry i on
+pub record Reached (s : List ℕ) (n i left : ℕ) : Type 0 where
+  pub same : getElem? (listing S1024 fnv (rowsHeld S1024 s)) n ≡ getElem? (walkFrom S1024 fnv s i) left
+  pub starts : Start S1024 fnv s i
+  pub within : i ≤ 2 ^ dirDepth s
+
+-- page p is a bucket of the store
+pub record Used (s : List ℕ) (p : ℕ) : Type 0 where
+  pub from : 2 ≤ p
+  pub to : p < pages S1024 s
+  pub rules : BucketPage (page S1024 s p)
+  pub low : depth (page S1024 s p) ≤ dirDepth s
+
+module _ (s : List ℕ) (a : Accepted S1024 fnv s) (n : ℕ) where
+  pub reached-first : Reached s n 0 n
+  reached-first = let w = walk-start S1024 fnv sized-1024 fnv-lt s a in record { same = ap (λ l. getElem? l n) (w .0); starts = w .1; within = omega arith }
+
+  pub reached-none : (i left : ℕ) → 2 ^ dirDepth s ≤ i → Reached s n i left → Listed s n Absent
+  reached-none i left l r = r .same ∙ ap (λ x. getElem? x left) (walk-end S1024 fnv sized-1024 fnv-lt s a i l)
+
+  module _ (i left : ℕ) (r : Reached s n i left) (l : i < 2 ^ dirDepth s) where
+    pub reached-next : entryAt S1024 s i ≡ 0 → Reached s n (i + 1) left
+    reached-next z = let w = walk-none S1024 fnv sized-1024 fnv-lt s a i l z in record { same = r .same ∙ ap (λ x. getElem? x left) (w .0); starts = w .1; within = omega arith }
+
+    module _ (p : ℕ) (e : p ≡ entryAt S1024 s i) (nz : p ≡ 0 → ⊥) where
+      names : entryAt S1024 s i ≡ 0 → ⊥
+      names z = nz (e ∙ z)
+
+      naming : Naming S1024 fnv s i (entryAt S1024 s i)
+      naming = walk-page S1024 fnv sized-1024 fnv-lt s a i l names (r .starts) .0
+
+      pub its-page : Used s p
+      its-page = let y = naming in subst (Used s) (sym e) (record { from = y .from; to = y .to; rules = y .bytes .rules; low = y .low })
+
+      pub reached-here : left < count (page S1024 s p) → Listed s n (At p left)
+      reached-here b =
+          let y = its-page in
+          let w = walk-here S1024 fnv sized-1024 fnv-lt s a i left l names (r .starts) (subst (λ q. left < count (page S1024 s q)) e b) in
+          (record { from = y .from; to = y .to; rules = y .rules; here = b }, r .same ∙ w ∙ ap (λ q. some (asRow (rowAt (page S1024 s q) left))) (sym e))
+
+      -- past the page's rows and its entries
+      pub reached-past : count (page S1024 s p) ≤ left → Reached s n (i + 2 ^ (dirDepth s - depth (page S1024 s p))) (left - count (page S1024 s p))
+      reached-past b = subst (λ q. Reached s n (i + 2 ^ (dirDepth s - depth (page S1024 s q))) (left - count (page S1024 s q))) (sym e)
+          (let w = walk-page S1024 fnv sized-1024 fnv-lt s a i l names (r .starts) in
+          record { same = r .same ∙ walk-past S1024 fnv sized-1024 fnv-lt s a i left l names (r .starts) (subst (λ q. count (page S1024 s q) ≤ left) e b); starts = w .2; within = w .3 })
