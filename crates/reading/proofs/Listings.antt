@@ -1,16 +1,22 @@
--- The walk over the directory to row n of the listing. Assumes nothing.
+-- The walk over the directory to row n of the listing, and the row handed out. Assumes nothing.
 use mathlib.Core.Path.{_≡_, refl, sym, ap, subst, _∙_}
-use mathlib.Core.List.{List, []}
+use mathlib.Core.List.{List, [], _++_}
 use mathlib.Core.Option.{Option, some, none}
 use Prim.Native.Nat.{ℕ, _+_, _-_, _*_, _^_, _≤_, _<_}
 use native.Mathlib.Omega.{arith}
-use lib.ListN.{length, getElem?}
+use lib.ListN.{length, drop, getElem?}
 use Rattle.hash.specs.Fnv.{fnv, fnv-lt}
-use Rattle.page.specs.Page.{BucketPage, depth, count, rowAt}
+use Rattle.words.specs.Moves.{Copied}
+use Rattle.words.proofs.Bytes.{copied-front}
+use Rattle.page.specs.Page.{Slotted, BucketPage, depth, count, len, code, place, rowAt}
+use Rattle.page.specs.declared.Place.{Place}
+use Rattle.page.specs.Places as Places
+use Rattle.page.proofs.Sums.{len-of-code}
 use Rattle.partition.specs.Partition.{Row}
 use Rattle.partition.specs.Listing.{listing}
 use Rattle.store.specs.Pages.{S1024, pages, page, dirDepth, entryAt, asRow, rowsHeld}
 use Rattle.store.specs.Accepted.{Accepted}
+use Rattle.store.specs.Tables.{Out, row, giving}
 use Rattle.store.specs.Demands.{sized-1024}
 use Rattle.store.proofs.Reading.{Naming}
 use Rattle.store.proofs.Walked.{walkFrom, Start, behind, walk-start, walk-end, walk-none, walk-page, walk-here, walk-past}
@@ -63,3 +69,11 @@ module _ (s : List ℕ) (a : Accepted S1024 fnv s) (n : ℕ) where
       reached-past b = subst (λ q. Reached s n (i + 2 ^ (dirDepth s - depth (page S1024 s q))) (left - count (page S1024 s q))) (sym e)
           (let w = walk-page S1024 fnv sized-1024 fnv-lt s a i l names (r .starts) in
           record { same = r .same ∙ walk-past S1024 fnv sized-1024 fnv-lt s a i left l names (r .starts) (subst (λ q. count (page S1024 s q) ≤ left) e b); starts = w .2; within = w .3 })
+
+-- a slot's code copied to the output, with its length and place
+pub row-given : (g : List ℕ) (i : ℕ) → Slotted g → i < count g → (out q c : List ℕ) (n : ℕ) (p : Place) → c ≡ code g i → Copied out 0 c q → length c ≤ length out → n ≡ len g i - 8 → p ≡ Places.place (place g i)
+    → _≡_ {A = Out × List ℕ} (row n p, q) (giving (asRow (rowAt g i)) out)
+row-given g i b h out q c n p e w l m f =
+    let k : n ≡ length (code g i) = omega (arith, len-of-code g i b h) in
+    let o : q ≡ code g i ++ drop (length (code g i)) out = copied-front c w l ∙ ap (λ x. x ++ drop (length x) out) e in
+    λ j. (row (k j) (f j), o j)

@@ -16,6 +16,7 @@ mod search;
 
 pub use checks::first_bad;
 pub use head::good_length;
+pub use listing::give;
 pub use listing::listed;
 pub use search::find;
 pub use search::page_of;

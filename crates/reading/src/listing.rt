@@ -1,10 +1,16 @@
 // Row n of the listing of an accepted store: buckets in order of their first entry, each once.
+ghost use mathlib.Core.Path.{_≡_};
+ghost use Prim.Native.Nat.{_≤_, _<_};
+ghost use lib.ListN.{length};
 ghost use Rattle.hash.specs.Fnv.{fnv};
-ghost use Rattle.store.specs.Pages.{S1024};
+ghost use Rattle.page.specs.Page.{Slotted, count, rowAt};
+ghost use Rattle.store.specs.Pages.{S1024, asRow};
 ghost use Rattle.store.specs.Accepted.{Accepted};
+ghost use Rattle.store.specs.Tables.{giving, meaning};
 ghost use Rattle.reading.specs.Found.{Listed};
 use super::directory::two_to;
 use crate::Spot;
+use store::Answer;
 
 // Where row n is.
 pub fn listed(s: &[u8], n: usize) -> Spot
@@ -29,4 +35,16 @@ pub fn listed(s: &[u8], n: usize) -> Spot
         i += two_to(d - (s[p * 1024 + 1] as u32));
     }
     Spot::Absent
+}
+
+// The code of slot i at the start of the output; its length and the place.
+pub fn give(pg: &[u8], i: usize, out: &mut [u8]) -> Answer
+    requires { ⌜ Slotted (now pg) × (i < count (now pg)) × (64 ≤ length (now out)) ⌝ }
+    ensures { λ r. ⌜ (meaning r, now (out .exit)) ≡ giving (asRow (rowAt (now (pg .entry)) i)) (now (out .entry)) ⌝ }
+{
+    let x = page::extent_of(pg, i);
+    let from = x.off + 8;
+    let to = x.off + x.len;
+    words::copy_at(out, 0, &pg[from..to]);
+    Answer::RowOf(to - from, page::read_place(pg, i))
 }
