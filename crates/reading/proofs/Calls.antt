@@ -1,20 +1,21 @@
 -- What the calls know past the check. Assumes nothing.
-use mathlib.Core.Path.{_≡_, refl, sym, ap, _∙_}
+use mathlib.Core.Path.{_≡_, refl, ap}
 use mathlib.Core.List.{List}
 use mathlib.Core.Logic.{inl, inr, ⊎-elim}
 use mathlib.Core.Option.{some, none}
 use Prim.Native.Nat.{ℕ, _≤_}
 use native.Mathlib.Omega.{arith}
-use lib.ListN.{length}
+use lib.ListN.{length, getElem?}
 use Rattle.ground.specs.Ladder.{Answers}
 use Rattle.hash.specs.Fnv.{fnv}
 use Rattle.page.specs.declared.Place.{Place}
 use Rattle.page.specs.Places.{place}
-use Rattle.partition.specs.Listing.{placeOf}
+use Rattle.partition.specs.Partition.{Row}
+use Rattle.partition.specs.Listing.{listing, placeOf}
 use Rattle.store.specs.Pages.{S1024, pages, rowsHeld}
-use Rattle.store.specs.Accepted.{GoodLength, Accepted}
-use Rattle.store.specs.Tables.{Out, refused, found, Refusal3, lookupTable}
-use Rattle.store.proofs.Rules.{Opened, opened, accepted-whole}
+use Rattle.store.specs.Accepted.{Accepted}
+use Rattle.store.specs.Tables.{Out, refused, found, Refusal3, giving, lookupTable, rowTable}
+use Rattle.store.proofs.Rules.{opened, accepted-whole}
 use Rattle.reading.specs.Begun.{Standing}
 use Rattle.reading.proofs.Heads.{standing}
 
@@ -35,3 +36,13 @@ module _ (s c : List ℕ) (fine : Refusal3 c → ⊥) (a : Accepted S1024 fnv s)
   pub lookup-missing : placeOf (rowsHeld S1024 s) c ≡ none → Answers (lookupTable S1024 fnv s c) (refused 5)
   unfolding lookupTable
   lookup-missing e = inr ((λ _ n. n (a .long)), inr ((λ _ r. fine r), inr (accepted-whole S1024 fnv s a, (a, inr ((λ b f. let z : _≡_ {A = ℕ} 0 1 = cc in omega arith), refl)))))
+
+-- row at place n's last rows
+module _ (s : List ℕ) (n : ℕ) (out : List ℕ) (room : 64 ≤ length out) (a : Accepted S1024 fnv s) where
+  pub row-found : (r : Row) (x : Out × List ℕ) → getElem? (listing S1024 fnv (rowsHeld S1024 s)) n ≡ some r → x ≡ giving r out → Answers (rowTable S1024 fnv s n out) x
+  unfolding rowTable
+  row-found r x e f = inr ((λ _ g. g (a .long)), inr ((λ _ l. omega arith), inr (accepted-whole S1024 fnv s a, (a, inl (r, (e, f))))))
+
+  pub row-missing : getElem? (listing S1024 fnv (rowsHeld S1024 s)) n ≡ none → Answers (rowTable S1024 fnv s n out) (refused 9, out)
+  unfolding rowTable
+  row-missing e = inr ((λ _ g. g (a .long)), inr ((λ _ l. omega arith), inr (accepted-whole S1024 fnv s a, (a, inr ((λ b f. let z : _≡_ {A = ℕ} 0 1 = cc in omega arith), refl)))))

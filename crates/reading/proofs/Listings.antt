@@ -1,8 +1,8 @@
 -- The walk over the directory to row n of the listing, and the row handed out. Assumes nothing.
-use mathlib.Core.Path.{_≡_, refl, sym, ap, subst, _∙_}
-use mathlib.Core.List.{List, [], _++_}
-use mathlib.Core.Option.{Option, some, none}
-use Prim.Native.Nat.{ℕ, _+_, _-_, _*_, _^_, _≤_, _<_}
+use mathlib.Core.Path.{_≡_, sym, ap, subst, _∙_}
+use mathlib.Core.List.{List, _++_}
+use mathlib.Core.Option.{some}
+use Prim.Native.Nat.{ℕ, _+_, _-_, _^_, _≤_, _<_}
 use native.Mathlib.Omega.{arith}
 use lib.ListN.{length, drop, getElem?}
 use Rattle.hash.specs.Fnv.{fnv, fnv-lt}
@@ -12,17 +12,15 @@ use Rattle.page.specs.Page.{Slotted, BucketPage, depth, count, len, code, place
 use Rattle.page.specs.declared.Place.{Place}
 use Rattle.page.specs.Places as Places
 use Rattle.page.proofs.Sums.{len-of-code}
-use Rattle.partition.specs.Partition.{Row}
 use Rattle.partition.specs.Listing.{listing}
 use Rattle.store.specs.Pages.{S1024, pages, page, dirDepth, entryAt, asRow, rowsHeld}
 use Rattle.store.specs.Accepted.{Accepted}
 use Rattle.store.specs.Tables.{Out, row, giving}
 use Rattle.store.specs.Demands.{sized-1024}
 use Rattle.store.proofs.Reading.{Naming}
-use Rattle.store.proofs.Walked.{walkFrom, Start, behind, walk-start, walk-end, walk-none, walk-page, walk-here, walk-past}
-use Rattle.reading.specs.declared.Spot.{Spot}
+use Rattle.store.proofs.Walked.{walkFrom, Start, walk-start, walk-end, walk-none, walk-page, walk-here, walk-past}
 use Rattle.reading.specs.declared.Spot.the-variants.{At, Absent}
-use Rattle.reading.specs.Found.{Slot, Listed}
+use Rattle.reading.specs.Found.{Listed}
 
 -- row n of the listing is row `left` of what is listed from entry i on
 pub record Reached (s : List ℕ) (n i left : ℕ) : Type 0 where

@@ -1,27 +1,24 @@
 -- Where a code is, from what the search of its page answers. Assumes nothing.
-use mathlib.Core.Path.{_≡_, refl, sym, ap, subst, _∙_}
+use mathlib.Core.Path.{_≡_, sym, ap, subst, _∙_}
 use mathlib.Core.List.{List}
-use mathlib.Core.Option.{Option, some, none}
 use Prim.Native.Nat.{ℕ, _+_, _*_, _^_, _≤_, _<_}
 use native.Mathlib.Omega.{arith}
 use lib.ListN.{length}
 use Rattle.hash.specs.Fnv.{fnv, fnv-lt}
-use Rattle.page.specs.Page.{BucketPage, Belongs, count, code, place}
+use Rattle.page.specs.Page.{BucketPage}
 use Rattle.page.specs.Found.{FoundIn}
-use Rattle.page.specs.declared.Found.{Found}
 use Rattle.page.specs.declared.Found.the-variants.{At as FoundAt, Absent as FoundNot}
 use Rattle.partition.specs.Bits.{top}
 use Rattle.partition.specs.Listing.{placeOf}
-use Rattle.store.specs.Pages.{S1024, pages, page, dirDepth, entryAt, read, rowsOn, rowsHeld}
+use Rattle.store.specs.Pages.{S1024, pages, page, dirDepth, read, rowsOn, rowsHeld}
 use Rattle.store.specs.Accepted.{Accepted}
 use Rattle.store.specs.Demands.{sized-1024}
-use Rattle.store.proofs.Rules.{Opened, opened}
+use Rattle.store.proofs.Rules.{opened}
 use Rattle.store.proofs.Owner.{entry-within}
 use Rattle.store.proofs.Unique.{read-used}
 use Rattle.store.proofs.Reading.{entryOf, lookup-none, lookup-page, place-at, place-not}
-use Rattle.reading.specs.declared.Spot.{Spot}
 use Rattle.reading.specs.declared.Spot.the-variants.{At, Absent}
-use Rattle.reading.specs.Found.{Slot, SpotOf}
+use Rattle.reading.specs.Found.{SpotOf}
 
 -- the entry of a hash lies in the directory
 pub entry-in : (s : List ℕ) → Accepted S1024 fnv s → (x : ℕ) → x < 2 ^ 32 → top (dirDepth s) x < 256

@@ -1,7 +1,6 @@
 -- Pass 2: what is kept of each page, and what it says of the rule. Assumes nothing.
 use mathlib.Core.Path.{_≡_, refl, sym, ap, subst, _∙_}
-use mathlib.Core.Bool.{Bool}
-use mathlib.Core.List.{List, [], map}
+use mathlib.Core.List.{List, map}
 use mathlib.Core.Logic.{_⊎_, inl, inr, ⊎-elim, _↔_}
 use Prim.Native.Nat.{ℕ, zero, suc, _+_, _-_, _*_, _/_, _^_, _≤_, _<_}
 use native.Mathlib.Omega.{arith}
@@ -16,7 +15,7 @@ use Rattle.page.specs.Page.{free as total-free}
 use Rattle.partition.specs.Bits.{top}
 use Rattle.partition.specs.Partition.{needs, rowsOf}
 use Rattle.partition.proofs.Bits.{top-is}
-use Rattle.store.specs.Pages.{S1024, size, pages, page, dirDepth, free, bucket, read, asRow, rowsOn, rowsHeld}
+use Rattle.store.specs.Pages.{S1024, page, dirDepth, read, asRow, rowsOn, rowsHeld}
 use Rattle.store.specs.Accepted.{Stands, unused, used, Parted}
 use Rattle.store.specs.Moves.{pick}
 use Rattle.store.specs.Demands.{sized-1024}
@@ -24,7 +23,7 @@ use Rattle.store.proofs.Unique.{read-zero, read-used, page-long}
 use Rattle.store.proofs.Depths.{page-byte}
 use Rattle.store.proofs.Showing.{page-needs}
 use Rattle.reading.specs.Begun.{Standing}
-use Rattle.reading.specs.Digest.{Legible, TopOf, LoadOf, Digest, loadOf}
+use Rattle.reading.specs.Digest.{Legible, LoadOf, Digest, loadOf}
 use Rattle.reading.proofs.Standing.{seen}
 use Rattle.reading.proofs.Loads.{cut-top, pick-none, load-shorter}
 

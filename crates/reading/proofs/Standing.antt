@@ -1,15 +1,15 @@
 -- Whether a page stands, from the tests of pass 1. Assumes nothing.
-use mathlib.Core.Path.{_≡_, refl, sym, ap, subst, _∙_}
+use mathlib.Core.Path.{_≡_, refl, sym, subst, _∙_}
 use mathlib.Core.List.{List}
 use mathlib.Core.Logic.{_↔_}
-use Prim.Native.Nat.{ℕ, _+_, _-_, _*_, _^_, _≤_, _<_}
+use Prim.Native.Nat.{ℕ, _+_, _-_, _*_, _≤_, _<_}
 use native.Mathlib.Omega.{arith}
-use lib.ListN.{length, getD, take, drop}
+use lib.ListN.{take, drop}
 use Rattle.ground.specs.Lists.{byte}
 use Rattle.hash.specs.Fnv.{fnv}
-use Rattle.page.specs.Page.{BucketPage, depth, count, code}
+use Rattle.page.specs.Page.{depth, count, code}
 use Rattle.partition.specs.Bits.{top}
-use Rattle.store.specs.Pages.{S1024, size, pages, page, dirDepth, entryAt}
+use Rattle.store.specs.Pages.{S1024, page, dirDepth, entryAt}
 use Rattle.store.specs.Accepted.{Bucket, Calls, Stands, unused, used}
 use Rattle.store.proofs.Views.{lent-page}
 use Rattle.reading.specs.Directory.{Named}

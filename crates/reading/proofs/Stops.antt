@@ -1,14 +1,14 @@
 -- The passes' answers, put together: where the check stops, and that a store with no bad page is accepted. Assumes nothing.
-use mathlib.Core.Path.{_≡_, refl, subst, sym}
+use mathlib.Core.Path.{_≡_, refl, subst}
 use mathlib.Core.List.{List, [], _∷_, _++_}
-use mathlib.Core.Logic.{_⊎_, inl, inr}
+use mathlib.Core.Logic.{inl, inr}
 use Prim.Native.Nat.{ℕ, zero, suc, _+_, _-_, _≤_, _<_}
 use native.Mathlib.Omega.{arith}
 use Rattle.ground.specs.Lists.{tab}
 use Rattle.partition.specs.Partition.{Shape}
 use Rattle.store.specs.Pages.{pages}
-use Rattle.store.specs.Accepted.{GoodLength, Page0, Page1, Stands, Parted, Deepest, Rule, rule, rules, upward, Every, Stops, Broken, Accepted}
-use Rattle.store.proofs.Rules.{Opened, up-every, closed}
+use Rattle.store.specs.Accepted.{GoodLength, Page0, Page1, Stands, Parted, Deepest, Rule, rule, rules, upward, Every, Stops, Broken}
+use Rattle.store.proofs.Rules.{up-every, closed}
 use Rattle.reading.specs.First.{FirstBad, Judged}
 
 stops-left : (l m : List Rule) (p : ℕ) → Stops l p → Stops (l ++ m) p

@@ -2,7 +2,7 @@
 ghost use Rattle.ground.specs.Ladder.{Answers};
 ghost use Rattle.hash.specs.Fnv.{fnv};
 ghost use Rattle.store.specs.Pages.{S1024};
-ghost use Rattle.store.specs.Tables.{checkTable, countTable, lookupTable, meaning};
+ghost use Rattle.store.specs.Tables.{checkTable, countTable, lookupTable, rowTable, meaning};
 use store::Answer;
 
 mod checks;
@@ -76,5 +76,29 @@ pub fn lookup(s: &[u8], key: &[u8]) -> Answer
     match search::find(s, key) {
         Spot::At(p, i) => Answer::Found(search::place_at(s, p, i)),
         Spot::Absent => Answer::NoCode,
+    }
+}
+
+// Row n of the listing: its code at the start of the output, its length and its place.
+pub fn row_at(s: &[u8], n: usize, out: &mut [u8]) -> Answer
+    ensures { λ r. ⌜ Answers (rowTable S1024 fnv (now (s .entry)) n (now (out .entry))) (meaning r, now (out .exit)) ⌝ }
+{
+    if !good_length(s) {
+        return Answer::BadLength;
+    }
+    if out.len() < 64 {
+        return Answer::ShortOutput;
+    }
+    let bad = first_bad(s);
+    if bad < s.len() / 1024 {
+        return Answer::BadPage(bad);
+    }
+    match listing::listed(s, n) {
+        Spot::At(p, i) => {
+            let a = p * 1024;
+            let e = a + 1024;
+            listing::give(&s[a..e], i, out)
+        }
+        Spot::Absent => Answer::NoRow,
     }
 }

@@ -1,24 +1,18 @@
-use Rattle.reading.specs.declared.Spot.the-variants as Spot
-use Rattle.reading.proofs.Calls.{fine-code, lookup-found, lookup-missing}
-use Rattle.reading.specs.Found.{SpotOf}
+-- `reading::lookup` meets its contract. Assumes nothing.
+use borrow.Author.Tests.{not-true, not-false}
+use borrow.Author.Needs.{needs}
+use mathlib.Core.Logic.{inl, inr}
+use mathlib.Core.Path.{refl, subst}
+use Rattle.ground.proofs.Tests.{says-true, says-false}
+use Rattle.hash.specs.Fnv.{fnv}
 use Rattle.store.specs.Tables.{Refusal3, lookupTable}
 use Rattle.store.specs.Accepted.{GoodLength, Accepted}
 use Rattle.store.specs.Pages.{S1024}
-use Rattle.hash.specs.Fnv.{fnv}
-use Rattle.ground.proofs.Tests.{says-true, says-false}
-use borrow.Author.Tests.{not-true, not-false}
-use mathlib.Core.Logic.{inl, inr}
-use mathlib.Core.Path.{_≡_, refl, sym, ap, _∙_, subst}
-use native.Mathlib.Omega.{arith}
-use borrow.Author.Needs.{needs}
+use Rattle.reading.proofs.Calls.{fine-code, lookup-found, lookup-missing}
+use Rattle.reading.specs.Found.{SpotOf}
+use Rattle.reading.specs.declared.Spot.the-variants as Spot
 use Rattle.reading.proofs.lookup.Statement.{statement}
 use Rattle.reading.proofs.lookup.Tie as tie
-use Rattle.reading.proofs.lookup.Reads as reads
-use Rattle.reading.proofs.lookup.Lts as lts
-use Rattle.reading.proofs.checks.first_bad.Reads as first-bad-reads
-use Rattle.reading.proofs.head.good_length.Reads as good-length-reads
-use Rattle.reading.proofs.search.find.Reads as find-reads
-use Rattle.reading.proofs.search.place_at.Reads as place-at-reads
 
 -- past the length
 good : (c : tie.Else1) → GoodLength S1024 (c .before .before .before .before .args .s .now)
@@ -36,57 +30,45 @@ sound c = c .before .first-bad .ensures .sound (c .if4 .left)
 at-spot : (c : tie.After-p) → let a = c .before .before .before .before .before .before .before .before .before .before .before .args in SpotOf (a .s .now) (a .key .now) (Spot.At (c .p .given .0 .0) (c .p .given .0 .1 .0))
 at-spot c = let a = c .before .before .before .before .before .before .before .before .before .before .before .args in subst (SpotOf (a .s .now) (a .key .now)) (c .p .given .1) (c .before .before .find .ensures)
 
--- src/lib.rt:60:9
 good-length-requires : tie.Need-good-length-requires
 good-length-requires c κs = search needs
 
--- src/lib.rt:61:9
 returns : tie.Need-returns
 unfolding lookupTable
 returns c = inl (tt, (says-false {P = GoodLength S1024 (c .before .before .before .before .args .s .now)} (c .before .good-length .result) (not-true _ (c .if1 .taken)) (c .before .good-length .ensures), refl))
 
--- src/lib.rt:64:9
 returns-2 : tie.Need-returns-2
 unfolding lookupTable
 returns-2 c = inr ((λ _ n. n (good (c .before))), inl (tt, (inl (c .if2 .taken), refl)))
 
--- src/lib.rt:67:9
 returns-3 : tie.Need-returns-3
 unfolding lookupTable
 returns-3 c = inr ((λ _ n. n (good (c .before .before))), inl (tt, (inr (c .if3 .taken), refl)))
 
--- src/lib.rt:69:9
 first-bad-requires : tie.Need-first-bad-requires
 first-bad-requires c κs = good (c .before .before)
 
--- src/lib.rt:71:9
 returns-4 : tie.Need-returns-4
 unfolding lookupTable
 returns-4 c = inr ((λ _ n. n (good (c .before .before .before .before))), inr ((λ _ r. fine (c .before .before) r), inl (c .before .first-bad .result, (c .before .first-bad .ensures .bad (c .if4 .taken), refl))))
 
--- src/lib.rt:73:11
 find-requires : tie.Need-find-requires
 find-requires c κs = sound c
 
--- src/lib.rt:74:18
 enum-known-p : tie.Need-enum-known-p
 enum-known-p c = search needs
 
--- src/lib.rt:74:41
 place-at-requires : tie.Need-place-at-requires
 place-at-requires c κs = at-spot (c .before) .0
 
--- src/lib.rt:75:25
 enum-told : tie.Need-enum-told
 enum-told c = search needs
 
--- src/lib.rt:57:1
 returns-5 : tie.Need-returns-5
 returns-5 c =
     let x = c .before .before .before .before .before in
     lookup-found _ _ (fine (x .before .before)) (sound x) _ _ (at-spot (c .before .before) .2) (c .place-at .ensures)
 
--- src/lib.rt:57:1
 returns-6 : tie.Need-returns-6
 returns-6 c =
     let x = c .before .before .before in

@@ -1,8 +1,10 @@
-use native.Mathlib.Omega.{arith}
-use mathlib.Core.Path.{_≡_, refl, sym, ap, subst, _∙_}
+-- `reading::checks::first_bad` meets its contract. Assumes nothing.
+use borrow.Author.Tests.{not-true, not-false}
+use borrow.Author.Needs.{needs}
+use mathlib.Core.Path.{_≡_, refl, sym, ap, _∙_}
 use mathlib.Core.List.{List}
 use Prim.Native.Nat.{ℕ, _^_, _≤_, _<_}
-use borrow.Author.Tests.{not-true, not-false}
+use native.Mathlib.Omega.{arith}
 use Rattle.ground.proofs.Tests.{says-true, says-false}
 use Rattle.hash.specs.Fnv.{fnv}
 use Rattle.store.specs.Pages.{S1024, pages, dirDepth}
@@ -10,19 +12,8 @@ use Rattle.store.specs.Accepted.{Page0, Page1, Stands, Parted}
 use Rattle.reading.specs.Directory.{Ranges}
 use Rattle.reading.proofs.Heads.{to-page1, of-page1, begun, standing}
 use Rattle.reading.proofs.Stops.{none-bad, bad-0, bad-1, bad-up, bad-again, bad-last, all-sound}
-use borrow.Author.Needs.{needs}
 use Rattle.reading.proofs.checks.first_bad.Statement.{statement}
 use Rattle.reading.proofs.checks.first_bad.Tie as tie
-use Rattle.reading.proofs.checks.first_bad.Reads as reads
-use Rattle.reading.proofs.checks.first_bad.Lts as lts
-use Rattle.reading.proofs.directory.entries.Reads as entries-reads
-use Rattle.reading.proofs.directory.ranges.Reads as ranges-reads
-use Rattle.reading.proofs.directory.two_to.Reads as two-to-reads
-use Rattle.reading.proofs.head.page0_ok.Reads as page0-ok-reads
-use Rattle.store.proofs.deepest.Reads as deepest-reads
-use Rattle.reading.proofs.pages.first_unsound.Reads as first-unsound-reads
-use Rattle.reading.proofs.parted.first_joinable.Reads as first-joinable-reads
-use Rattle.words.proofs.get32.Reads as get32-reads
 
 -- past page 0
 zeroth : (c : tie.Else1) → Page0 S1024 (c .before .before .before .args .s .now)
@@ -60,58 +51,45 @@ stands c = none-bad _ _ (c .before .first-unsound .result) (c .before .first-uns
 parted : (c : tie.Else4) → (q : ℕ) → 2 ≤ q → q < pages S1024 (store (c .before .before .before .before .before .before)) → Parted S1024 fnv (store (c .before .before .before .before .before .before)) q
 parted c = none-bad _ _ (c .before .first-joinable .result) (c .before .first-joinable .ensures) (c .if4 .left)
 
--- src/checks.rt:18:9
 page0-ok-requires : tie.Need-page0-ok-requires
 page0-ok-requires c κs = search needs
 
--- src/checks.rt:19:9
 returns : tie.Need-returns
 returns c = bad-0 S1024 fnv _ (c .before .before .before .pre) (says-false {P = Page0 S1024 (c .before .before .before .args .s .now)} (c .before .page0-ok .result) (not-true _ (c .if1 .taken)) (c .before .page0-ok .ensures))
 
--- src/checks.rt:21:13
 get32-requires : tie.Need-get32-requires
 get32-requires c κs = search needs
 
--- src/checks.rt:21:13
 cast-d : tie.Need-cast-d
 cast-d c = search needs
 
--- src/checks.rt:23:16
 slice-aggregate-entries : tie.Need-slice-aggregate-entries
 slice-aggregate-entries c = search needs
 
--- src/checks.rt:23:5
 entries-requires : tie.Need-entries-requires
 entries-requires c κs = search needs
 
--- src/checks.rt:24:16
 slice-aggregate-ranges : tie.Need-slice-aggregate-ranges
 slice-aggregate-ranges c = search needs
 
--- src/checks.rt:24:22
 cast-ranges : tie.Need-cast-ranges
 cast-ranges c = search needs
 
--- src/checks.rt:24:32
 two-to-requires : tie.Need-two-to-requires
 two-to-requires c κs = omega (arith, zeroth (c .before .before .before .before .before) .depth, c .before .before .before .before .get32 .ensures .0)
 
--- src/checks.rt:24:9
 ranges-requires : tie.Need-ranges-requires
 ranges-requires c κs = search needs
 
--- src/checks.rt:25:9
 returns-2 : tie.Need-returns-2
 returns-2 c =
     let x = c .before in
     bad-1 S1024 fnv (store x) (at x .before .before .before .pre) (zeroth (at x))
     (λ r. says-false {P = Ranges (dir x) (pages S1024 (store x)) (x .before .two-to .result)} (x .ranges .result) (not-true _ (c .if2 .taken)) (x .ranges .ensures) (of-1 x r))
 
--- src/checks.rt:27:30
 slice-aggregate-first-unsound : tie.Need-slice-aggregate-first-unsound
 slice-aggregate-first-unsound c = search needs
 
--- src/checks.rt:27:9
 first-unsound-requires : tie.Need-first-unsound-requires
 first-unsound-requires c κs =
     let x = c .before .before in
@@ -119,37 +97,31 @@ first-unsound-requires c κs =
     begun (store x) (at x .before .before .before .pre) (zeroth (at x)) (dir x) (y .result) (y .ensures .0) (x .before .before .before .before .entries .ensures)
     (λ i l. ranged (c .before) .beyond i (omega (arith, x .before .two-to .ensures .0)))
 
--- src/checks.rt:29:9
 returns-3 : tie.Need-returns-3
 returns-3 c =
     let x = c .before .before .before .before in
     bad-up S1024 fnv (store x) (at x .before .before .before .pre) (zeroth (at x)) (to-1 x (ranged (c .before .before .before))) (c .before .first-unsound .result) (c .before .first-unsound .ensures) (c .if3 .taken)
 
--- src/checks.rt:31:9
 first-joinable-requires : tie.Need-first-joinable-requires
 first-joinable-requires c κs =
     let x = c .before .before .before .before in
     standing (store x) (at x .before .before .before .pre) (zeroth (at x)) (stands c)
 
--- src/checks.rt:33:9
 returns-4 : tie.Need-returns-4
 returns-4 c =
     let y = c .before .before in
     let x = y .before .before .before .before in
     bad-again S1024 fnv (store x) (at x .before .before .before .pre) (zeroth (at x)) (to-1 x (ranged (y .before .before .before))) (stands y) (c .before .first-joinable .result) (c .before .first-joinable .ensures) (c .if4 .taken)
 
--- src/checks.rt:35:8
 deepest-requires : tie.Need-deepest-requires
 deepest-requires c κs =
     let x = c .before .before .before .before .before .before in
     let g = at x .before .before .before .pre in
     (omega (arith, g .whole), omega (arith, g .least))
 
--- src/checks.rt:35:25
 cast-if5 : tie.Need-cast-if5
 cast-if5 c = search needs
 
--- src/checks.rt:36:9
 returns-5 : tie.Need-returns-5
 returns-5 c =
     let z = c .before .before in
@@ -158,7 +130,6 @@ returns-5 c =
     bad-last S1024 fnv (store x) (at x .before .before .before .pre) (zeroth (at x)) (to-1 x (ranged (y .before .before .before))) (stands y) (parted z)
     (λ e. c .if5 .taken (c .before .deepest .ensures .0 ∙ sym e ∙ sym (x .before .before .before .before .before .before .get32 .ensures .0)))
 
--- src/checks.rt:13:1
 returns-6 : tie.Need-returns-6
 returns-6 c =
     let z = c .before .before in

@@ -1,14 +1,12 @@
-use Rattle.reading.proofs.Holdings.{rowsAt, page-count, all-rows}
-use Rattle.reading.proofs.Sums.{Summed, summed-none, summed-more, summed-all}
-use mathlib.Core.Path.{_≡_, ap, _∙_}
+-- `reading::held::rows_held` meets its contract. Assumes nothing.
+use borrow.Author.Needs.{needs}
+use mathlib.Core.Path.{ap, _∙_}
 use Prim.Native.Nat.{_≤_, _-_, _+_}
 use native.Mathlib.Omega.{arith}
-use borrow.Author.Needs.{needs}
+use Rattle.reading.proofs.Holdings.{rowsAt, page-count, all-rows}
+use Rattle.reading.proofs.Sums.{Summed, summed-none, summed-more, summed-all}
 use Rattle.reading.proofs.held.rows_held.Statement.{statement}
 use Rattle.reading.proofs.held.rows_held.Tie as tie
-use Rattle.reading.proofs.held.rows_held.Reads as reads
-use Rattle.reading.proofs.held.rows_held.Lts as lts
-use Rattle.words.proofs.get16.Reads as get16-reads
 
 abbrev Inv-loop : tie.InvT-loop
 Inv-loop s n sum₀ p₀ sum p = (p ≤ n) × Summed (rowsAt s) p sum
@@ -16,23 +14,18 @@ Inv-loop s n sum₀ p₀ sum p = (p ≤ n) × Summed (rowsAt s) p sum
 abbrev μ-loop : tie.MeasureT-loop
 μ-loop s n sum₀ p₀ sum p = n - p
 
--- src/held.rt:15:5
 loop-holds : tie.Need-loop-holds Inv-loop μ-loop
 loop-holds c = (omega (arith, c .before .pre .least), summed-none _)
 
--- src/held.rt:16:32
 mul-get16 : tie.Need-mul-get16 Inv-loop μ-loop
 mul-get16 c = search needs
 
--- src/held.rt:16:32
 add-get16 : tie.Need-add-get16 Inv-loop μ-loop
 add-get16 c = search needs
 
--- src/held.rt:16:16
 get16-requires : tie.Need-get16-requires Inv-loop μ-loop
 get16-requires c κs = search needs
 
--- src/held.rt:16:9
 add-sum : tie.Need-add-sum Inv-loop μ-loop
 add-sum c =
     let l = c .before .before .loop in
@@ -40,15 +33,12 @@ add-sum c =
     let y = page-count (a .args .s .now) (a .args .n) (a .pre) (l .p) (l .inv .1 .start) (c .before .loop-test .taken) in
     record { fits = omega (arith, l .inv .1 .small, a .pre .most, c .get16 .ensures .0, y .0, y .1) }
 
--- src/held.rt:17:9
 add-p : tie.Need-add-p Inv-loop μ-loop
 add-p c = search needs
 
--- src/held.rt:15:5
 loop-less : tie.Need-loop-less Inv-loop μ-loop
 loop-less c = search needs
 
--- src/held.rt:15:5
 loop-again : tie.Need-loop-again Inv-loop μ-loop
 loop-again c =
     let l = c .before .before .loop in
@@ -56,7 +46,6 @@ loop-again c =
     let y = page-count (a .args .s .now) (a .args .n) (a .pre) (l .p) (l .inv .1 .start) (c .before .loop-test .taken) in
     (omega arith, summed-more (l .inv .1) (y .1) (ap (λ x. l .sum + x) (c .get16 .ensures .0 ∙ y .0)))
 
--- src/held.rt:9:1
 returns : tie.Need-returns Inv-loop μ-loop
 returns c =
     let a = c .before .before .before in

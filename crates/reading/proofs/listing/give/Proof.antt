@@ -1,20 +1,16 @@
-use native.Mathlib.Omega.{arith}
-use mathlib.Core.Path.{_≡_, ap, _∙_}
+-- `reading::listing::give` meets its contract. Assumes nothing.
+use borrow.Author.Needs.{needs}
+use mathlib.Core.Path.{_≡_, ap}
 use mathlib.Core.List.{List}
 use Prim.Native.Nat.{ℕ, _+_, _-_, _≤_}
+use native.Mathlib.Omega.{arith}
 use lib.ListN.{length, take, drop}
 use Rattle.page.specs.Page.{code}
 use Rattle.page.proofs.Slots.{Lies, lies, code-part}
 use Rattle.page.proofs.Sums.{len-of-code}
 use Rattle.reading.proofs.Listings.{row-given}
-use borrow.Author.Needs.{needs}
 use Rattle.reading.proofs.listing.give.Statement.{statement}
 use Rattle.reading.proofs.listing.give.Tie as tie
-use Rattle.reading.proofs.listing.give.Reads as reads
-use Rattle.reading.proofs.listing.give.Lts as lts
-use Rattle.page.proofs.read_place.Reads as read-place-reads
-use Rattle.page.proofs.extent_of.Reads as extent-of-reads
-use Rattle.words.proofs.copy_at.Reads as copy-at-reads
 
 -- where slot i's record lies
 module _ (c : tie.After-extent-of) where
@@ -39,47 +35,36 @@ module _ (c : tie.After-extent-of) where
   short : length (take ((o + l) - (o + 8)) (drop (o + 8) pg)) ≤ 64
   short = omega (arith, ap length same, len-of-code pg i (c .before .before .before .pre .0) (c .before .before .before .pre .1), lie)
 
--- src/listing.rt:45:9
 extent-of-requires : tie.Need-extent-of-requires
 extent-of-requires c κs = search needs
 
--- src/listing.rt:46:16
 add-from : tie.Need-add-from
 add-from c = let x = c .before in record { fits = omega (arith, lie x, x .extent-of .ensures .0) }
 
--- src/listing.rt:47:14
 add-to : tie.Need-add-to
 add-to c = let x = c .before .before in record { fits = omega (arith, lie x, x .extent-of .ensures .0, x .extent-of .ensures .1) }
 
--- src/listing.rt:48:28
 sub-copy-at : tie.Need-sub-copy-at
 sub-copy-at c = let x = c .before .before .before in omega (arith, lie x, x .extent-of .ensures .1)
 
--- src/listing.rt:48:28
 part-copy-at-start : tie.Need-part-copy-at-start
 part-copy-at-start c = let x = c .before .before .before in omega (arith, lie x, x .extent-of .ensures .1)
 
--- src/listing.rt:48:28
 part-copy-at-end : tie.Need-part-copy-at-end
 part-copy-at-end c = let x = c .before .before .before in omega (arith, lie x, x .extent-of .ensures .0, x .extent-of .ensures .1)
 
--- src/listing.rt:48:5
 copy-at-requires : tie.Need-copy-at-requires
 copy-at-requires c κs = let x = c .before .before .before .before in omega (arith, short x, x .before .before .before .pre .2)
 
--- src/listing.rt:49:19
 sub-t11 : tie.Need-sub-t11
 sub-t11 c = let x = c .before .before .before .before .before .before .before in omega (arith, lie x, x .extent-of .ensures .1)
 
--- src/listing.rt:49:30
 read-place-requires : tie.Need-read-place-requires
 read-place-requires c κs = search needs
 
--- src/listing.rt:41:1
 same-length : tie.Need-same-length
 same-length c = search needs
 
--- src/listing.rt:41:1
 returns : tie.Need-returns
 returns c =
     let x = c .before .before .before .before .before .before .before .before in

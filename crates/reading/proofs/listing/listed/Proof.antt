@@ -1,23 +1,18 @@
+-- `reading::listing::listed` meets its contract. Assumes nothing.
+use borrow.Author.Needs.{needs}
+use mathlib.Core.Path.{_≡_, sym, ap, subst₂, _∙_}
+use Prim.Native.Nat.{ℕ, _≤_, _<_, _^_, _-_, _*_, _+_}
+use native.Mathlib.Omega.{arith}
+use lib.Pow.{pow-pos}
 use Rattle.ground.specs.Lists.{byte}
 use Rattle.page.specs.Page.{depth, count}
-use Rattle.store.specs.Pages.{S1024, page}
+use Rattle.store.specs.Pages.{S1024, page, dirDepth}
 use Rattle.store.proofs.Depths.{page-byte}
 use Rattle.store.proofs.Rules.{opened}
 use Rattle.reading.proofs.Holdings.{count-at}
-use lib.Pow.{pow-pos}
 use Rattle.reading.proofs.Listings.{Reached, Used, reached-first, reached-none, reached-next, its-page, reached-here, reached-past}
-use Rattle.store.specs.Pages.{dirDepth}
-use Prim.Native.Nat.{ℕ, _≤_, _<_, _^_, _-_, _*_, _+_}
-use mathlib.Core.Path.{_≡_, sym, ap, subst₂, _∙_}
-use native.Mathlib.Omega.{arith}
-use borrow.Author.Needs.{needs}
 use Rattle.reading.proofs.listing.listed.Statement.{statement}
 use Rattle.reading.proofs.listing.listed.Tie as tie
-use Rattle.reading.proofs.listing.listed.Reads as reads
-use Rattle.reading.proofs.listing.listed.Lts as lts
-use Rattle.reading.proofs.directory.two_to.Reads as two-to-reads
-use Rattle.words.proofs.get16.Reads as get16-reads
-use Rattle.words.proofs.get32.Reads as get32-reads
 
 abbrev Inv-loop : tie.InvT-loop
 Inv-loop s n d m left₀ i₀ left i = Reached s n i left
@@ -63,62 +58,48 @@ next c =
     let r = reached-past s (start x .pre) (start x .args .n) (l .i) (l .left) (l .inv) (inside x) (p x) (x .before .get322 .ensures .0) (x .if1 .left) (omega (arith, n, c .before .before .if2 .left)) in
     subst₂ (λ w m. Reached s (start x .args .n) (l .i + w) (l .left - m)) (sym k) (sym n) r
 
--- src/listing.rt:14:13
 get32-requires : tie.Need-get32-requires Inv-loop μ-loop
 get32-requires c κs = search needs
 
--- src/listing.rt:14:13
 cast-d : tie.Need-cast-d Inv-loop μ-loop
 cast-d c = search needs
 
--- src/listing.rt:15:9
 two-to-requires : tie.Need-two-to-requires Inv-loop μ-loop
 two-to-requires c κs = omega (arith, opened _ _ _ (c .before .before .pre) .page0 .depth, c .get32 .ensures .0)
 
--- src/listing.rt:18:5
 loop-holds : tie.Need-loop-holds Inv-loop μ-loop
 loop-holds c = reached-first (c .before .before .before .args .s .now) (c .before .before .before .pre) (c .before .before .before .args .n)
 
--- src/listing.rt:19:40
 mul-get32 : tie.Need-mul-get32 Inv-loop μ-loop
 mul-get32 c = search needs
 
--- src/listing.rt:19:33
 add-get32 : tie.Need-add-get32 Inv-loop μ-loop
 add-get32 c = search needs
 
--- src/listing.rt:19:13
 get32-requires-2 : tie.Need-get32-requires-2 Inv-loop μ-loop
 get32-requires-2 c κs = search needs
 
--- src/listing.rt:21:13
 add-i : tie.Need-add-i Inv-loop μ-loop
 add-i c = search needs
 
--- src/listing.rt:18:5
 loop-less : tie.Need-loop-less Inv-loop μ-loop
 loop-less c = search needs
 
--- src/listing.rt:18:5
 loop-again : tie.Need-loop-again Inv-loop μ-loop
 loop-again c =
     let x = c .before .before .before in
     let a = x .before .before .before .before in
     reached-next (a .args .s .now) (a .pre) (a .args .n) (x .loop .i) (x .loop .left) (x .loop .inv) (omega (arith, c .before .before .loop-test .taken, power x)) (sym (c .before .get322 .ensures .0) ∙ c .if1 .taken)
 
--- src/listing.rt:24:33
 mul-get16 : tie.Need-mul-get16 Inv-loop μ-loop
 mul-get16 c = search needs
 
--- src/listing.rt:24:33
 add-get16 : tie.Need-add-get16 Inv-loop μ-loop
 add-get16 c = search needs
 
--- src/listing.rt:24:13
 get16-requires : tie.Need-get16-requires Inv-loop μ-loop
 get16-requires c κs = omega (arith, used c .to)
 
--- src/listing.rt:26:13
 returns : tie.Need-returns Inv-loop μ-loop
 returns c =
     let x = c .before .before in
@@ -127,45 +108,35 @@ returns c =
     reached-here (a .args .s .now) (a .pre) (a .args .n) (l .i) (l .left) (l .inv) (inside x) (p x) (x .before .get322 .ensures .0) (x .if1 .left)
     (omega (arith, c .if2 .taken, c .before .get16 .ensures .0, count-at (a .args .s .now) (p x)))
 
--- src/listing.rt:29:28
 mul-two-to : tie.Need-mul-two-to Inv-loop μ-loop
 mul-two-to c = search needs
 
--- src/listing.rt:29:28
 add-two-to : tie.Need-add-two-to Inv-loop μ-loop
 add-two-to c = search needs
 
--- src/listing.rt:29:26
 shared-slice-read-two-to : tie.Need-shared-slice-read-two-to Inv-loop μ-loop
 shared-slice-read-two-to c = omega (arith, used (c .before .before .before) .to)
 
--- src/listing.rt:29:26
 cast-two-to : tie.Need-cast-two-to Inv-loop μ-loop
 cast-two-to c = record { fits = omega (arith, c .shared-slice-known2 .given (p (c .before .before .before) * 1024 + 1)) }
 
--- src/listing.rt:29:21
 sub-two-to : tie.Need-sub-two-to Inv-loop μ-loop
 sub-two-to c = low (c .before .before .before)
 
--- src/listing.rt:29:14
 two-to-requires-2 : tie.Need-two-to-requires-2 Inv-loop μ-loop
 two-to-requires-2 c κs =
     let x = c .before .before .before in
     omega (arith, opened _ _ _ (start x .pre) .page0 .depth, x .before .before .before .before .before .get32 .ensures .0)
 
--- src/listing.rt:29:9
 add-i-2 : tie.Need-add-i-2 Inv-loop μ-loop
 add-i-2 c = search needs
 
--- src/listing.rt:18:5
 loop-less-2 : tie.Need-loop-less-2 Inv-loop μ-loop
 loop-less-2 c = let x = c .before .before .before .before in omega (arith, c .two-to2 .ensures .0, pow-pos (x .before .before .before .before .before .get32 .result - byte (start x .args .s .now) (p x * 1024 + 1)))
 
--- src/listing.rt:18:5
 loop-again-2 : tie.Need-loop-again-2 Inv-loop μ-loop
 loop-again-2 c = next c
 
--- src/listing.rt:10:1
 returns-2 : tie.Need-returns-2 Inv-loop μ-loop
 returns-2 c =
     let x = c .before in

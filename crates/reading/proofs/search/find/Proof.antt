@@ -1,18 +1,15 @@
+-- `reading::search::find` meets its contract. Assumes nothing.
+use borrow.Author.Needs.{needs}
 use mathlib.Core.List.{List}
+use mathlib.Core.Path.{subst}
+use Prim.Native.Nat.{ℕ, _+_, _-_, _*_, _≤_}
+use native.Mathlib.Omega.{arith}
+use lib.ListN.{length, take, drop}
+use Rattle.page.specs.Found.{FoundIn}
 use Rattle.reading.proofs.Lookups.{not-there, its-bytes, its-page, at-slot, no-slot}
 use Rattle.reading.proofs.Standing.{seen}
-use Rattle.page.specs.Found.{FoundIn}
-use lib.ListN.{length, take, drop}
-use Prim.Native.Nat.{ℕ, _+_, _-_, _*_, _<_, _≤_}
-use mathlib.Core.Path.{_≡_, sym, ap, _∙_, subst}
-use native.Mathlib.Omega.{arith}
-use borrow.Author.Needs.{needs}
 use Rattle.reading.proofs.search.find.Statement.{statement}
 use Rattle.reading.proofs.search.find.Tie as tie
-use Rattle.reading.proofs.search.find.Reads as reads
-use Rattle.reading.proofs.search.find.Lts as lts
-use Rattle.page.proofs.find_code.Reads as find-code-reads
-use Rattle.reading.proofs.search.page_of.Reads as page-of-reads
 
 -- the page that the entry names
 bytes : (c : tie.Else1) → c .before .page-of .result * 1024 + 1024 ≤ length (c .before .before .before .before .args .s .now)
@@ -21,50 +18,39 @@ bytes c = let a = c .before .before .before .before in its-bytes (a .args .s .no
 abbrev lent : tie.Else1 → List ℕ
 lent c = let p = c .before .page-of .result in take (p * 1024 + 1024 - p * 1024) (drop (p * 1024) (c .before .before .before .before .args .s .now))
 
--- src/search.rt:27:9
 page-of-requires : tie.Need-page-of-requires
 page-of-requires c κs = search needs
 
--- src/search.rt:29:9
 returns : tie.Need-returns
 returns c = let a = c .before .before .before .before in not-there (a .args .s .now) (a .args .key .now) (a .pre) (c .before .page-of .result) (c .before .page-of .ensures) (c .if1 .taken)
 
--- src/search.rt:31:13
 mul-a : tie.Need-mul-a
 mul-a c = record { fits = omega (arith, bytes c, c .before .before .before .before .good) }
 
--- src/search.rt:32:13
 add-e : tie.Need-add-e
 add-e c = record { fits = omega (arith, bytes c, c .before .before .before .before .good) }
 
--- src/search.rt:33:27
 sub-find-code : tie.Need-sub-find-code
 sub-find-code c = search needs
 
--- src/search.rt:33:27
 part-find-code-start : tie.Need-part-find-code-start
 part-find-code-start c = search needs
 
--- src/search.rt:33:27
 part-find-code-end : tie.Need-part-find-code-end
 part-find-code-end c = bytes c
 
--- src/search.rt:33:11
 find-code-requires : tie.Need-find-code-requires
 find-code-requires c κs =
     let x = c .before in
     let a = x .before .before .before .before in
     its-page (a .args .s .now) (a .args .key .now) (a .pre) (x .before .page-of .result) (x .before .page-of .ensures) (x .if1 .left) (lent x) (seen (a .args .s .now) (x .before .page-of .result)) .rules
 
--- src/search.rt:34:19
 enum-known-i : tie.Need-enum-known-i
 enum-known-i c = search needs
 
--- src/search.rt:35:29
 enum-told : tie.Need-enum-told
 enum-told c = search needs
 
--- src/search.rt:23:1
 returns-2 : tie.Need-returns-2
 returns-2 c =
     let x = c .before .before .before .before .before in
@@ -73,7 +59,6 @@ returns-2 c =
     at-slot (a .args .s .now) (a .args .key .now) (a .pre) (x .before .page-of .result) (x .before .page-of .ensures) (x .if1 .left) (lent x) (seen (a .args .s .now) (x .before .page-of .result)) i
     (subst (FoundIn (lent x) (a .args .key .now)) (c .before .i .given .1) (c .before .before .before .find-code .ensures))
 
--- src/search.rt:23:1
 returns-3 : tie.Need-returns-3
 returns-3 c =
     let x = c .before .before .before .before in

@@ -1,20 +1,16 @@
-use Rattle.reading.proofs.Lookups.{entry-in}
-use Rattle.store.proofs.Rules.{opened}
-use Rattle.store.specs.Pages.{dirDepth}
-use Rattle.partition.specs.Bits.{top}
+-- `reading::search::page_of` meets its contract. Assumes nothing.
+use borrow.Author.Needs.{needs}
+use mathlib.Core.Path.{_≡_, sym, ap, ap₂, _∙_, subst}
+use Prim.Native.Nat.{_+_, _*_, _<_}
+use native.Mathlib.Omega.{arith}
 use Rattle.words.specs.Le.{le32}
 use Rattle.hash.specs.Fnv.{fnv, fnv-lt}
-use Prim.Native.Nat.{ℕ, _+_, _*_, _<_}
-use mathlib.Core.Path.{_≡_, sym, ap, ap₂, _∙_, subst}
-use native.Mathlib.Omega.{arith}
-use borrow.Author.Needs.{needs}
+use Rattle.partition.specs.Bits.{top}
+use Rattle.store.proofs.Rules.{opened}
+use Rattle.store.specs.Pages.{dirDepth}
+use Rattle.reading.proofs.Lookups.{entry-in}
 use Rattle.reading.proofs.search.page_of.Statement.{statement}
 use Rattle.reading.proofs.search.page_of.Tie as tie
-use Rattle.reading.proofs.search.page_of.Reads as reads
-use Rattle.reading.proofs.search.page_of.Lts as lts
-use Rattle.hash.proofs.hash.Reads as hash-reads
-use Rattle.partition.proofs.top_bits.Reads as top-bits-reads
-use Rattle.words.proofs.get32.Reads as get32-reads
 
 -- the entry's number
 is : (c : tie.After-top-bits) → let a = c .before .before .before .before .before .args in c .top-bits .result ≡ top (dirDepth (a .s .now)) (fnv (a .key .now))
@@ -25,35 +21,27 @@ within c =
     let a = c .before .before .before .before .before in
     subst (λ i. i < 256) (sym (is c)) (entry-in (a .args .s .now) (a .pre) (fnv (a .args .key .now)) (fnv-lt (a .args .key .now)))
 
--- src/search.rt:17:13
 get32-requires : tie.Need-get32-requires
 get32-requires c κs = search needs
 
--- src/search.rt:17:13
 cast-d : tie.Need-cast-d
 cast-d c = search needs
 
--- src/search.rt:18:33
 hash-requires : tie.Need-hash-requires
 hash-requires c κs = search needs
 
--- src/search.rt:18:13
 top-bits-requires : tie.Need-top-bits-requires
 top-bits-requires c κs = let a = c .before .before .before .before in omega (arith, opened _ _ _ (a .pre) .page0 .depth, c .before .get32 .ensures .0)
 
--- src/search.rt:19:28
 mul-get32 : tie.Need-mul-get32
 mul-get32 c = record { fits = omega (arith, within c) }
 
--- src/search.rt:19:21
 add-get32 : tie.Need-add-get32
 add-get32 c = record { fits = omega (arith, within c) }
 
--- src/search.rt:19:5
 get32-requires-2 : tie.Need-get32-requires-2
 get32-requires-2 c κs = omega (arith, within c, opened _ _ _ (c .before .before .before .before .before .pre) .long .least)
 
--- src/search.rt:13:1
 returns : tie.Need-returns
 returns c = c .get322 .ensures .0 ∙ ap (λ i. le32 (c .before .before .before .before .before .before .args .s .now) (1024 + 4 * i)) (is (c .before))
 

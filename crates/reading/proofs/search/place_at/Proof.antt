@@ -1,44 +1,34 @@
-use Rattle.reading.proofs.Standing.{seen}
-use Rattle.page.specs.Places as Places
-use Rattle.page.specs.Page.{Slotted, count, place}
-use Prim.Native.Nat.{_<_}
-use mathlib.Core.Path.{_≡_, sym, ap, _∙_, subst}
-use native.Mathlib.Omega.{arith}
+-- `reading::search::place_at` meets its contract. Assumes nothing.
 use borrow.Author.Needs.{needs}
+use mathlib.Core.Path.{sym, ap, _∙_, subst}
+use Prim.Native.Nat.{_<_}
+use Rattle.page.specs.Page.{Slotted, count, place}
+use Rattle.page.specs.Places as Places
+use Rattle.reading.proofs.Standing.{seen}
 use Rattle.reading.proofs.search.place_at.Statement.{statement}
 use Rattle.reading.proofs.search.place_at.Tie as tie
-use Rattle.reading.proofs.search.place_at.Reads as reads
-use Rattle.reading.proofs.search.place_at.Lts as lts
-use Rattle.page.proofs.read_place.Reads as read-place-reads
 
--- src/search.rt:47:13
 mul-a : tie.Need-mul-a
 mul-a c = search needs
 
--- src/search.rt:48:13
 add-e : tie.Need-add-e
 add-e c = search needs
 
--- src/search.rt:49:22
 sub-read-place : tie.Need-sub-read-place
 sub-read-place c = search needs
 
--- src/search.rt:49:22
 part-read-place-start : tie.Need-part-read-place-start
 part-read-place-start c = search needs
 
--- src/search.rt:49:22
 part-read-place-end : tie.Need-part-read-place-end
 part-read-place-end c = search needs
 
--- src/search.rt:49:5
 read-place-requires : tie.Need-read-place-requires
 read-place-requires c κs =
     let a = c .before .before in
     let e = sym (seen (a .args .s .now) (a .args .p)) in
     (subst Slotted e (a .pre .rules .rules), subst (λ g. a .args .i < count g) e (a .pre .here))
 
--- src/search.rt:43:1
 returns : tie.Need-returns
 returns c = let a = c .before .before .before in c .read-place .ensures ∙ ap (λ g. Places.place (place g (a .args .i))) (seen (a .args .s .now) (a .args .p))
 
