@@ -86,12 +86,12 @@ pub fn row_at(s: &[u8], n: usize, out: &mut [u8]) -> Answer
     if !good_length(s) {
         return Answer::BadLength;
     }
+    let fault = first_bad(s);
     if out.len() < 64 {
         return Answer::ShortOutput;
     }
-    let bad = first_bad(s);
-    if bad < s.len() / 1024 {
-        return Answer::BadPage(bad);
+    if fault < s.len() / 1024 {
+        return Answer::BadPage(fault);
     }
     match listing::listed(s, n) {
         Spot::At(p, i) => {

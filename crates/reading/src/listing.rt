@@ -31,8 +31,9 @@ pub fn listed(s: &[u8], n: usize) -> Spot
         if left < c {
             return Spot::At(p, left);
         }
+        let k = s[p * 1024 + 1] as u32;
         left -= c;
-        i += two_to(d - (s[p * 1024 + 1] as u32));
+        i += two_to(d - k);
     }
     Spot::Absent
 }

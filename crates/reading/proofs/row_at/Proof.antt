@@ -24,7 +24,7 @@ good c = says-true {P = GoodLength S1024 (c .before .before .before .before .arg
 
 -- past the check
 sound : (c : tie.Else3) → Accepted S1024 fnv (c .before .before .before .before .before .before .before .args .s .now)
-sound c = c .before .first-bad .ensures .sound (c .if3 .left)
+sound c = c .before .before .first-bad .ensures .sound (c .if3 .left)
 
 -- row n is there
 module _ (c : tie.After-p) where
@@ -49,14 +49,14 @@ returns c = inl (tt, (says-false {P = GoodLength S1024 (c .before .before .befor
 
 returns-2 : tie.Need-returns-2
 unfolding rowTable
-returns-2 c = inr ((λ _ n. n (good (c .before))), inl (tt, (c .if2 .taken, refl)))
+returns-2 c = inr ((λ _ n. n (good (c .before .before))), inl (tt, (c .if2 .taken, refl)))
 
 first-bad-requires : tie.Need-first-bad-requires
-first-bad-requires c κs = good (c .before)
+first-bad-requires c κs = good c
 
 returns-3 : tie.Need-returns-3
 unfolding rowTable
-returns-3 c = inr ((λ _ n. n (good (c .before .before .before))), inr ((λ _ l. omega (arith, c .before .before .if2 .left)), inl (c .before .first-bad .result, (c .before .first-bad .ensures .bad (c .if3 .taken), refl))))
+returns-3 c = inr ((λ _ n. n (good (c .before .before .before))), inr ((λ _ l. omega (arith, c .before .if2 .left)), inl (c .before .before .first-bad .result, (c .before .before .first-bad .ensures .bad (c .if3 .taken), refl))))
 
 listed-requires : tie.Need-listed-requires
 listed-requires c κs = sound c
@@ -83,7 +83,7 @@ give-requires : tie.Need-give-requires
 give-requires c κs =
     let x = c .before .before .before in
     let e = sym (seen (start x .args .s .now) (p x)) in
-    (subst Slotted e (at-spot x .0 .rules .rules), subst (λ g. i x < count g) e (at-spot x .0 .here), x .before .before .before .before .before .if2 .left)
+    (subst Slotted e (at-spot x .0 .rules .rules), subst (λ g. i x < count g) e (at-spot x .0 .here), x .before .before .before .before .if2 .left)
 
 enum-told : tie.Need-enum-told
 enum-told c = search needs
@@ -95,14 +95,14 @@ returns-4 : tie.Need-returns-4
 returns-4 c =
     let x = c .before .before .before .before .before .before in
     let a = start x in
-    row-found (a .args .s .now) (a .args .n) (a .args .out .now) (x .before .before .before .before .before .if2 .left) (sound (x .before .before .before)) _ _ (at-spot x .1)
+    row-found (a .args .s .now) (a .args .n) (a .args .out .now) (x .before .before .before .before .if2 .left) (sound (x .before .before .before)) _ _ (at-spot x .1)
     (c .before .before .give .ensures ∙ ap (λ g. giving (asRow (rowAt g (i x))) (a .args .out .now)) (seen (a .args .s .now) (p x)))
 
 returns-5 : tie.Need-returns-5
 returns-5 c =
     let x = c .before .before .before in
     let a = x .before .before .before .before .before .before .before in
-    row-missing (a .args .s .now) (a .args .n) (a .args .out .now) (x .before .before .if2 .left) (sound x) (subst (Listed (a .args .s .now) (a .args .n)) (c .enum-told .given .1) (c .before .before .listed .ensures))
+    row-missing (a .args .s .now) (a .args .n) (a .args .out .now) (x .before .if2 .left) (sound x) (subst (Listed (a .args .s .now) (a .args .n)) (c .enum-told .given .1) (c .before .before .listed .ensures))
 
 pub row-at-spec : {M : Type 1} → statement M
 row-at-spec =
@@ -110,8 +110,8 @@ row-at-spec =
     (tie.spec
     good-length-requires
     returns
-    returns-2
     first-bad-requires
+    returns-2
     returns-3
     listed-requires
     enum-known-p

@@ -108,17 +108,17 @@ returns c =
     reached-here (a .args .s .now) (a .pre) (a .args .n) (l .i) (l .left) (l .inv) (inside x) (p x) (x .before .get322 .ensures .0) (x .if1 .left)
     (omega (arith, c .if2 .taken, c .before .get16 .ensures .0, count-at (a .args .s .now) (p x)))
 
-mul-two-to : tie.Need-mul-two-to Inv-loop μ-loop
-mul-two-to c = search needs
+mul-k : tie.Need-mul-k Inv-loop μ-loop
+mul-k c = search needs
 
-add-two-to : tie.Need-add-two-to Inv-loop μ-loop
-add-two-to c = search needs
+add-k : tie.Need-add-k Inv-loop μ-loop
+add-k c = search needs
 
-shared-slice-read-two-to : tie.Need-shared-slice-read-two-to Inv-loop μ-loop
-shared-slice-read-two-to c = omega (arith, used (c .before .before .before) .to)
+shared-slice-read-k : tie.Need-shared-slice-read-k Inv-loop μ-loop
+shared-slice-read-k c = omega (arith, used (c .before .before .before) .to)
 
-cast-two-to : tie.Need-cast-two-to Inv-loop μ-loop
-cast-two-to c = record { fits = omega (arith, c .shared-slice-known2 .given (p (c .before .before .before) * 1024 + 1)) }
+cast-k : tie.Need-cast-k Inv-loop μ-loop
+cast-k c = record { fits = omega (arith, c .shared-slice-known2 .given (p (c .before .before .before) * 1024 + 1)) }
 
 sub-two-to : tie.Need-sub-two-to Inv-loop μ-loop
 sub-two-to c = low (c .before .before .before)
@@ -163,10 +163,10 @@ listed-spec =
     add-get16
     get16-requires
     returns
-    mul-two-to
-    add-two-to
-    shared-slice-read-two-to
-    cast-two-to
+    mul-k
+    add-k
+    shared-slice-read-k
+    cast-k
     sub-two-to
     two-to-requires-2
     add-i-2
