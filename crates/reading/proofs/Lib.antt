@@ -11,3 +11,4 @@ pub mod Holdings
 pub mod Calls
 pub mod Lookups
 pub mod Listings
+pub mod Settled
