@@ -1,15 +1,15 @@
 -- Laws of the marks. Assumes nothing.
-use Prim.Native.Nat.{ℕ, _+_, _*_, _-_, _≤_, _<_}
-use mathlib.Core.Path.{_≡_, refl, sym, ap, _∙_}
+use Prim.Native.Nat.{ℕ, _+_, _-_, _≤_, _<_}
+use mathlib.Core.Path.{_≡_, sym, _∙_}
 use mathlib.Core.Logic.{_⊎_, inl, inr, ⊎-elim}
 use mathlib.Core.List.{List}
 use native.Mathlib.Omega.{arith}
-use lib.Bits.{bitAnd, bitOr, or-add-and, and-le-l, and-le-r, and-self, and-mask, and-zero-l, and-zero-r, or-lt}
+use lib.Bits.{bitAnd, bitOr, or-add-and, and-le-l, and-le-r, and-self, and-mask, and-zero-l, and-zero-r}
 use Rattle.ground.specs.Lists.{byte}
 use Rattle.ground.proofs.Sides.{side, same}
-use Rattle.words.specs.Moves.{Span, Cleared}
+use Rattle.words.specs.Moves.{Cleared}
 use Rattle.page.specs.Page.{In, off, len}
-use Rattle.audit.specs.Marks.{Filled, Free, MarkedAt, Covers, Clean}
+use Rattle.audit.specs.Marks.{Filled, Free, Covers, Clean}
 
 -- an and of bytes is 255 just where both are
 pub and-full : (x y : ℕ) → x < 256 → y < 256 → bitAnd x y ≡ 255 → (x ≡ 255) × (y ≡ 255)

@@ -1,5 +1,5 @@
 -- The hashes of a page share a prefix where each shares it with the first. Assumes nothing.
-use Prim.Native.Nat.{ℕ, _≤_, _<_}
+use Prim.Native.Nat.{ℕ, _<_}
 use mathlib.Core.Path.{_≡_, sym, _∙_}
 use mathlib.Core.List.{List}
 use Rattle.partition.specs.Bits.{top}

@@ -1,7 +1,7 @@
 -- What the pass over the slots has shown of the first of them. Assumes nothing.
-use Prim.Native.Nat.{ℕ, zero, suc, _+_, _*_, _-_, _/_, _%_, _≤_, _<_}
-use mathlib.Core.Path.{_≡_, refl, sym, ap, _∙_, subst}
-use mathlib.Core.List.{List, []}
+use Prim.Native.Nat.{ℕ, _+_, _-_, _≤_, _<_}
+use mathlib.Core.Path.{_≡_, refl, sym, subst}
+use mathlib.Core.List.{List}
 use native.Mathlib.Omega.{arith}
 use native.Mathlib.Numerals.{add-one}
 use borrow.Author.Count.{below-more}
@@ -10,9 +10,10 @@ use Rattle.ground.specs.Lists.{byte, part, total}
 use Rattle.words.specs.Codes.{Before}
 use Rattle.words.specs.Le.{le32}
 use Rattle.words.specs.Moves.{Cleared}
+use Rattle.page.proofs.Sums.{total-more}
 use Rattle.page.specs.Page.{In, off, len, word, code, count, frontier, free, need, slotAt}
 use Rattle.audit.specs.Rules.{WordOk, SlotsOk, prior, offOf, lenOf}
-use Rattle.audit.specs.Marks.{Free, Covers, NextOk}
+use Rattle.audit.specs.Marks.{Covers, NextOk}
 use Rattle.audit.proofs.Marks.{covers-more, apart-none, apart-more, unmarked}
 
 -- of the first n slots each keeps its rules, they are in code order, no byte is in two records, and the marks are theirs
@@ -60,14 +61,9 @@ last-more p j w e h =
     rw (n, add-one, e) refl
 
 -- the needs of one slot more
-total-suc : (g : ℕ → ℕ) (n : ℕ) → total g (suc n) ≡ total g n + g n
-unfolding total
-total-suc g zero = omega arith
-total-suc g (suc n) = let ih : total (λ i. g (suc i)) (suc n) ≡ total (λ i. g (suc i)) n + g (suc n) = total-suc (λ i. g (suc i)) n in omega arith
-
 pub needs-more : (p : List ℕ) (j w : ℕ) → w ≡ word p j → total (need p) (j + 1) ≡ total (need p) j + 4 + lenOf w
 unfolding len
-needs-more p j w e = let t : total (need p) (j + 1) ≡ total (need p) j + need p j = rw add-one (total-suc (need p) j) in rw e (omega arith)
+needs-more p j w e = rw e (omega (arith, total-more (need p) j))
 
 pub slots-all : (p m : List ℕ) (f : ℕ) → f ≡ frontier p → Swept p (count p) f m → free p + total (need p) (count p) ≡ length p - 8 → SlotsOk p
 slots-all p m f e s u = record { words = rw e at (s .words); ascending = s .ascending; apart = s .apart; unused = u }

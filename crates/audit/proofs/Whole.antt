@@ -1,19 +1,19 @@
 -- The tests together are the rules. Assumes nothing.
-use Prim.Native.Nat.{ℕ, zero, suc, _+_, _*_, _-_, _/_, _%_, _≤_, _<_, Ordering·lt}
-use mathlib.Core.Path.{_≡_, refl, sym, ap, _∙_}
-use mathlib.Core.Logic.{_⊎_, inl, inr, ⊎-elim}
+use Prim.Native.Nat.{ℕ, zero, suc, _+_, _*_, _-_, _≤_, _<_}
+use mathlib.Core.Path.{_≡_, refl, sym, _∙_}
+use mathlib.Core.Logic.{_⊎_, ⊎-elim}
 use mathlib.Core.List.{List, [], _∷_}
 use native.Mathlib.Omega.{arith}
-use native.Mathlib.Numerals.{add-one}
 use lib.ListN.{length}
-use Rattle.ground.specs.Lists.{byte, part, total}
+use Rattle.ground.specs.Lists.{byte, part}
 use Rattle.ground.proofs.Sides.{side}
 use Rattle.ground.proofs.Parts.{byte-part, length-part}
 use Rattle.words.specs.Codes.{Before, order}
 use Rattle.words.proofs.Orders.{before-trans}
 use Rattle.words.specs.Zeros.{Zero}
 use Rattle.words.proofs.Zeros.{zero-all}
-use Rattle.page.specs.Page.{BucketPage, Natural, In, off, len, kind, word, place, code, count, frontier, free, need}
+use Rattle.page.proofs.Sums.{len-of-code}
+use Rattle.page.specs.Page.{BucketPage, Natural, In, off, len, kind, word, place, code, count, frontier}
 use Rattle.audit.specs.Rules.{HeadOk, NaturalAt, WordOk, SlotsOk, prior}
 use Rattle.audit.specs.Marks.{Covers, Clean}
 use Rattle.audit.proofs.Marks.{clean-from, clean-to}
@@ -36,7 +36,7 @@ natural-from p i a = record {
 }
 
 -- slot i in the page's terms
-pub record Slot (p : List ℕ) (i : ℕ) : Type 0 where
+record Slot (p : List ℕ) (i : ℕ) : Type 0 where
   pub kind-one : kind p i ≡ 1
   pub short : 9 ≤ len p i
   pub long : len p i ≤ 72
@@ -44,7 +44,7 @@ pub record Slot (p : List ℕ) (i : ℕ) : Type 0 where
   pub inside : off p i + len p i ≤ frontier p
   pub natural : NaturalAt p (off p i)
 
-pub slot-of : (p : List ℕ) (i : ℕ) → WordOk p (frontier p) (word p i) → Slot p i
+slot-of : (p : List ℕ) (i : ℕ) → WordOk p (frontier p) (word p i) → Slot p i
 unfolding off len kind
 slot-of p i w = record { kind-one = w .kind-one; short = w .short; long = w .long; after = w .after; inside = w .inside; natural = w .natural }
 
@@ -57,10 +57,6 @@ after-none : (c : List ℕ) → 1 ≤ length c → Before [] c
 unfolding order
 after-none [] h = absurd (omega arith)
 after-none (x ∷ c) h = record { less = refl }
-
-pub length-code : (p : List ℕ) (i : ℕ) → Slot p i → frontier p ≤ length p → length (code p i) ≡ len p i - 8
-unfolding code
-length-code p i s h = length-part p (off p i + 8) (len p i - 8) (omega arith)
 
 -- steps up add up
 ascending-of : (p : List ℕ) (n : ℕ) → ((i : ℕ) → i < n → Before (prior p i) (code p i)) → (i j : ℕ) → i < j → j < n → Before (code p i) (code p j)
@@ -100,7 +96,7 @@ slots-of p b = record {
     }
 
     climbs : (i : ℕ) → i < count p → Before (prior p i) (code p i)
-    climbs zero h = after-none (code p 0) (let e : length (code p 0) ≡ len p 0 - 8 = length-code p 0 (slot 0 h) (omega (arith, b .rules .room)) in omega (arith, slot 0 h .short))
+    climbs zero h = after-none (code p 0) (omega (arith, len-of-code p 0 (b .rules) h, b .rules .short 0 h))
     climbs (suc i) h = b .rules .ascending i (suc i) (omega arith) h
 
 -- zeros from a up to b

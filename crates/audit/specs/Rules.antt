@@ -5,7 +5,7 @@ use mathlib.Core.List.{List, []}
 use lib.ListN.{length}
 use Rattle.ground.specs.Lists.{byte, part, total}
 use Rattle.words.specs.Codes.{Before}
-use Rattle.page.specs.Page.{In, count, frontier, free, off, len, code, word, need}
+use Rattle.page.specs.Page.{In, count, frontier, free, code, word, need}
 
 -- the header: the page's size, byte 0, the row count, and a frontier past the first record and not past the slots
 pub record HeadOk (p : List ℕ) : Type 0 where

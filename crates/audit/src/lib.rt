@@ -15,6 +15,7 @@ ghost use Rattle.audit.specs.Marks.{Filled, Free, Covers, Clean, NextOk}
 ghost use Rattle.audit.specs.Shared.{Share, Keeps};
 use words::Order;
 
+// Size, byte 0, row count, and a frontier that leaves room for a record and for the slots.
 fn head_ok(page: &[u8]) -> bool
     ensures { λ r. ⌜ Says r (HeadOk (now (page .entry))) ⌝ }
 {
@@ -132,7 +133,7 @@ fn next_ok(page: &[u8], marks: &mut [u8], f: usize, a: usize, b: usize, w: usize
     mark(marks, o, l)
 }
 
-// The slots with their records, in one pass.
+// The slots with their records, in one pass: a up to b is the code before slot i's, none before the first.
 fn slots_ok(page: &[u8], marks: &mut [u8], n: usize, f: usize) -> bool
     requires { ⌜ HeadOk (now page) × (n ≡ count (now page)) × (f ≡ frontier (now page)) × (length (now marks) ≡ length (now page)) × Covers (now page) 0 f (now marks) ⌝ }
     ensures says { λ r. ⌜ Says r (SlotsOk (now (page .entry))) ⌝ }
@@ -184,6 +185,7 @@ pub fn page_ok(page: &[u8], marks: &mut [u8]) -> bool
     if !slots_ok(page, marks, n, f) {
         return false;
     }
+    // No record ends after the frontier, so one ends at it where the byte before it is marked.
     if marks[f - 1] != 0 {
         return false;
     }

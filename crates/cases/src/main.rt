@@ -1,26 +1,26 @@
 // The worked cases of document 01 that run; what they must write stands in `stdout`.
+mod answers;
+mod refusals;
 mod show;
 
+use answers::say_number;
+use answers::say_place;
 use libc::STDOUT_FILENO;
-use page::Place;
 
 fn main() {
-    case_10();
+    let mut store = [0xAAu8; 3072];
+    case_10(&mut store);
+    let mut damaged = store;
+    damaged[1024] = 1;
+    refusals::all(&store, &damaged, &damaged[..3071]);
+    let free = [0u8; 1024];
+    refusals::inspections(&store[2048..3072], &damaged[1024..2048], &damaged[1024..2047], &free);
 }
 
-// "a" with place (7, 2, 0): page 2, whatever it held.
-fn case_10() {
-    let mut page = [0xAAu8; 1024];
-    let mut place = [0u8; 8];
-    page::store_place(
-        &mut place,
-        Place {
-            page: 7,
-            slot: 2,
-            volume: 0,
-        },
-    );
-    page::start_page(&mut page, 0, b"a", &place);
-    io::write_all(STDOUT_FILENO, b"case 10, page 2\n");
-    show::lines(&page);
+// In 3 pages, "a" with place (7, 2, 0), whatever they held.
+fn case_10(store: &mut [u8]) {
+    say_number(b"format:", lots_c::lots_format(store));
+    say_place(b"put a:", lots_c::lots_put(store, b"a", 7, 2, 0));
+    io::write_all(STDOUT_FILENO, b"case 10\n");
+    show::lines(store);
 }

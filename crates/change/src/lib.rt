@@ -4,7 +4,19 @@ ghost use Rattle.ground.specs.Ladder.{Answers};
 ghost use Rattle.store.specs.Pages.{S1024};
 ghost use Rattle.store.specs.Tables.{formatTable, meaning};
 
+mod bucket;
 mod directory;
+mod join;
+mod pages;
+mod prefix;
+mod put;
+mod removal;
+mod split;
+mod vacant;
+mod weigh;
+
+pub use removal::remove;
+pub use removal::remove_row;
 
 // Page 0 with depth 0, all other pages cleared, whatever the store held.
 pub fn format(s: &mut [u8]) -> store::Answer

@@ -40,14 +40,14 @@ top-same {p} {q} {n} {r} t e = record {
   reached = λ a. (t .reached a .0, t .reached a .1, rw (e (t .reached a .0) (t .reached a .1)) (t .reached a .2));
 }
 
-pub erased : {p q₁ q₂ q : List ℕ} {s f : ℕ} → Removable p s
+erased-at : {p q₁ q₂ q : List ℕ} {s f : ℕ} → Removable p s
     → Cleared p (off p s) (off p s + len p s) q₁
     → Closed q₁ (count p) s q₂
     → Top q₂ (count p - 1) f
     → Headed q₂ (count p - 1) f (free p + 4 + len p s) q
     → Erased p s q
 unfolding word
-erased {p} {q₁} {q₂} {q} {s} {f} I a b t d =
+erased-at {p} {q₁} {q₂} {q} {s} {f} I a b t d =
     let l₁ : length q₁ ≡ length p = a .len in
     let l₂ : length q₂ ≡ length q₁ = b .old .len in
     let l₃ : length q ≡ length q₂ = d .old .len in
@@ -72,6 +72,11 @@ erased {p} {q₁} {q₂} {q} {s} {f} I a b t d =
       upper = λ i h g. word-at p q i (word p (i + 1)) e
           (le32-above (slotAt p i) (d .old) (omega arith) ∙ rw (e₂, l₁) at (b .moved i h (omega arith)) ∙ le32-above (slotAt p (i + 1)) fa (omega arith));
     }
+
+-- the same, by the numbers that the code reads
+pub erased : {p q₁ q₂ q : List ℕ} {s f n r o m : ℕ} → Removable p s → n ≡ count p → r ≡ free p → o ≡ off p s → m ≡ len p s
+    → Cleared p o (o + m) q₁ → Closed q₁ n s q₂ → Top q₂ (n - 1) f → Headed q₂ (n - 1) f (r + 4 + m) q → Erased p s q
+erased I en er eo em a b t d = erased-at I (rw (eo, em) at a) (rw en at b) (rw en at t) (rw (en, er, em) at d)
 
 -- where slot i of q comes from
 data Kept (p : List ℕ) (s : ℕ) (q : List ℕ) (i : ℕ) : Type 0 where

@@ -4,7 +4,7 @@ use mathlib.Core.Path.{_≡_, refl, sym, ap, _∙_}
 use mathlib.Core.List.{List}
 use native.Mathlib.Omega.{arith}
 use Rattle.ground.specs.Lists.{tab}
-use Rattle.page.specs.Page.{Slotted, Belongs, rowAt, count, frontier, code}
+use Rattle.page.specs.Page.{Slotted, Belongs, rowAt, count, frontier, off, len, code}
 use Rattle.page.specs.Found.{FoundIn}
 use Rattle.page.specs.declared.Found.{Found}
 use Rattle.page.specs.declared.Found.the-variants.{At, Absent}
@@ -12,7 +12,7 @@ use Rattle.words.proofs.Orders.{irrefl, before-trans}
 use lib.ListN.{length}
 use mathlib.Core.Logic.{⊎-elim}
 use Rattle.ground.proofs.Sides.{side}
-use Rattle.page.specs.Steps.{Inserted, Removed, Overwritten}
+use Rattle.page.specs.Steps.{Inserted, Removed, Overwritten, Top}
 use Rattle.ground.proofs.Tables.{tab-same}
 use Rattle.page.proofs.Unique.{unique}
 use Rattle.page.specs.Packed.{Fresh, PackedTo, Added, Started}
@@ -76,3 +76,12 @@ module _ (p c : List ℕ) (P : Slotted p) where
   found-one (At i) (Absent j) x y = absurd (not-both i j (x .0) (x .1) y)
   found-one (Absent i) (At j) x y = absurd (not-both j i (y .0) (y .1) x)
   found-one (Absent i) (Absent j) x y = ap Absent (one-slot i j (not-after i j x y) (not-after j i y x))
+
+-- the largest record end
+pub top-one : {p : List ℕ} {n r t : ℕ} → Top p n r → Top p n t → r ≡ t
+top-one {p} {n} {r} {t} a b = ⊎-elim (λ l. absurd (lower b a l)) (λ g. ⊎-elim (λ l. absurd (lower a b l)) (λ h. omega arith) (side t r)) (side r t)
+  where
+    lower : {x y : ℕ} → Top p n x → Top p n y → y < x → ⊥
+    lower {x} {y} u v l =
+        let i : (i : ℕ) × (i < n) × (off p i + len p i ≡ x) = u .reached (omega (arith, v .least)) in
+        omega (arith, i .2, v .most (i .0) (i .1))

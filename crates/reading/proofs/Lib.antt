@@ -9,6 +9,3 @@ pub mod Standing
 pub mod Parting
 pub mod Holdings
 pub mod Calls
-pub mod Lookups
-pub mod Listings
-pub mod Settled

@@ -2,4 +2,3 @@ pub mod First
 pub mod Directory
 pub mod Digest
 pub mod Begun
-pub mod Found

@@ -1,31 +1,23 @@
 // The calls that read a store: check, count, lookup, row at place n.
 ghost use Rattle.ground.specs.Ladder.{Answers};
+ghost use Prim.Native.Nat.{_≤_};
+ghost use lib.ListN.{length};
 ghost use Rattle.hash.specs.Fnv.{fnv};
-ghost use Rattle.store.specs.Pages.{S1024};
-ghost use Rattle.store.specs.Tables.{checkTable, countTable, lookupTable, rowTable, meaning};
+ghost use Rattle.partition.specs.Listing.{listing};
+ghost use Rattle.store.specs.Pages.{S1024, rowsHeld};
+ghost use Rattle.store.specs.Accepted.{Accepted};
+ghost use Rattle.store.specs.Tables.{checkTable, countTable, lookedUp, lookupTable, rowOf, rowTable, meaning};
+use rows::Spot;
 use store::Answer;
 
 mod checks;
 mod directory;
 mod head;
-mod held;
-mod listing;
 mod pages;
 mod parted;
-mod search;
 
 pub use checks::first_bad;
 pub use head::good_length;
-pub use listing::give;
-pub use listing::listed;
-pub use search::find;
-pub use search::page_of;
-
-// Where a row is: page and slot.
-pub enum Spot {
-    At(usize, usize),
-    Absent,
-}
 
 // Whether the store keeps every rule, and the first page that does not.
 pub fn check(s: &[u8]) -> Answer
@@ -53,7 +45,22 @@ pub fn count(s: &[u8]) -> Answer
     if p < n {
         return Answer::BadPage(p);
     }
-    Answer::Rows(held::rows_held(s, n))
+    Answer::Rows(rows::count_rows(s, n))
+}
+
+// The place of a code, on an accepted store.
+fn place_of(s: &[u8], key: &[u8]) -> Answer
+    requires { ⌜ Accepted S1024 fnv (now s) ⌝ }
+    ensures { λ r. ⌜ Answers (lookedUp S1024 (now (s .entry)) (now (key .entry))) (meaning r) ⌝ }
+{
+    match rows::find_row(s, key) {
+        Spot::Here(p, i) => {
+            let a = p * 1024;
+            let e = a + 1024;
+            Answer::Found(page::read_place(&s[a..e], i))
+        }
+        Spot::Nowhere => Answer::NoCode,
+    }
 }
 
 // The place of a code.
@@ -69,36 +76,42 @@ pub fn lookup(s: &[u8], key: &[u8]) -> Answer
     if 64 < key.len() {
         return Answer::BadCode;
     }
-    let bad = first_bad(s);
-    if bad < s.len() / 1024 {
-        return Answer::BadPage(bad);
+    let p = first_bad(s);
+    if p < s.len() / 1024 {
+        return Answer::BadPage(p);
     }
-    match search::find(s, key) {
-        Spot::At(p, i) => Answer::Found(search::place_at(s, p, i)),
-        Spot::Absent => Answer::NoCode,
+    place_of(s, key)
+}
+
+// The row at place n of the listing, its code to the start of the output, on an accepted store.
+fn give_row(s: &[u8], n: usize, out: &mut [u8]) -> Answer
+    requires { ⌜ Accepted S1024 fnv (now s) × (64 ≤ length (now out)) ⌝ }
+    ensures { λ r. ⌜ Answers (rowOf (listing S1024 fnv (rowsHeld S1024 (now (s .entry)))) n (now (out .entry))) (meaning r, now (out .exit)) ⌝ }
+{
+    match rows::nth_row(s, n) {
+        Spot::Here(p, i) => {
+            let a = p * 1024;
+            let e = a + 1024;
+            let len = page::read_code(&s[a..e], i, out);
+            Answer::RowOf(len, page::read_place(&s[a..e], i))
+        }
+        Spot::Nowhere => Answer::NoRow,
     }
 }
 
-// Row n of the listing: its code at the start of the output, its length and its place.
+// The row at place n of the listing, its code to the start of the output.
 pub fn row_at(s: &[u8], n: usize, out: &mut [u8]) -> Answer
     ensures { λ r. ⌜ Answers (rowTable S1024 fnv (now (s .entry)) n (now (out .entry))) (meaning r, now (out .exit)) ⌝ }
 {
     if !good_length(s) {
         return Answer::BadLength;
     }
-    let fault = first_bad(s);
     if out.len() < 64 {
         return Answer::ShortOutput;
     }
-    if fault < s.len() / 1024 {
-        return Answer::BadPage(fault);
+    let p = first_bad(s);
+    if p < s.len() / 1024 {
+        return Answer::BadPage(p);
     }
-    match listing::listed(s, n) {
-        Spot::At(p, i) => {
-            let a = p * 1024;
-            let e = a + 1024;
-            listing::give(&s[a..e], i, out)
-        }
-        Spot::Absent => Answer::NoRow,
-    }
+    give_row(s, n, out)
 }

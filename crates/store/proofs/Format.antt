@@ -134,14 +134,14 @@ good-stable S s n = go (side (length s % size S) 1) (side (pages S s) 3) (side (
 
 pub format-accepted : (S : Shape) (h : List ℕ → ℕ) → Sized S → FormatAccepted S h
 unfolding formatTable
-format-accepted S h sized s u m = each (λ r. r .0 ≡ formatted → Accepted S h (r .1) × (rowsHeld S (r .1) ≡ [])) (formatTable S s)
+format-accepted S h sized s u m = each (λ r. r .0 ≡ formatted → Accepted S h (r .1) × (rowsHeld S (r .1) ≡ []) × (length (r .1) ≡ length s)) (formatTable S s)
     ((λ _ _ r e f. absurd (other (r .0) (ap (λ q. q .0) e) f)), (λ n r e f. done r e (good-stable S s (n tt)))) (formatted, u) m refl
   where
     other : (o : Out) → o ≡ refused 1 → o ≡ formatted → ⊥
     other o e f = let n : _≡_ {A = ℕ} 0 1 = cc in omega arith
 
-    done : (r : Out × List ℕ) → r ≡ (formatted, blank S s) → GoodLength S s → Accepted S h (r .1) × (rowsHeld S (r .1) ≡ [])
-    done r e g = let q : r .1 ≡ blank S s = ap (λ x. x .1) e in (rw q (blank-accepted S s sized g h), rw q (no-rows S s sized g))
+    done : (r : Out × List ℕ) → r ≡ (formatted, blank S s) → GoodLength S s → Accepted S h (r .1) × (rowsHeld S (r .1) ≡ []) × (length (r .1) ≡ length s)
+    done r e g = let q : r .1 ≡ blank S s = ap (λ x. x .1) e in (rw q (blank-accepted S s sized g h), rw q (no-rows S s sized g), ap length q ∙ blank-long S s sized g)
 
 module _ (S : Shape) (h : List ℕ → ℕ) (sized : Sized S) where
   format-again : (s t : List ℕ) → Accepted S h s → (o : Out) → Made S h format s o t → Accepted S h t × (length t ≡ length s)

@@ -1,21 +1,22 @@
 -- Demand 1 of the tables, and those of demand 2's statements that the tables alone give.
-use mathlib.Core.Path.{_≡_, refl, sym, ap, subst, _∙_}
-use mathlib.Core.Bool.{Bool, true, false}
+use mathlib.Core.Path.{_≡_, refl, sym, ap, _∙_}
+use mathlib.Core.Bool.{true, false}
 use mathlib.Core.List.{List}
 use mathlib.Core.Logic.{_⊎_, inl, inr, ⊎-elim, _↔_}
 use mathlib.Core.Option.{Option, some, none}
-use Prim.Native.Nat.{ℕ}
+use Prim.Native.Nat.{ℕ, _≤_, _<_}
 use native.Mathlib.Omega.{arith}
 use lib.ListN.{length}
-use Rattle.partition.specs.Partition.{Shape, Row}
+use Rattle.partition.specs.Partition.{Shape}
 use Rattle.page.specs.declared.Place.{Place}
-use Rattle.ground.specs.Ladder.{Ladder, rung, given, ends, answer, Answers}
-use Rattle.store.specs.Pages.{Page, contents}
-use Rattle.store.specs.Accepted.{Accepted, Broken}
+use Rattle.ground.specs.Ladder.{Answers}
+use Rattle.store.specs.Pages.{Page}
+use Rattle.store.specs.Accepted.{Accepted}
 use Rattle.page.specs.Places.{place, stored}
-use Rattle.store.specs.Tables.{Out, refused, refusedAt, found, new, replaced, accepted, Becomes, writes, checked, rowOf, formatTable, checkTable, countTable, lookupTable, putTable, removeTable, rowTable, inspectTable}
-use Rattle.store.specs.Demands.{Call, format, check, count, lookup, remove, put, rowAt, Made, ok, RefusalKeeps, OutputKept, Demand1, CheckExact, LookupIsMap, Refuses, PutRefused, AcceptedAgain, FormatAccepted, map-of, answerOf}
-use Rattle.ground.proofs.Ladders.{Each, each}
+use Rattle.store.specs.Tables.{Out, refused, refusedAt, accepted, Becomes, formatTable, checkTable, lookupTable, putTable, removeTable, rowTable, inspectTable, Refusal3}
+use Rattle.store.specs.Demands.{format, check, count, lookup, remove, put, rowAt, inspect, Made, ok, RefusalKeeps, OutputKept, Demand1, GoodCode, CheckExact, LookupIsMap, Refuses, PutRefused, AcceptedAgain, map-of, answerOf}
+use Rattle.ground.proofs.Sides.{side}
+use Rattle.ground.proofs.Ladders.{each}
 use Rattle.store.proofs.Rules.{accepted-whole}
 
 -- the result, if it is refused, keeps x
@@ -74,6 +75,7 @@ module _ (S : Shape) (h : List ℕ → ℕ) where
   refusal-keeps (remove c) s o t m = remove-keeps s c (o, t) m
   refusal-keeps (put c p) s o t m = put-keeps s c p (o, t) m
   refusal-keeps (rowAt n out) s o t m = λ _. m .1
+  refusal-keeps (inspect g n out) s o t m = λ _. m .1
 
   pub output-kept : OutputKept S h
   output-kept s n out o out′ (inl m) = row-keeps-out s n out (o, out′) m
@@ -92,6 +94,27 @@ pub nothing-there : (o : Option (List ℕ)) → ((b : List ℕ) → o ≡ some b
 nothing-there none f = refl
 nothing-there (some b) f = absurd (f b refl)
 
+-- a code is refused by its length exactly when it is no code
+pub no-three : (c : List ℕ) → GoodCode c → Refusal3 c → ⊥
+no-three c g (inl e) = omega (arith, g .least)
+no-three c g (inr l) = omega (arith, g .most)
+
+pub three : (c : List ℕ) → (GoodCode c → ⊥) → Refusal3 c
+three c n = go (side (length c) 1) (side 64 (length c))
+  where
+    go : (length c < 1) ⊎ (1 ≤ length c) → (64 < length c) ⊎ (length c ≤ 64) → Refusal3 c
+    go (inl a) _ = inl (omega arith)
+    go (inr a) (inl b) = inr b
+    go (inr a) (inr b) = absurd (n (record { least = a; most = b }))
+
+pub good-code : (c : List ℕ) → (Refusal3 c → ⊥) → GoodCode c
+good-code c n = go (side (length c) 1) (side 64 (length c))
+  where
+    go : (length c < 1) ⊎ (1 ≤ length c) → (64 < length c) ⊎ (length c ≤ 64) → GoodCode c
+    go (inl a) _ = absurd (n (inl (omega arith)))
+    go (inr a) (inl b) = absurd (n (inr b))
+    go (inr a) (inr b) = record { least = a; most = b }
+
 module _ (S : Shape) (h : List ℕ → ℕ) where
   pub check-exact : CheckExact S h
   unfolding checkTable
@@ -109,14 +132,16 @@ module _ (S : Shape) (h : List ℕ → ℕ) where
 
   pub lookup-is-map : LookupIsMap S h
   unfolding lookupTable
-  lookup-is-map s c o t a g m = each (λ o. o ≡ answerOf (map-of S s c)) (lookupTable S h s c) (
+  lookup-is-map s c o t a m = each (λ o. (GoodCode c → o ≡ answerOf (map-of S s c)) × ((GoodCode c → ⊥) → o ≡ refused 3)) (lookupTable S h s c) (
     (λ _ r. absurd (r (a .long))),
     (λ _. (
-      (λ _ r. absurd (g r)),
-      (λ _. (
+      (λ _ r o f. ((λ g. absurd (no-three c g r)), (λ _. f))),
+      (λ n3. (
         (λ p b. absurd (accepted-whole S h s a p b)),
-        (λ _ _.
-            ((λ b e o f. f ∙ ap answerOf (sym e)), (λ n o f. f ∙ ap answerOf (sym (nothing-there (map-of S s c) n))))),
+        (λ _ _. (
+          (λ b e o f. ((λ _. f ∙ ap answerOf (sym e)), (λ g. absurd (n3 tt (three c g))))),
+          (λ n o f. ((λ _. f ∙ ap answerOf (sym (nothing-there (map-of S s c) n))), (λ g. absurd (n3 tt (three c g))))),
+        )),
       )),
     )),
   ) o (m .0)
@@ -126,19 +151,19 @@ module _ (S : Shape) (h : List ℕ → ℕ) where
   put-refused s c p o t a m = each (λ r. (ok (r .0) ≡ false) ↔ Refuses S h s c p (record { code = c; place = stored p })) (putTable S h s c p) (
     (λ _ r. absurd (r (a .long))),
     (λ _. (
-      (λ _ r x e. ((λ _. inl r), (λ _. ap (λ q. ok (q .0)) e))),
+      (λ _ r x e. ((λ _. inl (λ g. no-three c g r)), (λ _. ap (λ q. ok (q .0)) e))),
       (λ n3. (
         (λ _ r x e. ((λ _. inr (inl r)), (λ _. ap (λ q. ok (q .0)) e))),
         (λ n4. (
           (λ q b. absurd (accepted-whole S h s a q b)),
           (λ _ _. (
-            (λ old k x e. ((λ f. absurd (clash (sym (ap ok (e .0)) ∙ f))), (λ d. absurd (known old k d n3 n4)))),
+            (λ old k x e. ((λ f. absurd (clash (sym (ap ok (e .0)) ∙ f))), (λ d. absurd (known old k d (λ _ g. g (good-code c (n3 tt))) n4)))),
             (λ un. (
               (λ _ r x e. ((λ _. inr (inr (nothing-there (map-of S s c) un, inl r))), (λ _. ap (λ q. ok (q .0)) e))),
               (λ n6. (
                 (λ _ r x e. ((λ _. inr (inr (nothing-there (map-of S s c) un, inr r))), (λ _. ap (λ q. ok (q .0)) e))),
                 (λ n7 x e.
-                    ((λ f. absurd (clash (sym (ap ok (e .0)) ∙ f))), (λ d. absurd (none-left d n3 n4 n6 n7)))),
+                    ((λ f. absurd (clash (sym (ap ok (e .0)) ∙ f))), (λ d. absurd (none-left d (λ _ g. g (good-code c (n3 tt))) n4 n6 n7)))),
               )),
             )),
           )),
@@ -209,3 +234,4 @@ module _ (S : Shape) (h : List ℕ → ℕ) where
   accepted-again f (remove c) s o t a m = remove-again s c a (o, t) m
   accepted-again f (put c p) s o t a m = put-again s c p a (o, t) m
   accepted-again f (rowAt n out) s o t a m = kept-again s t a (m .1)
+  accepted-again f (inspect g n out) s o t a m = kept-again s t a (m .1)

@@ -17,7 +17,7 @@ use Rattle.store.specs.Pages.{pages, page, Page, bucket, read, contents,
 use Rattle.store.specs.Accepted.{Stands, unused, used, Accepted}
 use Rattle.store.specs.Moves.{putNew}
 use Rattle.store.specs.Tables.{Out, Refusal6, Refusal7, Becomes, putTable, removeTable}
-use Rattle.store.specs.Demands.{Sized, Hash, Call, format, check, count, lookup, remove, put, rowAt, Made, KeptPages}
+use Rattle.store.specs.Demands.{Sized, Hash, Call, format, check, count, lookup, remove, put, rowAt, inspect, Made, KeptPages}
 use Rattle.store.proofs.Rules.{opened}
 use Rattle.store.proofs.Shows.{Shows}
 use Rattle.store.proofs.Shown.{free-not}
@@ -117,6 +117,7 @@ module _ (S : Shape) (h : List ℕ → ℕ) (sized : Sized S) (hash : Hash h) wh
   kept (remove c) s o t n a m = remove-keeps s c a (o, t) m
   kept (put c p) s o t n a m = put-keeps s c p a (o, t) m
   kept (rowAt i out) s o t n a m = unchanged s a (o, t) o (ap (λ y. (o, y)) (m .1))
+  kept (inspect g i out) s o t n a m = unchanged s a (o, t) o (ap (λ y. (o, y)) (m .1))
 
   pub kept-pages : KeptPages S h
   kept-pages c s o t n a m = kept-bytes S h s t a (accepted-always S h sized c s o t a m .0) (kept c s o t n a m)

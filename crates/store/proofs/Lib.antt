@@ -34,8 +34,11 @@ pub mod Afresh
 pub mod Accepting
 pub mod Reading
 pub mod Walked
+pub mod Given
+pub mod Meaning
 pub mod Whole
 pub mod Slotwise
 pub mod PageTies
 pub mod Views
 pub mod Depths
+pub mod Shared

@@ -2,7 +2,7 @@
 use mathlib.Core.Path.{_≡_, refl, sym, ap, subst, _∙_}
 use mathlib.Core.Bool.{Bool, true, false}
 use mathlib.Core.List.{List, [], _∷_}
-use mathlib.Core.Option.{some, none}
+use mathlib.Core.Option.{Option, some, none}
 use Prim.Native.Nat.{ℕ}
 use Rattle.partition.specs.Partition.{Shape, Row, Reordered, empty, front, chain, buckets, depthOf}
 use Rattle.partition.proofs.Laws.{reordered}
@@ -13,16 +13,17 @@ use Rattle.store.specs.Pages.{Page, contents, rowsIn, rowsHeld, dirDepth
 use Rattle.store.specs.Accepted.{Accepted}
 use Rattle.store.specs.Moves.{pick, overwritten, putNew, removed}
 use Rattle.page.specs.Places.{stored}
-use Rattle.store.specs.Tables.{Out, Refusal6, Refusal7, Becomes, putTable, removeTable, formatTable}
+use Rattle.store.specs.Tables.{Out, refused, Refusal6, Refusal7, Becomes, putTable, removeTable, formatTable}
 use Rattle.partition.specs.Listing.{Once}
-use Rattle.store.specs.Demands.{Sized, Call, format, check, count, lookup, remove, put, rowAt, Made, ok, after, surviving, directory, afresh, History, begin, next, AfreshAlways, map-of, update, answerOf, putAnswer, PutIsMap, RemoveIsMap}
+use Rattle.store.specs.Demands.{Sized, Call, format, check, count, lookup, remove, put, rowAt, inspect, Made, ok, after, surviving, directory, afresh, History, begin, next, AfreshAlways, GoodCode, map-of, update, answerOf, putAnswer, PutIsMap, RemoveIsMap}
 use Rattle.ground.proofs.Ladders.{each}
 use Rattle.partition.proofs.Sorted.{same-map}
 use Rattle.partition.proofs.Reorders.{same-order}
 use Rattle.partition.proofs.Maps.{cut, cut-none, cut-same, map-remove, map-put}
 use Rattle.partition.proofs.Sorted.{listing-same}
 use Rattle.store.proofs.Sorted.{afresh-same}
-use Rattle.store.proofs.Kept.{nothing-there, clash, refusal-keeps}
+use Rattle.store.proofs.Rules.{accepted-whole}
+use Rattle.store.proofs.Kept.{nothing-there, no-three, three, clash, refusal-keeps}
 use Rattle.store.proofs.Format.{format-accepted, accepted-always, no-rows}
 
 module _ (S : Shape) (h : List ℕ → ℕ) where
@@ -54,6 +55,7 @@ after-same (lookup c) p = p
 after-same (remove c) p = cut-same c p
 after-same (put c pl) p = front _ (cut-same c p)
 after-same (rowAt n out) p = p
+after-same (inspect g n out) p = p
 
 picked : (b : Bool) (c : Call) {rs qs : List Row} → Reordered rs qs → Reordered (pick b (after c rs) rs) (pick b (after c qs) qs)
 picked true c p = after-same c p
@@ -144,6 +146,7 @@ module _ (S : Shape) (h : List ℕ → ℕ) where
     left (remove c) s o t a m = remove-left s c a (o, t) m
     left (put c p) s o t a m = put-left s c p a (o, t) m
     left (rowAt n out) s o t a m = reads-left s t (ok o) (m .1)
+    left (inspect g n out) s o t a m = reads-left s t (ok o) (m .1)
 
     -- what holds along a history
     run : (rs : List Row) (s : List ℕ) → History S h rs s → Accepted S h s × Reordered (rowsHeld S s) rs
@@ -202,18 +205,18 @@ module _ (S : Shape) (h : List ℕ → ℕ) (sized : Sized S) (fresh : AcceptedI
     )),
   )
 
-  remove-answer : (s c : List ℕ) → Accepted S h s → (x : Out × List ℕ) → Answers (removeTable S h s c) x → ok (x .0) ≡ true → x .0 ≡ answerOf (map-of S s c)
+  remove-answer : (s c : List ℕ) → Accepted S h s → (x : Out × List ℕ) → Answers (removeTable S h s c) x
+      → (GoodCode c → x .0 ≡ answerOf (map-of S s c)) × ((GoodCode c → ⊥) → x .0 ≡ refused 3)
   unfolding removeTable
-  remove-answer s c a = each (λ x. ok (x .0) ≡ true → x .0 ≡ answerOf (map-of S s c)) (removeTable S h s c) (
-    (λ _ _ x e f. absurd (clash (sym f ∙ ap (λ q. ok (q .0)) e))),
+  remove-answer s c a = each (λ x. (GoodCode c → x .0 ≡ answerOf (map-of S s c)) × ((GoodCode c → ⊥) → x .0 ≡ refused 3)) (removeTable S h s c) (
+    (λ _ r. absurd (r (a .long))),
     (λ _. (
-      (λ _ _ x e f. absurd (clash (sym f ∙ ap (λ q. ok (q .0)) e))),
-      (λ _. (
-        (λ _ _ x e f. absurd (clash (sym f ∙ ap (λ q. ok (q .0)) e))),
+      (λ _ r x e. ((λ g. absurd (no-three c g r)), (λ _. ap (λ q. q .0) e))),
+      (λ n3. (
+        (λ p b. absurd (accepted-whole S h s a p b)),
         (λ _ _. (
-          (λ old k x e f. e .0 ∙ ap answerOf (sym k)),
-          (λ _ x e f.
-              absurd (clash (sym f ∙ ap (λ q. ok (q .0)) e))),
+          (λ old k x e. ((λ _. e .0 ∙ ap answerOf (sym k)), (λ g. absurd (n3 tt (three c g))))),
+          (λ un x e. ((λ _. ap (λ q. q .0) e ∙ ap answerOf (sym (nothing-there _ un))), (λ g. absurd (n3 tt (three c g))))),
         )),
       )),
     )),
@@ -231,8 +234,16 @@ module _ (S : Shape) (h : List ℕ → ℕ) (sized : Sized S) (fresh : AcceptedI
     refusal-keeps S h (put c p) s o t m,
   )
 
+  remove-map : (s c : List ℕ) (o : Out) (t : List ℕ) → Accepted S h s → Made S h (remove c) s o t
+      → (b : Option (List ℕ)) → map-of S s c ≡ b → o ≡ answerOf b → (x : List ℕ) → map-of S t x ≡ update (map-of S s) c none x
+  remove-map s c o t a m none e f x =
+      ap (λ y. map-of S y x) (refusal-keeps S h (remove c) s o t m (ap ok f))
+      ∙ sym (ap (λ l. placeOf l x) (cut-none c (rowsHeld S s) e)) ∙ update-cut c x (rowsHeld S s)
+  remove-map s c o t a m (some b) e f x = map-after (remove c) s o t a m (ap ok f) x ∙ update-cut c x (rowsHeld S s)
+
   pub remove-is-map : RemoveIsMap S h
-  remove-is-map s c o t a m = (
-    (λ f. (remove-answer s c a (o, t) m f, (λ x. map-after (remove c) s o t a m f x ∙ update-cut c x (rowsHeld S s)))),
-    refusal-keeps S h (remove c) s o t m,
-  )
+  remove-is-map s c o t a m =
+      let w = remove-answer s c a (o, t) m in (
+        (λ g. (w .0 g, remove-map s c o t a m (map-of S s c) refl (w .0 g))),
+        (λ g. (w .1 g, refusal-keeps S h (remove c) s o t m (ap ok (w .1 g)))),
+      )

@@ -172,7 +172,7 @@ row-tab f zero n l = absurd (omega arith)
 row-tab f (suc k) zero l = refl
 row-tab f (suc k) (suc n) l = row-tab (λ i. f (suc i)) k n (omega arith)
 
-row-none : (l : List Row) (n : ℕ) → length l ≤ n → getElem? l n ≡ none
+pub row-none : (l : List Row) (n : ℕ) → length l ≤ n → getElem? l n ≡ none
 row-none [] n b = refl
 row-none (r ∷ l) zero b = absurd (omega arith)
 row-none (r ∷ l) (suc n) b = row-none l n (omega arith)

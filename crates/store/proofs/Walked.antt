@@ -18,6 +18,7 @@ use Rattle.partition.proofs.Rows.{test, fails}
 use Rattle.partition.proofs.Order.{asc-first, asc-last, asc-apart, first-lt-after}
 use Rattle.partition.proofs.Directory.{Holds, holds-range, in-order-here, entries-size}
 use Rattle.partition.proofs.Listed.{listing-reordered}
+use Rattle.partition.proofs.Sorted.{same-map}
 use Rattle.store.specs.Pages.{pages, page, dirDepth, entryAt, read, contents, asRow, rowsOn, rowsHeld}
 use Rattle.store.specs.Accepted.{Accepted}
 use Rattle.store.specs.Demands.{Sized, Hash, ListedOnce}
@@ -32,7 +33,11 @@ use Rattle.store.proofs.Reading.{Naming, naming, count-used, row-left, 
 
 -- EACH ROW IS LISTED ONCE
 pub listed-once : (S : Shape) (h : List ℕ → ℕ) → Sized S → Hash h → ListedOnce S h
-listed-once S h sized hash s a = let w = accepted-shows S h sized hash s a in (w .once, listing-reordered S h (rowsHeld S s) (w .fine) hash)
+listed-once S h sized hash s a =
+    let w = accepted-shows S h sized hash s a in
+    let r = listing-reordered S h (rowsHeld S s) (w .fine) hash in
+    let m = same-map r (w .once) in
+    (m .0, r, λ c. sym (m .1 c))
 
 -- ---- prefixes in order, from an entry on
 

@@ -4,6 +4,7 @@ use Rattle.store.specs.Demands.{Demand2, Demand3}
 use Rattle.store.proofs.Kept.{check-exact, lookup-is-map, put-refused}
 use Rattle.store.proofs.Format.{format-accepted, accepted-always}
 use Rattle.store.proofs.Walked.{listed-once}
+use Rattle.store.proofs.Given.{count-is-size, row-is-listed, inspect-is-slot, place-comes-back}
 use Rattle.store.proofs.PutRows.{put-rows}
 use Rattle.store.proofs.MoveRows.{remove-rows}
 use Rattle.store.proofs.Afresh.{put-map, remove-map, always-afresh, next-put-same}
@@ -19,6 +20,10 @@ demand-2 S h sized hash =
       remove-map S h sized hash puts removes,
       put-refused S h,
       listed-once S h sized hash,
+      count-is-size S h sized hash,
+      row-is-listed S h sized hash,
+      inspect-is-slot S h,
+      place-comes-back S h sized hash,
       accepted-always S h sized,
       format-accepted S h sized,
     )

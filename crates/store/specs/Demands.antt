@@ -1,24 +1,24 @@
--- Demands 2 and 3, as the statements that are to be proved of the tables. Assumes nothing.
+-- The customer's demands, as statements on the tables that every call promises. Assumes nothing.
 use mathlib.Core.Path.{_≡_, refl}
 use native.Mathlib.Omega.{arith}
 use mathlib.Core.Bool.{Bool, true, false}
 use mathlib.Core.List.{List, [], _∷_, map}
 use mathlib.Core.Logic.{_↔_, _⊎_}
 use mathlib.Core.Option.{Option, some, none}
-use Prim.Native.Nat.{ℕ, zero, suc, _+_, _-_, _*_, _^_, _≤_, _<_}
-use lib.ListN.{length}
-use Rattle.ground.specs.Lists.{tab}
-use Rattle.page.specs.Page.{Record}
+use Prim.Native.Nat.{ℕ, zero, suc, _-_, _*_, _^_, _≤_, _<_}
+use lib.ListN.{length, getElem?}
+use Rattle.ground.specs.Lists.{byte, tab}
+use Rattle.page.specs.Page.{Record, depth, rows}
 use Rattle.partition.specs.Partition.{Shape, Row, Prefix, Reordered, rowsOf, buckets, depthOf, entry}
 use Rattle.page.specs.declared.Place.{Place}
-use Rattle.ground.specs.Ladder.{Ladder, Answers}
+use Rattle.ground.specs.Ladder.{Answers}
 use Rattle.words.specs.Codes.{order}
 use Rattle.partition.specs.Listing.{by, without, inOrder, listing, placeOf, Once}
-use Rattle.store.specs.Pages.{S1024, size, pages, page, Page, free, bucket, read, contents, asRow, rowsHeld, dirDepth, entryAt}
-use Rattle.store.specs.Accepted.{Accepted}
+use Rattle.store.specs.Pages.{S1024, size, pages, page, Page, free, bucket, read, asRow, rowsHeld, dirDepth, entryAt}
+use Rattle.store.specs.Accepted.{GoodLength, Zero, Bucket, Accepted}
 use Rattle.store.specs.Moves.{pick}
-use Rattle.page.specs.Places.{place, stored}
-use Rattle.store.specs.Tables.{Out, refused, refusedAt, formatted, accepted, new, replaced, found, counted, row, Refusal3, Refusal4, Refusal6, Refusal7, formatTable, checkTable, countTable, lookupTable, putTable, removeTable, rowTable, inspectTable}
+use Rattle.page.specs.Places.{place, stored, Negative, InRange}
+use Rattle.store.specs.Tables.{Out, refused, refusedAt, formatted, accepted, new, replaced, found, counted, row, Refusal4, Refusal6, Refusal7, formatTable, checkTable, countTable, lookupTable, putTable, removeTable, rowTable, inspectTable}
 
 -- what holds of the three page sizes
 pub record Sized (S : Shape) : Type 0 where
@@ -31,11 +31,13 @@ pub record Sized (S : Shape) : Type 0 where
 abbrev pub Hash : (List ℕ → ℕ) → Type 0
 Hash h = (c : List ℕ) → h c < 2 ^ 32
 
+-- a call with what it is given: a code, a place, n and an output; inspection takes a page of its own, any bytes
 pub data Call : Type 0 where
   format check count : Call
   lookup remove : List ℕ → Call
   put : List ℕ → Place → Call
   rowAt : ℕ → List ℕ → Call
+  inspect : List ℕ → ℕ → List ℕ → Call
 
 module _ (S : Shape) (h : List ℕ → ℕ) where
   -- the call on the store s answers o and leaves the store t
@@ -47,6 +49,7 @@ module _ (S : Shape) (h : List ℕ → ℕ) where
   Made (remove c) s o t = Answers (removeTable S h s c) (o, t)
   Made (put c p) s o t = Answers (putTable S h s c p) (o, t)
   Made (rowAt n out) s o t = ((out′ : List ℕ) × Answers (rowTable S h s n out) (o, out′)) × (t ≡ s)
+  Made (inspect g n out) s o t = ((out′ : List ℕ) × Answers (inspectTable S h g n out) (o, out′)) × (t ≡ s)
 
 -- not a refusal
 abbrev pub ok : Out → Bool
@@ -63,14 +66,17 @@ ok (row n p) = true
 -- ---- demand 1: a refused call keeps every byte of store and output
 
 module _ (S : Shape) (h : List ℕ → ℕ) where
+  -- of any call
   abbrev pub RefusalKeeps : Type 0
   RefusalKeeps = (c : Call) (s : List ℕ) (o : Out) (t : List ℕ) → Made S h c s o t → ok o ≡ false → t ≡ s
 
+  -- of the two calls that are lent an output
   abbrev pub OutputKept : Type 0
   OutputKept = (s : List ℕ) (n : ℕ) (out : List ℕ) (o : Out) (out′ : List ℕ) → Answers (rowTable S h s n out) (o, out′) ⊎ Answers (inspectTable S h s n out) (o, out′) → ok o ≡ false → out′ ≡ out
 
 -- ---- demand 2: on an accepted store the calls answer as a plain map from code to row place
 
+-- the map from code to row place
 abbrev pub map-of : Shape → List ℕ → List ℕ → Option (List ℕ)
 map-of S s c = placeOf (rowsHeld S s) c
 
@@ -79,10 +85,28 @@ unfoldable pub update : (List ℕ → Option (List ℕ)) → List ℕ → Option
 unfolding order
 update m c b x = by (order x c) (m x) b (m x)
 
+-- A code is 1 to 64 bytes.
+pub record GoodCode (c : List ℕ) : Type 0 where
+  pub least : 1 ≤ length c
+  pub most : length c ≤ 64
+
+-- the code at the start of the output, the bytes after it left
+pub record AtStart (c out out′ : List ℕ) : Type 0 where
+  pub long : length out′ ≡ length out
+  pub start : (k : ℕ) → k < length c → byte out′ k ≡ byte c k
+  pub left : (k : ℕ) → length c ≤ k → byte out′ k ≡ byte out k
+
+-- element n of the rows, counted from 0: its length and place, and its code in the output; 9 where n is not below their number
+pub record Nth (rs : List Row) (n : ℕ) (out : List ℕ) (o : Out) (out′ : List ℕ) : Type 0 where
+  pub is : (r : Row) → getElem? rs n ≡ some r → (o ≡ row (length (r .code)) (place (r .place))) × AtStart (r .code) out out′
+  pub past : length rs ≤ n → (o ≡ refused 9) × (out′ ≡ out)
+
+-- what lookup and remove answer: the map's place, or 5
 abbrev pub answerOf : Option (List ℕ) → Out
 answerOf none = refused 5
 answerOf (some b) = found (place b)
 
+-- what put answers: new, or replaced with the old place
 abbrev pub putAnswer : Option (List ℕ) → Out
 putAnswer none = new
 putAnswer (some b) = replaced (place b)
@@ -92,8 +116,10 @@ module _ (S : Shape) (h : List ℕ → ℕ) where
   abbrev pub CheckExact : Type 0
   CheckExact = (s : List ℕ) → (Made S h check s accepted s ↔ Accepted S h s)
 
+  -- lookup answers the map's place, 5 where there is none; 3 exactly for what is no code
   abbrev pub LookupIsMap : Type 0
-  LookupIsMap = (s c : List ℕ) (o : Out) (t : List ℕ) → Accepted S h s → (Refusal3 c → ⊥) → Made S h (lookup c) s o t → o ≡ answerOf (map-of S s c)
+  LookupIsMap = (s c : List ℕ) (o : Out) (t : List ℕ) → Accepted S h s → Made S h (lookup c) s o t
+      → (GoodCode c → o ≡ answerOf (map-of S s c)) × ((GoodCode c → ⊥) → o ≡ refused 3)
 
   -- a put that is not refused sets its code, one that is changes nothing
   abbrev pub PutIsMap : Type 0
@@ -101,22 +127,48 @@ module _ (S : Shape) (h : List ℕ → ℕ) where
       → (ok o ≡ true → (o ≡ putAnswer (map-of S s c)) × ((x : List ℕ) → map-of S t x ≡ update (map-of S s) c (some (stored p)) x))
       × (ok o ≡ false → t ≡ s)
 
+  -- remove answers as lookup does, and the map afterwards is the map without the code
   abbrev pub RemoveIsMap : Type 0
   RemoveIsMap = (s c : List ℕ) (o : Out) (t : List ℕ) → Accepted S h s → Made S h (remove c) s o t
-      → (ok o ≡ true → (o ≡ answerOf (map-of S s c)) × ((x : List ℕ) → map-of S t x ≡ update (map-of S s) c none x))
-      × (ok o ≡ false → t ≡ s)
+      → (GoodCode c → (o ≡ answerOf (map-of S s c)) × ((x : List ℕ) → map-of S t x ≡ update (map-of S s) c none x))
+      × ((GoodCode c → ⊥) → (o ≡ refused 3) × (t ≡ s))
 
   -- a put on an accepted store is refused exactly when the table says
   abbrev pub Refuses : List ℕ → List ℕ → Place → Row → Type 0
-  Refuses s c p r = Refusal3 c ⊎ (Refusal4 p ⊎ ((map-of S s c ≡ none) × (Refusal6 S h (rowsHeld S s) r ⊎ Refusal7 S h s (rowsHeld S s) r)))
+  Refuses s c p r = (GoodCode c → ⊥) ⊎ (Refusal4 p ⊎ ((map-of S s c ≡ none) × (Refusal6 S h (rowsHeld S s) r ⊎ Refusal7 S h s (rowsHeld S s) r)))
 
   abbrev pub PutRefused : Type 0
   PutRefused = (s c : List ℕ) (p : Place) (o : Out) (t : List ℕ) → Accepted S h s → Made S h (put c p) s o t
       → ((ok o ≡ false) ↔ Refuses s c p (record { code = c; place = stored p }))
 
-  -- no code is stored twice, and each row is listed once: the count of rows is the map's size
+  -- no code is stored twice; the listing holds each row once, and is the map
   abbrev pub ListedOnce : Type 0
-  ListedOnce = (s : List ℕ) → Accepted S h s → Once (rowsHeld S s) × Reordered (rowsHeld S s) (listing S h (rowsHeld S s))
+  ListedOnce = (s : List ℕ) → Accepted S h s → let l : List Row = listing S h (rowsHeld S s) in
+      Once l × Reordered (rowsHeld S s) l × ((c : List ℕ) → placeOf l c ≡ map-of S s c)
+
+  -- so the listing's length is the map's size, and the count of rows
+  abbrev pub CountIsSize : Type 0
+  CountIsSize = (s : List ℕ) (o : Out) (t : List ℕ) → Accepted S h s → Made S h count s o t → o ≡ counted (length (listing S h (rowsHeld S s)))
+
+  -- row at place n is element n of the listing; 8 exactly for a short output, before the check
+  abbrev pub RowIsListed : Type 0
+  RowIsListed = (s : List ℕ) (n : ℕ) (out : List ℕ) (o : Out) (out′ : List ℕ) → Answers (rowTable S h s n out) (o, out′)
+      → (GoodLength S s → (o ≡ refused 8) ↔ (length out < 64))
+      × (Accepted S h s → 64 ≤ length out → Nth (listing S h (rowsHeld S s)) n out o out′)
+
+  -- inspection is slot n of a page: 9 on a free page, 2 with page 0 on a page that is neither free nor a bucket of a depth that there is
+  abbrev pub InspectIsSlot : Type 0
+  InspectIsSlot = (g : List ℕ) (n : ℕ) (out : List ℕ) (o : Out) (out′ : List ℕ) → length g ≡ size S → Answers (inspectTable S h g n out) (o, out′)
+      → ((o ≡ refused 8) ↔ (length out < 64))
+      × (64 ≤ length out
+      → (Zero g → (o ≡ refused 9) × (out′ ≡ out))
+      × (Bucket h g → depth g ≤ S .deepest → Nth (map asRow (rows g)) n out o out′)
+      × ((Zero g → ⊥) → (Bucket h g → depth g ≤ S .deepest → ⊥) → o ≡ refusedAt 2 0))
+
+  -- a place comes back from its 8 bytes, and what the map holds is such bytes
+  abbrev pub PlaceComesBack : Type 0
+  PlaceComesBack = ((p : Place) → InRange p → (Negative p → ⊥) → place (stored p) ≡ p)
+      × ((s c b : List ℕ) → Accepted S h s → map-of S s c ≡ some b → GoodCode c × (stored (place b) ≡ b))
 
   -- the store is accepted again afterwards
   abbrev pub AcceptedAgain : Type 0
@@ -124,7 +176,7 @@ module _ (S : Shape) (h : List ℕ → ℕ) where
 
   -- an accepted format makes an accepted store without rows, whatever the store held
   abbrev pub FormatAccepted : Type 0
-  FormatAccepted = (s t : List ℕ) → Made S h format s formatted t → Accepted S h t × (rowsHeld S t ≡ [])
+  FormatAccepted = (s t : List ℕ) → Made S h format s formatted t → Accepted S h t × (rowsHeld S t ≡ []) × (length t ≡ length s)
 
 -- ---- demand 3: format a store, then make any calls, refused ones among them
 
@@ -137,7 +189,9 @@ after (lookup c) rs = rs
 after (remove c) rs = without (λ q. q .code) c rs
 after (put c p) rs = record { code = c; place = stored p } ∷ without (λ q. q .code) c rs
 after (rowAt n out) rs = rs
+after (inspect g n out) rs = rs
 
+-- a refused call leaves the rows as they were
 abbrev pub surviving : Call → Out → List Row → List Row
 surviving c o rs = pick (ok o) (after c rs) rs
 
@@ -202,7 +256,8 @@ Demand1 = (S : Shape) (h : List ℕ → ℕ) → RefusalKeeps S h × OutputKept 
 
 abbrev pub Demand2 : Type 0
 Demand2 = (S : Shape) (h : List ℕ → ℕ) → Sized S → Hash h
-    → CheckExact S h × LookupIsMap S h × PutIsMap S h × RemoveIsMap S h × PutRefused S h × ListedOnce S h × AcceptedAgain S h × FormatAccepted S h
+    → CheckExact S h × LookupIsMap S h × PutIsMap S h × RemoveIsMap S h × PutRefused S h × ListedOnce S h × CountIsSize S h × RowIsListed S h × InspectIsSlot S h
+    × PlaceComesBack S h × AcceptedAgain S h × FormatAccepted S h
 
 abbrev pub Demand3 : Type 0
 Demand3 = (S : Shape) (h : List ℕ → ℕ) → Sized S → Hash h → AfreshAlways S h × SameRefusals S h × KeptPages S h

@@ -105,13 +105,16 @@ countTable S h s =
     (checked S h s (λ o. o)
     (answer (counted (length (rowsHeld S s)))))
 
+-- the place that the map gives; 5: code not there
+abbrev pub lookedUp : Shape → List ℕ → List ℕ → Ladder Out
+lookedUp S s c = rung (λ b. placeOf (rowsHeld S s) c ≡ some b) (λ b. answer (found (place b))) (answer (refused 5))
+
 unfoldable pub lookupTable : Shape → (List ℕ → ℕ) → List ℕ → List ℕ → Ladder Out
 lookupTable S h s c =
     refuse (Refusal1 S s) (refused 1)
     (refuse (Refusal3 c) (refused 3)
     (checked S h s (λ o. o)
-    (rung (λ b. placeOf (rowsHeld S s) c ≡ some b) (λ b. answer (found (place b)))
-    (answer (refused 5)))))
+    (lookedUp S s c)))
 
 -- ---- put, remove: answer and store
 
@@ -119,25 +122,34 @@ lookupTable S h s c =
 abbrev pub writes : Shape → (List ℕ → ℕ) → List ℕ → Out → List Page → Ladder (Out × List ℕ)
 writes S h s o gs = ends (λ r. (r .0 ≡ o) × Becomes S h s gs (r .1))
 
+-- put of the row r on an accepted store
+abbrev pub putAccepted : Shape → (List ℕ → ℕ) → List ℕ → Row → Ladder (Out × List ℕ)
+putAccepted S h s r =
+    rung (λ old. placeOf (rowsHeld S s) (r .code) ≡ some old) (λ old. writes S h s (replaced (place old)) (overwritten (contents S s) r))
+    (refuse (Refusal6 S h (rowsHeld S s) r) (refused 6, s)
+    (refuse (Refusal7 S h s (rowsHeld S s) r) (refused 7, s)
+    (writes S h s new (putNew S h (contents S s) r))))
+
 unfoldable pub putTable : Shape → (List ℕ → ℕ) → List ℕ → List ℕ → Place → Ladder (Out × List ℕ)
 putTable S h s c p =
-    let r : Row = record { code = c; place = stored p } in
     refuse (Refusal1 S s) (refused 1, s)
     (refuse (Refusal3 c) (refused 3, s)
     (refuse (Refusal4 p) (refused 4, s)
     (checked S h s (λ o. (o, s))
-    (rung (λ old. placeOf (rowsHeld S s) c ≡ some old) (λ old. writes S h s (replaced (place old)) (overwritten (contents S s) r))
-    (refuse (Refusal6 S h (rowsHeld S s) r) (refused 6, s)
-    (refuse (Refusal7 S h s (rowsHeld S s) r) (refused 7, s)
-    (writes S h s new (putNew S h (contents S s) r))))))))
+    (putAccepted S h s (record { code = c; place = stored p })))))
+
+-- remove of the code c on an accepted store
+abbrev pub removeAccepted : Shape → (List ℕ → ℕ) → List ℕ → List ℕ → Ladder (Out × List ℕ)
+removeAccepted S h s c =
+    rung (λ old. placeOf (rowsHeld S s) c ≡ some old) (λ old. writes S h s (found (place old)) (removed S h (contents S s) c))
+    (answer (refused 5, s))
 
 unfoldable pub removeTable : Shape → (List ℕ → ℕ) → List ℕ → List ℕ → Ladder (Out × List ℕ)
 removeTable S h s c =
     refuse (Refusal1 S s) (refused 1, s)
     (refuse (Refusal3 c) (refused 3, s)
     (checked S h s (λ o. (o, s))
-    (rung (λ old. placeOf (rowsHeld S s) c ≡ some old) (λ old. writes S h s (found (place old)) (removed S h (contents S s) c))
-    (answer (refused 5, s)))))
+    (removeAccepted S h s c)))
 
 -- ---- row at place n, inspection: answer and output
 

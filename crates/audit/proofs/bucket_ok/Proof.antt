@@ -1,8 +1,9 @@
-use Rattle.page.specs.Page.{BucketPage}
-use Rattle.ground.proofs.Tests.{says-true, says-false, says-same}
-use borrow.Author.Tests.{not-true, not-false}
+-- `audit::bucket_ok` meets its contract. Assumes nothing.
 use native.Mathlib.Omega.{arith}
+use borrow.Author.Tests.{not-true, not-false}
 use borrow.Author.Needs.{needs}
+use Rattle.ground.proofs.Tests.{says-true, says-false, says-same}
+use Rattle.page.specs.Page.{BucketPage}
 use Rattle.audit.proofs.bucket_ok.Statement.{statement}
 use Rattle.audit.proofs.bucket_ok.Tie as tie
 

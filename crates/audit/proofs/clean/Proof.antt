@@ -1,10 +1,11 @@
-use Rattle.words.proofs.Zeros.{or-zero, zero-or}
-use Rattle.audit.proofs.Marks.{clean-none, clean-more, clean-till}
-use Rattle.audit.specs.Marks.{Clean}
-use Rattle.ground.proofs.Tests.{says-eqb}
-use native.Mathlib.Omega.{arith}
+-- `audit::clean` meets its contract. Assumes nothing.
+use Prim.Native.Nat.{_-_, _≤_}
 use mathlib.Core.Path.{_≡_, refl}
-use Prim.Native.Nat.{ℕ, _+_, _-_, _≤_, _<_}
+use native.Mathlib.Omega.{arith}
+use Rattle.ground.proofs.Tests.{says-eqb}
+use Rattle.words.proofs.Zeros.{or-zero, zero-or}
+use Rattle.audit.specs.Marks.{Clean}
+use Rattle.audit.proofs.Marks.{clean-none, clean-more, clean-till}
 use Rattle.audit.proofs.clean.Statement.{statement}
 use Rattle.audit.proofs.clean.Tie as tie
 

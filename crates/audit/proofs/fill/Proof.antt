@@ -1,9 +1,10 @@
+-- `audit::fill` meets its contract. Assumes nothing.
+use Prim.Native.Nat.{_-_, _≤_}
+use mathlib.Core.Path.{_≡_, refl}
+use native.Mathlib.Omega.{arith}
+use lib.ListN.{length, length-set}
 use Rattle.words.proofs.Bytes.{span-none, span-up}
 use Rattle.words.specs.Moves.{Span}
-use lib.ListN.{length, length-set}
-use native.Mathlib.Omega.{arith}
-use mathlib.Core.Path.{_≡_, refl}
-use Prim.Native.Nat.{ℕ, _+_, _-_, _≤_, _<_}
 use Rattle.audit.proofs.fill.Statement.{statement}
 use Rattle.audit.proofs.fill.Tie as tie
 

@@ -1,9 +1,9 @@
-use Rattle.page.proofs.Slots.{Lies, lies, code-part}
-use Rattle.hash.specs.Fnv.{fnv}
+-- `audit::hash_slot` meets its contract. Assumes nothing.
+use mathlib.Core.Path.{ap, _∙_}
 use native.Mathlib.Omega.{arith}
-use mathlib.Core.Path.{_≡_, sym, ap, _∙_}
-use Prim.Native.Nat.{ℕ, _+_, _≤_, _<_}
 use borrow.Author.Needs.{needs}
+use Rattle.hash.specs.Fnv.{fnv}
+use Rattle.page.proofs.Slots.{Lies, lies, code-part}
 use Rattle.audit.proofs.hash_slot.Statement.{statement}
 use Rattle.audit.proofs.hash_slot.Tie as tie
 

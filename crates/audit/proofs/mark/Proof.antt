@@ -1,15 +1,16 @@
-use Rattle.audit.proofs.Marks.{and-full, full-and, free-none, free-more, free-till}
-use Rattle.audit.specs.Marks.{Free}
-use Rattle.words.proofs.Bytes.{span-none, span-up}
-use Rattle.words.specs.Moves.{Span}
-use Rattle.ground.proofs.Tests.{says-eqb}
-use Rattle.ground.specs.Lists.{byte}
-use lib.ListN.{length, length-set}
-use lib.Bits.{and-lt}
+-- `audit::mark` meets its contract. Assumes nothing.
+use Prim.Native.Nat.{_+_, _-_, _≤_, _<_}
+use mathlib.Core.Path.{_≡_, refl, sym, _∙_}
 use native.Mathlib.Nat.{add-zero}
 use native.Mathlib.Omega.{arith}
-use mathlib.Core.Path.{_≡_, refl, sym, _∙_}
-use Prim.Native.Nat.{ℕ, _+_, _-_, _≤_, _<_}
+use lib.ListN.{length, length-set}
+use lib.Bits.{and-lt}
+use Rattle.ground.proofs.Tests.{says-eqb}
+use Rattle.ground.specs.Lists.{byte}
+use Rattle.words.proofs.Bytes.{span-none, span-up}
+use Rattle.words.specs.Moves.{Span}
+use Rattle.audit.specs.Marks.{Free}
+use Rattle.audit.proofs.Marks.{and-full, full-and, free-none, free-more, free-till}
 use Rattle.audit.proofs.mark.Statement.{statement}
 use Rattle.audit.proofs.mark.Tie as tie
 

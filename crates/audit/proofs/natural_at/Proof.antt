@@ -1,9 +1,9 @@
-use Rattle.audit.specs.Rules.{NaturalAt}
-use Rattle.ground.proofs.Tests.{says-ltb}
-use Rattle.audit.proofs.Marks.{or-small}
-use lib.Bits.{or-lt}
-use native.Mathlib.Omega.{arith}
+-- `audit::natural_at` meets its contract. Assumes nothing.
 use borrow.Author.Needs.{needs}
+use lib.Bits.{or-lt}
+use Rattle.ground.proofs.Tests.{says-ltb}
+use Rattle.audit.specs.Rules.{NaturalAt}
+use Rattle.audit.proofs.Marks.{or-small}
 use Rattle.audit.proofs.natural_at.Statement.{statement}
 use Rattle.audit.proofs.natural_at.Tie as tie
 

@@ -1,14 +1,15 @@
-use Rattle.words.specs.Codes.{Before}
+-- `audit::next_ok` meets its contract. Assumes nothing.
+use Prim.Native.Nat.{ℕ, _+_, _-_}
+use mathlib.Core.Path.{_≡_}
+use mathlib.Core.List.{List}
+use native.Mathlib.Omega.{arith}
+use borrow.Author.Tests.{not-true, not-false}
+use borrow.Author.Needs.{needs}
 use Rattle.ground.specs.Lists.{part}
 use Rattle.ground.specs.Says.{Says}
-use mathlib.Core.List.{List}
-use Rattle.audit.specs.Rules.{WordOk, offOf, lenOf}
 use Rattle.ground.proofs.Tests.{says-true, says-false, says-same, untrue}
-use borrow.Author.Tests.{not-true, not-false}
-use native.Mathlib.Omega.{arith}
-use mathlib.Core.Path.{_≡_, refl, sym, _∙_}
-use Prim.Native.Nat.{ℕ, _+_, _*_, _-_, _/_, _%_, _≤_, _<_}
-use borrow.Author.Needs.{needs}
+use Rattle.words.specs.Codes.{Before}
+use Rattle.audit.specs.Rules.{WordOk, offOf, lenOf}
 use Rattle.audit.proofs.next_ok.Statement.{statement}
 use Rattle.audit.proofs.next_ok.Tie as tie
 

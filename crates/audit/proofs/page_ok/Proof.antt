@@ -1,14 +1,15 @@
+-- `audit::page_ok` meets its contract. Assumes nothing.
+use Prim.Native.Nat.{_-_}
+use mathlib.Core.Path.{_≡_, _∙_}
 use mathlib.Core.Bool.{true}
+use native.Mathlib.Omega.{arith}
+use borrow.Author.Tests.{not-true, not-false}
+use borrow.Author.Needs.{needs}
 use Rattle.ground.specs.Lists.{part}
+use Rattle.ground.proofs.Tests.{says-true, says-false, says-same}
+use Rattle.audit.specs.Rules.{HeadOk}
 use Rattle.audit.proofs.Whole.{Known, head-of, slots-of, top-of, clean-of, zeros-of, whole}
 use Rattle.audit.proofs.Marks.{covers-none}
-use Rattle.audit.specs.Rules.{HeadOk}
-use Rattle.ground.proofs.Tests.{says-true, says-false, says-same}
-use borrow.Author.Tests.{not-true, not-false}
-use native.Mathlib.Omega.{arith}
-use mathlib.Core.Path.{_≡_, refl, sym, _∙_}
-use Prim.Native.Nat.{ℕ, _+_, _*_, _-_, _≤_, _<_}
-use borrow.Author.Needs.{needs}
 use Rattle.audit.proofs.page_ok.Statement.{statement}
 use Rattle.audit.proofs.page_ok.Tie as tie
 

@@ -1,12 +1,11 @@
+-- `audit::rises` meets its contract. Assumes nothing.
+use Prim.Native.Nat.{_-_}
+use mathlib.Core.Path.{_≡_, subst}
+use borrow.Author.Needs.{needs}
+use Rattle.ground.specs.Lists.{part}
 use Rattle.words.specs.Codes.{Before, Ordered}
 use Rattle.words.proofs.Orders.{irrefl, before-trans}
 use Rattle.words.specs.declared.Order.{Order}
-use Rattle.ground.specs.Lists.{part}
-use lib.ListN.{take, drop}
-use native.Mathlib.Omega.{arith}
-use mathlib.Core.Path.{_≡_, refl, sym, subst}
-use Prim.Native.Nat.{ℕ, _-_}
-use borrow.Author.Needs.{needs}
 use Rattle.audit.proofs.rises.Statement.{statement}
 use Rattle.audit.proofs.rises.Tie as tie
 

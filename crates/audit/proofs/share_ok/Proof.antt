@@ -1,19 +1,20 @@
-use Rattle.audit.proofs.Prefixes.{share-all}
-use Rattle.page.specs.Page.{depth, count, code}
-use Rattle.partition.specs.Bits.{top}
-use Rattle.hash.specs.Fnv.{fnv}
-use Rattle.ground.proofs.Tests.{says-true, says-false}
-use Rattle.ground.specs.Says.{Says}
+-- `audit::share_ok` meets its contract. Assumes nothing.
+use Prim.Native.Nat.{ℕ, _-_, _≤_, _<_}
+use mathlib.Core.Path.{_≡_, refl}
+use native.Mathlib.Omega.{arith}
 use borrow.Author.Tests.{not-true, not-false}
 use borrow.Author.Count.{below-more}
-use native.Mathlib.Omega.{arith}
-use mathlib.Core.Path.{_≡_, refl, sym, ap, _∙_}
-use Prim.Native.Nat.{ℕ, _+_, _-_, _≤_, _<_}
+use Rattle.ground.proofs.Tests.{says-true, says-false}
+use Rattle.ground.specs.Says.{Says}
+use Rattle.hash.specs.Fnv.{fnv}
+use Rattle.partition.specs.Bits.{top}
+use Rattle.page.specs.Page.{depth, count, code}
+use Rattle.audit.proofs.Prefixes.{share-all}
 use Rattle.audit.proofs.share_ok.Statement.{statement}
 use Rattle.audit.proofs.share_ok.Tie as tie
 
 abbrev Inv-loop : tie.InvT-loop
-Inv-loop page k n first i₀ i = (1 ≤ i) × (i ≤ n) × ((j : ℕ) → j < i → top (depth page) (fnv (code page 0)) ≡ top (depth page) (fnv (code page j)))
+Inv-loop page k n first i₀ i = ((j : ℕ) → j < i → top (depth page) (fnv (code page 0)) ≡ top (depth page) (fnv (code page j))) × (i ≤ n)
 
 abbrev μ-loop : tie.MeasureT-loop
 μ-loop page k n first i₀ i = n - i
@@ -30,7 +31,7 @@ hash-slot-requires c κs = let s = c .before .before .before in (s .pre .0, s .p
 loop-holds : tie.Need-loop-holds Inv-loop μ-loop
 loop-holds c =
     let s = c .before .before .before .before in
-    (omega arith, omega (arith, s .pre .0 .some, c .before .get16 .ensures .0), λ j h. let e : j ≡ 0 = omega arith in rw e refl)
+    ((λ j h. let e : j ≡ 0 = omega arith in rw e refl), omega (arith, s .pre .0 .some, c .before .get16 .ensures .0))
 
 hash-slot-requires-2 : tie.Need-hash-slot-requires-2 Inv-loop μ-loop
 hash-slot-requires-2 c κs = let s = c .before .before .before .before .before .before in (s .pre .0, omega (arith, c .before .before .before .get16 .ensures .0))
@@ -61,13 +62,13 @@ loop-less c = omega arith
 loop-again : tie.Need-loop-again Inv-loop μ-loop
 loop-again c =
     let l = c .before .before .before .before .loop in
-    (omega arith, omega arith, below-more _ _ (l .inv .2) (says-true (c .before .shares .result) (not-false _ (c .if1 .left)) (said (c .before))))
+    (below-more _ _ (l .inv .0) (says-true (c .before .shares .result) (not-false _ (c .if1 .left)) (said (c .before))), omega arith)
 
 returns-2 : tie.Need-returns-2 Inv-loop μ-loop
 returns-2 c =
     let l = c .before .loop in
     let g = c .before .before .before .get16 in
-    share-all fnv _ (λ j h. l .inv .2 j (omega (arith, g .ensures .0)))
+    share-all fnv _ (λ j h. l .inv .0 j (omega (arith, g .ensures .0)))
 
 pub share-ok-spec : {M : Type 1} → statement M
 share-ok-spec =

@@ -1,9 +1,9 @@
+-- `audit::shares` meets its contract. Assumes nothing.
+use mathlib.Core.Path.{_≡_}
+use borrow.Author.Needs.{needs}
+use Rattle.ground.proofs.Tests.{says-leb}
 use Rattle.partition.proofs.Bits as bits
 use Rattle.partition.specs.Bits.{top}
-use Rattle.ground.proofs.Tests.{says-leb}
-use Prim.Native.Nat.{ℕ, _≤_}
-use mathlib.Core.Path.{_≡_, sym, subst}
-use borrow.Author.Needs.{needs}
 use Rattle.audit.proofs.shares.Statement.{statement}
 use Rattle.audit.proofs.shares.Tie as tie
 

@@ -1,15 +1,16 @@
+-- `audit::slots_ok` meets its contract. Assumes nothing.
+use Prim.Native.Nat.{_+_, _*_, _-_, _≤_}
+use mathlib.Core.Path.{_≡_, refl, _∙_}
+use native.Mathlib.Omega.{arith}
+use borrow.Author.Tests.{not-true, not-false}
+use borrow.Author.Needs.{needs}
+use lib.ListN.{length}
+use Rattle.ground.proofs.Tests.{says-true, says-false, says-eqb, untrue}
+use Rattle.ground.specs.Lists.{part, total}
+use Rattle.page.specs.Page.{need, word, count}
 use Rattle.audit.specs.Rules.{SlotsOk, prior}
 use Rattle.audit.specs.Marks.{NextOk}
 use Rattle.audit.proofs.Sweep.{Swept, swept-none, swept-more, next-of, last-more, needs-more, word-is, slots-all}
-use Rattle.page.specs.Page.{need, word, count}
-use Rattle.ground.proofs.Tests.{says-true, says-false, says-eqb, untrue}
-use Rattle.ground.specs.Lists.{part, total}
-use lib.ListN.{length}
-use borrow.Author.Tests.{not-true, not-false}
-use borrow.Author.Needs.{needs}
-use native.Mathlib.Omega.{arith}
-use mathlib.Core.Path.{_≡_, refl, sym, _∙_}
-use Prim.Native.Nat.{ℕ, _+_, _*_, _-_, _/_, _%_, _≤_, _<_}
 use Rattle.audit.proofs.slots_ok.Statement.{statement}
 use Rattle.audit.proofs.slots_ok.Tie as tie
 

@@ -1,5 +1,6 @@
-use Rattle.ground.proofs.Tests.{says-same}
+-- `audit::word_ok` meets its contract. Assumes nothing.
 use borrow.Author.Needs.{needs}
+use Rattle.ground.proofs.Tests.{says-same}
 use Rattle.audit.proofs.word_ok.Statement.{statement}
 use Rattle.audit.proofs.word_ok.Tie as tie
 

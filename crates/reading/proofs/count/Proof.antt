@@ -1,15 +1,15 @@
 -- `reading::count` meets its contract. Assumes nothing.
-use borrow.Author.Tests.{not-true, not-false}
-use borrow.Author.Needs.{needs}
-use mathlib.Core.Logic.{inl, inr}
-use mathlib.Core.Path.{refl, ap}
-use Rattle.ground.proofs.Tests.{says-true, says-false}
-use Rattle.hash.specs.Fnv.{fnv}
+use native.Mathlib.Omega.{arith}
 use Rattle.store.proofs.Rules.{accepted-whole}
 use Rattle.store.specs.Tables.{countTable, counted}
-use Rattle.store.specs.Accepted.{GoodLength}
-use Rattle.store.specs.Pages.{S1024}
-use Rattle.reading.proofs.Calls.{accepted-standing}
+use Rattle.store.specs.Accepted.{GoodLength, Accepted}
+use Rattle.store.specs.Pages.{S1024, pages}
+use Rattle.hash.specs.Fnv.{fnv}
+use Rattle.ground.proofs.Tests.{says-true, says-false}
+use borrow.Author.Tests.{not-true, not-false}
+use mathlib.Core.Logic.{inl, inr}
+use mathlib.Core.Path.{_≡_, refl, sym, ap, _∙_}
+use borrow.Author.Needs.{needs}
 use Rattle.reading.proofs.count.Statement.{statement}
 use Rattle.reading.proofs.count.Tie as tie
 
@@ -31,12 +31,12 @@ returns-2 : tie.Need-returns-2
 unfolding countTable
 returns-2 c = inr ((λ _ n. n (good (c .before .before))), inl (c .before .first-bad .result, (c .before .first-bad .ensures .bad (c .if2 .taken), refl)))
 
-rows-held-requires : tie.Need-rows-held-requires
-rows-held-requires c κs = accepted-standing _ (c .before .first-bad .ensures .sound (c .if2 .left))
+count-rows-requires : tie.Need-count-rows-requires
+count-rows-requires c κs = let g = good (c .before .before) in (omega (arith, g .whole), omega (arith, g .least), omega (arith, g .most))
 
 returns-3 : tie.Need-returns-3
 unfolding countTable
-returns-3 c = inr ((λ _ n. n (good (c .before .before .before))), (let a = c .before .before .first-bad .ensures .sound (c .before .if2 .left) in inr (accepted-whole S1024 fnv _ a, (a, ap counted (c .rows-held .ensures)))))
+returns-3 c = inr ((λ _ n. n (good (c .before .before .before))), (let a = c .before .before .first-bad .ensures .sound (c .before .if2 .left) in inr (accepted-whole S1024 fnv _ a, (a, ap counted (c .count-rows .ensures)))))
 
 pub count-spec : {M : Type 1} → statement M
 count-spec =
@@ -46,5 +46,5 @@ count-spec =
     returns
     first-bad-requires
     returns-2
-    rows-held-requires
+    count-rows-requires
     returns-3)

@@ -72,11 +72,11 @@ returns c =
     let r = c .before .before .before .before .before .before .before .before .before .before .before .before .before .before .before .before .get162 .ensures .0 in
     let e = c .before .before .before .before .before .before .before .before .before .before .before .before .before .before .extent-of .ensures in
     removed (s .args .page .now) (s .args .s) (c .before .before .set-head .last .0) (s .pre)
-    (erased (s .pre)
-    (rw (e .0, e .1) at (c .before .before .before .before .before .before .before .before .before .before .before .before .clear .ensures))
-    (rw n at (c .before .before .before .before .before .before .before .before .close-slot .ensures))
-    (rw n at (c .before .before .before .before .top-of .ensures .0))
-    (rw (n, r, e .1) at (c .before .before .set-head .ensures)))
+    (erased (s .pre) n r (e .0) (e .1)
+    (c .before .before .before .before .before .before .before .before .before .before .before .before .clear .ensures)
+    (c .before .before .before .before .before .before .before .before .close-slot .ensures)
+    (c .before .before .before .before .top-of .ensures .0)
+    (c .before .before .set-head .ensures))
     (λ k. omega (arith, c .slice-known4 .given k))
 
 pub remove-slot-spec : {M : Type 1} → statement M

@@ -1,0 +1,84 @@
+-- Free pages, found and counted by the pages' first bytes. Assumes nothing.
+use mathlib.Core.Path.{_≡_, refl, sym, ap, _∙_}
+use mathlib.Core.Bool.{Bool, true, false}
+use mathlib.Core.List.{List, [], _∷_}
+use Prim.Native.Nat.{ℕ, zero, suc, _+_, _-_, _*_, _≤_, _<_}
+use native.Mathlib.Omega.{arith}
+use native.Mathlib.Nat.{add-zero, zero-add}
+use native.Mathlib.Numerals.{add-one}
+use lib.ListN.{length, getD, drop}
+use lib.Seq.{drop-cons, drop-length}
+use Rattle.ground.specs.Lists.{byte}
+use Rattle.store.specs.Pages.{S1024, pages, page, Page, free, bucket, read, reading, contents}
+use Rattle.store.specs.Moves.{pick, find, isFree}
+use Rattle.store.proofs.Unique.{held}
+use Rattle.store.proofs.Showing.{pages-held}
+use Rattle.store.proofs.Rooms.{frees}
+use Rattle.change.proofs.Directories.{page-byte}
+
+-- all before i fail the test, and i passes it or there is none
+pub find-at : (f : Page → Bool) (gs : List Page) (i : ℕ) → i ≤ length gs → ((j : ℕ) → j < i → f (getD gs j free) ≡ false) → (i < length gs → f (getD gs i free) ≡ true) → find f gs ≡ i
+unfolding find
+find-at f [] i l a b = omega arith
+find-at f (g ∷ gs) zero l a b = ap (λ t. pick t 0 (suc (find f gs))) (b (omega arith))
+find-at f (g ∷ gs) (suc i) l a b =
+    ap (λ t. pick t 0 (suc (find f gs))) (a 0 (omega arith)) ∙ ap suc (find-at f gs i (omega arith) (λ j m. a (suc j) (omega arith)) (λ m. b (omega arith)))
+
+abbrev one : Page → ℕ
+one free = 1
+one (bucket k rs) = 0
+
+frees-cons : (g : Page) (gs : List Page) → frees (g ∷ gs) ≡ one g + frees gs
+frees-cons free gs = omega arith
+frees-cons (bucket k rs) gs = omega arith
+
+frees-step : (gs : List Page) (i : ℕ) → i < length gs → frees (drop i gs) ≡ one (getD gs i free) + frees (drop (i + 1) gs)
+frees-step gs i l = ap frees (drop-cons gs i free l) ∙ frees-cons (getD gs i free) (drop (suc i) gs) ∙ ap (λ n. one (getD gs i free) + frees (drop n gs)) (sym (add-one i))
+
+pub frees-end : (gs : List Page) (i : ℕ) → i ≡ length gs → frees (drop i gs) ≡ 0
+frees-end gs i e = ap (λ n. frees (drop n gs)) e ∙ ap frees (drop-length gs)
+
+module _ (s : List ℕ) (p : ℕ) (two : 2 ≤ p) (to : p < pages S1024 s) where
+  kind : byte (page S1024 s p) 0 ≡ byte s (p * 1024)
+  kind = page-byte s p 0 (omega arith) ∙ ap (byte s) (add-zero (p * 1024))
+
+  reads : getD (contents S1024 s) (p - 2) free ≡ reading (byte s (p * 1024)) (page S1024 s p)
+  unfolding read
+  reads = held S1024 s p two to ∙ ap (λ b. reading b (page S1024 s p)) kind
+
+  pub free-page : byte s (p * 1024) ≡ 0 → getD (contents S1024 s) (p - 2) free ≡ free
+  free-page e = reads ∙ ap (λ b. reading b (page S1024 s p)) e
+
+  pub used-page : (byte s (p * 1024) ≡ 0 → ⊥) → isFree (getD (contents S1024 s) (p - 2) free) ≡ false
+  used-page n = ap isFree reads ∙ go (byte s (p * 1024)) n
+    where
+      go : (b : ℕ) → (b ≡ 0 → ⊥) → isFree (reading b (page S1024 s p)) ≡ false
+      go zero e = absurd (e refl)
+      go (suc b) e = refl
+
+  there : p - 2 < length (contents S1024 s)
+  there = omega (arith, pages-held S1024 s)
+
+  next : p - 2 + 1 ≡ p + 1 - 2
+  next = omega arith
+
+  pub free-more : byte s (p * 1024) ≡ 0 → frees (drop (p - 2) (contents S1024 s)) ≡ 1 + frees (drop (p + 1 - 2) (contents S1024 s))
+  free-more e = frees-step (contents S1024 s) (p - 2) there ∙ (λ i. one (free-page e i) + frees (drop (next i) (contents S1024 s)))
+
+  pub used-more : (byte s (p * 1024) ≡ 0 → ⊥) → frees (drop (p - 2) (contents S1024 s)) ≡ frees (drop (p + 1 - 2) (contents S1024 s))
+  used-more n =
+      frees-step (contents S1024 s) (p - 2) there ∙ ap (λ k. k + frees (drop (p - 2 + 1) (contents S1024 s))) (go (getD (contents S1024 s) (p - 2) free) (used-page n))
+      ∙ zero-add (frees (drop (p - 2 + 1) (contents S1024 s))) ∙ ap (λ k. frees (drop k (contents S1024 s))) next
+    where
+      go : (g : Page) → isFree g ≡ false → one g ≡ 0
+      go free e = let z : _≡_ {A = ℕ} 0 1 = cc in absurd (omega arith)
+      go (bucket k rs) e = refl
+
+-- what a search from page 2 upward finds
+pub lowest : (s : List ℕ) (p n : ℕ) → n ≡ pages S1024 s → 2 ≤ p → p ≤ n → ((q : ℕ) → 2 ≤ q → q < p → byte s (q * 1024) ≡ 0 → ⊥) → (p < n → byte s (p * 1024) ≡ 0)
+    → p ≡ 2 + find isFree (contents S1024 s)
+lowest s p n e two to used here =
+    let z : find isFree (contents S1024 s) ≡ p - 2 = find-at isFree (contents S1024 s) (p - 2) (omega (arith, pages-held S1024 s))
+    (λ j l. let q : j + 2 - 2 ≡ j = omega arith in ap (λ k. isFree (getD (contents S1024 s) k free)) (sym q) ∙ used-page s (j + 2) (omega arith) (omega arith) (used (j + 2) (omega arith) (omega arith)))
+    (λ l. let m : p < pages S1024 s = omega (arith, pages-held S1024 s) in ap isFree (free-page s p two m (here (omega arith)))) in
+    omega arith

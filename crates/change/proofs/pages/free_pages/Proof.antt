@@ -1,0 +1,66 @@
+use Rattle.change.proofs.Frees.{free-more, used-more, frees-end}
+use Rattle.store.proofs.Showing.{pages-held}
+use Rattle.store.proofs.Rooms.{frees}
+use Rattle.store.specs.Pages.{S1024, contents}
+use lib.ListN.{drop}
+use native.Mathlib.Omega.{arith}
+use Prim.Native.Nat.{ℕ, _+_, _-_, _≤_, _<_}
+use mathlib.Core.Logic.{⊎-elim}
+use mathlib.Core.Path.{_≡_}
+-- `change::free_pages` meets its contract: those counted and those left are all. Assumes nothing.
+use Rattle.change.proofs.pages.free_pages.Statement.{statement}
+use Rattle.change.proofs.pages.free_pages.Tie as tie
+
+abbrev Inv-loop : tie.InvT-loop
+Inv-loop s n many₀ p₀ many p = (2 ≤ p) × (p ≤ n) × (many ≤ p) × (many + frees (drop (p - 2) (contents S1024 s)) ≡ frees (contents S1024 s))
+
+abbrev μ-loop : tie.MeasureT-loop
+μ-loop s n many₀ p₀ many p = n - p
+
+loop-holds : tie.Need-loop-holds Inv-loop μ-loop
+loop-holds c = omega arith
+
+mul-if1 : tie.Need-mul-if1 Inv-loop μ-loop
+mul-if1 c = omega arith
+
+shared-slice-read-if1 : tie.Need-shared-slice-read-if1 Inv-loop μ-loop
+shared-slice-read-if1 c = omega arith
+
+add-many : tie.Need-add-many Inv-loop μ-loop
+add-many c = omega arith
+
+add-p : tie.Need-add-p Inv-loop μ-loop
+add-p c = omega arith
+
+loop-less : tie.Need-loop-less Inv-loop μ-loop
+loop-less c = omega arith
+
+loop-again : tie.Need-loop-again Inv-loop μ-loop
+loop-again c =
+    let z = c .before .before .before .before in
+    let s = z .args .s .now in
+    let l = c .before .before .before .loop in
+    ⊎-elim
+    (λ w. (omega arith, omega arith, omega arith, omega (arith, free-more s (l .p) (omega arith) (omega arith) (w .0 .taken))))
+    (λ w. (omega arith, omega arith, omega arith, omega (arith, used-more s (l .p) (omega arith) (omega arith) (w .0 .left))))
+    (c .if1 .came)
+
+returns : tie.Need-returns Inv-loop μ-loop
+returns c =
+    let s = c .before .before .args .s .now in
+    (omega (arith, frees-end (contents S1024 s) (c .before .loop .p - 2) (omega (arith, pages-held S1024 s))), omega arith)
+
+pub free-pages-spec : {M : Type 1} → statement M
+free-pages-spec =
+    tie.close
+    (tie.spec
+    Inv-loop
+    μ-loop
+    loop-holds
+    mul-if1
+    shared-slice-read-if1
+    add-many
+    add-p
+    loop-less
+    loop-again
+    returns)

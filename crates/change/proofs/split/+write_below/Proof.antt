@@ -1,0 +1,432 @@
+use Rattle.change.proofs.Splits.{bare-wrote, deep-wrote, one-there, one-wrote, half-ready, other-ready, both-wrote}
+use Rattle.change.proofs.Weighs.{load-any}
+use Rattle.change.proofs.OnePage.{lent, back}
+use Rattle.change.specs.Split.{keyed, Bucketed, Writable, Wrote}
+use Rattle.store.proofs.Views.{setPage, set-long}
+use Rattle.store.proofs.Unique.{page-long}
+use Rattle.store.specs.Moves.{find, isFree}
+use Rattle.store.specs.Pages.{S1024, pages, contents, asRow}
+use borrow.Author.Needs as Needs
+use Rattle.partition.specs.Partition.{Row, needs, rowsOf}
+use Rattle.page.specs.Page.{rows}
+use Rattle.hash.specs.Fnv.{fnv}
+use denote.Ref.{now}
+use lib.Pow.{pow-mono}
+use lib.ListN.{length}
+use native.Mathlib.Omega.{arith}
+use mathlib.Core.List.{List, _∷_, map}
+use mathlib.Core.Path.{_≡_, refl, sym, ap, subst, _∙_}
+-- `change::write_below` meets its contract, by the cases of `below`. Assumes nothing.
+use Prim.Native.Nat.{ℕ, _+_, _*_, _-_, _/_, _^_, _≤_, _<_}
+use borrow.Fn.Kinds.{In}
+use borrow.Fn.PlainCycle.{Measures, is, falls, and}
+use Rattle.change.proofs.split.write_below.Reads as write-below
+use Rattle.change.proofs.split.write_below.Kinds as write-below-kinds
+use Rattle.change.proofs.split.+write_below.Lts-write_below as write-below-lts
+use Rattle.change.proofs.bucket.write_bucket.Reads as write-bucket-reads
+use Rattle.change.proofs.pages.lowest_free.Reads as lowest-free-reads
+use Rattle.change.proofs.weigh.load.Reads as load-reads
+use Rattle.change.proofs.split.+write_below.{statement}
+use Rattle.change.proofs.split.+write_below.Tie.{close}
+
+abbrev μ-write-below : Measures 4 write-below-kinds.ps ℕ
+μ-write-below κs a = 8 - a .1 .1 .1 .1 .1 .0
+
+abbrev write-below-at : ℕ → In 4 write-below-kinds.ps
+write-below-at t =
+    and 4 write-below-kinds.ps (is 4 write-below-kinds.ps μ-write-below t) write-below.Pre
+
+abbrev write-below-below : ℕ → In 4 write-below-kinds.ps
+write-below-below t =
+    and 4 write-below-kinds.ps (falls 4 write-below-kinds.ps _<_ μ-write-below t) write-below.Pre
+
+abbrev Loaded : ℕ → Type 0
+Loaded t = write-below-lts.After-load (
+  load-reads.Asked,
+  load-reads.Learnt,
+  write-bucket-reads.Asked,
+  write-bucket-reads.Learnt,
+  lowest-free-reads.Asked,
+  lowest-free-reads.Learnt,
+  write-below-below t,
+  write-below.Post,
+) (write-below-at t) write-below.Post
+
+-- what the rows of the prefix need
+module _ (t : ℕ) (b : Loaded t) where
+  abbrev s : List ℕ
+  s = now (b .before .before .before .before .before .args .s)
+
+  abbrev from : List ℕ
+  from = now (b .before .before .before .before .before .args .from)
+
+  abbrev key : List ℕ
+  key = now (b .before .before .before .before .before .args .key)
+
+  abbrev k : ℕ
+  k = b .before .before .before .before .before .args .k
+
+  abbrev v : ℕ
+  v = b .before .before .before .before .before .args .v
+
+  abbrev at : ℕ
+  at = b .before .before .before .before .before .args .at
+
+  abbrev rs : List Row
+  rs = record { code = key; place = now (b .before .before .before .before .before .args .place) } ∷ map asRow (rows from)
+
+  abbrev W : Writable fnv rs k v s at
+  W = b .before .before .before .before .before .pre .1 .1
+
+  weight : b .load .result ≡ needs (rowsOf fnv rs k v)
+  weight = b .load .ensures ∙ load-any fnv (keyed key) (record { code = key; place = now (b .before .before .before .before .before .args .place) }) refl (map asRow (rows from)) (map asRow (rows from)) k v refl
+
+  small : 2 ^ k ≤ 256
+  small = pow-mono (W .deep)
+
+  -- the rows fit: page at is there
+  module _ (some : b .load .result ≡ 0 → ⊥) (fit : b .load .result ≤ 1016) where
+    pos : 0 < needs (rowsOf fnv rs k v)
+    pos = omega (arith, weight, some)
+
+    most : needs (rowsOf fnv rs k v) ≤ 1016
+    most = omega (arith, weight)
+
+    there : at < pages S1024 s
+    there = one-there fnv rs k v s at W pos most
+
+  -- they do not: two halves
+  module _ (heavy : 1016 < b .load .result) (more : k ≡ 8 → ⊥) where
+    shallow : k < 8
+    shallow = omega (arith, W .deep, more)
+
+    over : 1016 < needs (rowsOf fnv rs k v)
+    over = omega (arith, weight)
+
+write-below-load-requires : (t : ℕ) → write-below-lts.Need-load-requires (
+  load-reads.Asked,
+  load-reads.Learnt,
+  write-bucket-reads.Asked,
+  write-bucket-reads.Learnt,
+  lowest-free-reads.Asked,
+  lowest-free-reads.Learnt,
+  write-below-below t,
+  write-below.Post,
+) (write-below-at t) write-below.Post
+write-below-load-requires t c κs = let z = c .before .before .before .before in (z .pre .1 .1 .deep, z .pre .1 .0 .page, z .pre .1 .0 .short)
+
+write-below-returns : (t : ℕ) → write-below-lts.Need-returns (
+  load-reads.Asked,
+  load-reads.Learnt,
+  write-bucket-reads.Asked,
+  write-bucket-reads.Learnt,
+  lowest-free-reads.Asked,
+  lowest-free-reads.Learnt,
+  write-below-below t,
+  write-below.Post,
+) (write-below-at t) write-below.Post
+write-below-returns t c = let b = c .before in bare-wrote fnv (rs t b) (k t b) (v t b) (s t b) (at t b) (W t b) (sym (weight t b) ∙ c .if1 .taken)
+
+write-below-mul-a : (t : ℕ) → write-below-lts.Need-mul-a (
+  load-reads.Asked,
+  load-reads.Learnt,
+  write-bucket-reads.Asked,
+  write-bucket-reads.Learnt,
+  lowest-free-reads.Asked,
+  lowest-free-reads.Learnt,
+  write-below-below t,
+  write-below.Post,
+) (write-below-at t) write-below.Post
+write-below-mul-a t c = let b = c .before .before in omega (arith, there t b (c .before .if1 .left) (c .if2 .taken))
+
+write-below-add-e : (t : ℕ) → write-below-lts.Need-add-e (
+  load-reads.Asked,
+  load-reads.Learnt,
+  write-bucket-reads.Asked,
+  write-bucket-reads.Learnt,
+  lowest-free-reads.Asked,
+  lowest-free-reads.Learnt,
+  write-below-below t,
+  write-below.Post,
+) (write-below-at t) write-below.Post
+write-below-add-e t c = let b = c .before .before in omega (arith, there t b (c .before .if1 .left) (c .if2 .taken))
+
+write-below-sub-write-bucket : (t : ℕ) → write-below-lts.Need-sub-write-bucket (
+  load-reads.Asked,
+  load-reads.Learnt,
+  write-bucket-reads.Asked,
+  write-bucket-reads.Learnt,
+  lowest-free-reads.Asked,
+  lowest-free-reads.Learnt,
+  write-below-below t,
+  write-below.Post,
+) (write-below-at t) write-below.Post
+write-below-sub-write-bucket t c = omega arith
+
+write-below-part-write-bucket-start : (t : ℕ) → write-below-lts.Need-part-write-bucket-start (
+  load-reads.Asked,
+  load-reads.Learnt,
+  write-bucket-reads.Asked,
+  write-bucket-reads.Learnt,
+  lowest-free-reads.Asked,
+  lowest-free-reads.Learnt,
+  write-below-below t,
+  write-below.Post,
+) (write-below-at t) write-below.Post
+write-below-part-write-bucket-start t c = omega arith
+
+write-below-part-write-bucket-end : (t : ℕ) → write-below-lts.Need-part-write-bucket-end (
+  load-reads.Asked,
+  load-reads.Learnt,
+  write-bucket-reads.Asked,
+  write-bucket-reads.Learnt,
+  lowest-free-reads.Asked,
+  lowest-free-reads.Learnt,
+  write-below-below t,
+  write-below.Post,
+) (write-below-at t) write-below.Post
+write-below-part-write-bucket-end t c = let b = c .before .before in omega (arith, there t b (c .before .if1 .left) (c .if2 .taken))
+
+write-below-write-bucket-requires : (t : ℕ) → write-below-lts.Need-write-bucket-requires (
+  load-reads.Asked,
+  load-reads.Learnt,
+  write-bucket-reads.Asked,
+  write-bucket-reads.Learnt,
+  lowest-free-reads.Asked,
+  lowest-free-reads.Learnt,
+  write-below-below t,
+  write-below.Post,
+) (write-below-at t) write-below.Post
+write-below-write-bucket-requires t c κs =
+    let b = c .before .before .before in
+    let n = c .before .before .if1 .left in
+    let l = c .before .if2 .taken in
+    (b .before .before .before .before .before .pre .1 .0, ap length (lent (s t b) (at t b)) ∙ page-long S1024 (s t b) (at t b) (there t b n l), W t b .deep, pos t b n l, most t b n l)
+
+write-below-lowest-free-requires : (t : ℕ) → write-below-lts.Need-lowest-free-requires (
+  load-reads.Asked,
+  load-reads.Learnt,
+  write-bucket-reads.Asked,
+  write-bucket-reads.Learnt,
+  lowest-free-reads.Asked,
+  lowest-free-reads.Learnt,
+  write-below-below t,
+  write-below.Post,
+) (write-below-at t) write-below.Post
+write-below-lowest-free-requires t c κs =
+    let d = c .before .before .before .before .before in
+    let b = d .before .before in
+    let q = c .before .before .before .write-bucket in
+    let e = ap length (back (s t b) (at t b) (q .last .0)) ∙ set-long S1024 (s t b) (at t b) (q .last .0) (there t b (d .before .if1 .left) (d .if2 .taken)) (q .ensures .size) in
+    (omega (arith, e, W t b .long .whole), omega (arith, e, W t b .long .least))
+
+write-below-same-length : (t : ℕ) → write-below-lts.Need-same-length (
+  load-reads.Asked,
+  load-reads.Learnt,
+  write-bucket-reads.Asked,
+  write-bucket-reads.Learnt,
+  lowest-free-reads.Asked,
+  lowest-free-reads.Learnt,
+  write-below-below t,
+  write-below.Post,
+) (write-below-at t) write-below.Post
+write-below-same-length t c = search Needs.needs
+
+write-below-returns-2 : (t : ℕ) → write-below-lts.Need-returns-2 (
+  load-reads.Asked,
+  load-reads.Learnt,
+  write-bucket-reads.Asked,
+  write-bucket-reads.Learnt,
+  lowest-free-reads.Asked,
+  lowest-free-reads.Learnt,
+  write-below-below t,
+  write-below.Post,
+) (write-below-at t) write-below.Post
+write-below-returns-2 t c =
+    let d = c .before .before .before .before .before .before in
+    let b = d .before .before in
+    let n = d .before .if1 .left in
+    let l = d .if2 .taken in
+    let q = c .before .before .before .before .write-bucket in
+    let f = c .lowest-free in
+    let e = back (s t b) (at t b) (q .last .0) in
+    subst (λ x. Wrote fnv (rs t b) (k t b) (v t b) (s t b) (at t b) x (f .result)) (sym e)
+    (one-wrote fnv (rs t b) (k t b) (v t b) (s t b) (at t b) (W t b) (pos t b n l) (most t b n l) (q .last .0) (q .ensures) (f .result) (subst (λ x. f .result ≡ 2 + find isFree (contents S1024 x)) e (f .ensures .0)))
+
+write-below-returns-3 : (t : ℕ) → write-below-lts.Need-returns-3 (
+  load-reads.Asked,
+  load-reads.Learnt,
+  write-bucket-reads.Asked,
+  write-bucket-reads.Learnt,
+  lowest-free-reads.Asked,
+  lowest-free-reads.Learnt,
+  write-below-below t,
+  write-below.Post,
+) (write-below-at t) write-below.Post
+write-below-returns-3 t c =
+    let b = c .before .before .before in
+    deep-wrote fnv (rs t b) (k t b) (v t b) (s t b) (at t b) (W t b) (omega (arith, weight t b, c .before .if2 .left)) (c .if3 .taken)
+
+write-below-add-write-below : (t : ℕ) → write-below-lts.Need-add-write-below (
+  load-reads.Asked,
+  load-reads.Learnt,
+  write-bucket-reads.Asked,
+  write-bucket-reads.Learnt,
+  lowest-free-reads.Asked,
+  lowest-free-reads.Learnt,
+  write-below-below t,
+  write-below.Post,
+) (write-below-at t) write-below.Post
+write-below-add-write-below t c = let b = c .before .before .before .before in omega (arith, W t b .deep)
+
+write-below-mul-write-below : (t : ℕ) → write-below-lts.Need-mul-write-below (
+  load-reads.Asked,
+  load-reads.Learnt,
+  write-bucket-reads.Asked,
+  write-bucket-reads.Learnt,
+  lowest-free-reads.Asked,
+  lowest-free-reads.Learnt,
+  write-below-below t,
+  write-below.Post,
+) (write-below-at t) write-below.Post
+write-below-mul-write-below t c = let b = c .before .before .before .before in omega (arith, W t b .prefix, small t b)
+
+write-below-write-below-requires : (t : ℕ) → write-below-lts.Need-write-below-requires (
+  load-reads.Asked,
+  load-reads.Learnt,
+  write-bucket-reads.Asked,
+  write-bucket-reads.Learnt,
+  lowest-free-reads.Asked,
+  lowest-free-reads.Learnt,
+  write-below-below t,
+  write-below.Post,
+) (write-below-at t) write-below.Post
+write-below-write-below-requires t c κs =
+    let b = c .before .before .before .before in
+    let z = b .before .before .before .before .before in
+    let o = c .before .before .if2 .left in
+    let n = c .before .if3 .left in
+    (omega (arith, z .pre .0, shallow t b o n), (z .pre .1 .0, half-ready fnv (rs t b) (k t b) (v t b) (s t b) (at t b) (W t b) (shallow t b o n) (over t b o n)))
+
+write-below-add-write-below-2 : (t : ℕ) → write-below-lts.Need-add-write-below-2 (
+  load-reads.Asked,
+  load-reads.Learnt,
+  write-bucket-reads.Asked,
+  write-bucket-reads.Learnt,
+  lowest-free-reads.Asked,
+  lowest-free-reads.Learnt,
+  write-below-below t,
+  write-below.Post,
+) (write-below-at t) write-below.Post
+write-below-add-write-below-2 t c = let b = c .before .before .before .before .before .before .before .before in omega (arith, W t b .deep)
+
+write-below-mul-write-below-2 : (t : ℕ) → write-below-lts.Need-mul-write-below-2 (
+  load-reads.Asked,
+  load-reads.Learnt,
+  write-bucket-reads.Asked,
+  write-bucket-reads.Learnt,
+  lowest-free-reads.Asked,
+  lowest-free-reads.Learnt,
+  write-below-below t,
+  write-below.Post,
+) (write-below-at t) write-below.Post
+write-below-mul-write-below-2 t c = let b = c .before .before .before .before .before .before .before .before in omega (arith, W t b .prefix, small t b)
+
+write-below-add-write-below-3 : (t : ℕ) → write-below-lts.Need-add-write-below-3 (
+  load-reads.Asked,
+  load-reads.Learnt,
+  write-bucket-reads.Asked,
+  write-bucket-reads.Learnt,
+  lowest-free-reads.Asked,
+  lowest-free-reads.Learnt,
+  write-below-below t,
+  write-below.Post,
+) (write-below-at t) write-below.Post
+write-below-add-write-below-3 t c = let b = c .before .before .before .before .before .before .before .before in omega (arith, W t b .prefix, small t b)
+
+write-below-write-below-requires-2 : (t : ℕ) → write-below-lts.Need-write-below-requires-2 (
+  load-reads.Asked,
+  load-reads.Learnt,
+  write-bucket-reads.Asked,
+  write-bucket-reads.Learnt,
+  lowest-free-reads.Asked,
+  lowest-free-reads.Learnt,
+  write-below-below t,
+  write-below.Post,
+) (write-below-at t) write-below.Post
+write-below-write-below-requires-2 t c κs =
+    let d = c .before .before .before .before .before in
+    let b = d .before .before .before in
+    let z = b .before .before .before .before .before in
+    let o = d .before .if2 .left in
+    let n = d .if3 .left in
+    let w = c .before .before .before .write-below in (
+      omega (arith, z .pre .0, shallow t b o n),
+      (z .pre .1 .0, other-ready fnv (rs t b) (k t b) (v t b) (s t b) (at t b) (W t b) (shallow t b o n) (over t b o n) (w .last .0) (w .result) (w .ensures)),
+    )
+
+write-below-same-length-2 : (t : ℕ) → write-below-lts.Need-same-length-2 (
+  load-reads.Asked,
+  load-reads.Learnt,
+  write-bucket-reads.Asked,
+  write-bucket-reads.Learnt,
+  lowest-free-reads.Asked,
+  lowest-free-reads.Learnt,
+  write-below-below t,
+  write-below.Post,
+) (write-below-at t) write-below.Post
+write-below-same-length-2 t c = search Needs.needs
+
+write-below-returns-4 : (t : ℕ) → write-below-lts.Need-returns-4 (
+  load-reads.Asked,
+  load-reads.Learnt,
+  write-bucket-reads.Asked,
+  write-bucket-reads.Learnt,
+  lowest-free-reads.Asked,
+  lowest-free-reads.Learnt,
+  write-below-below t,
+  write-below.Post,
+) (write-below-at t) write-below.Post
+write-below-returns-4 t c =
+    let d = c .before .before .before .before .before .before .before .before in
+    let b = d .before .before .before in
+    let o = d .before .if2 .left in
+    let n = d .if3 .left in
+    let w = c .before .before .before .before .before .before .write-below in
+    let u = c .before .before .write-below2 in
+    both-wrote fnv (rs t b) (k t b) (v t b) (s t b) (at t b) (W t b) (shallow t b o n) (over t b o n) (w .last .0) (w .result) (w .ensures) (u .last .0) (u .result) (u .ensures)
+
+pub +write-below-spec : {M : Type 1} → statement M
++write-below-spec = close μ-write-below λ t. write-below-lts.spec (
+  load-reads.Asked,
+  load-reads.Learnt,
+  write-bucket-reads.Asked,
+  write-bucket-reads.Learnt,
+  lowest-free-reads.Asked,
+  lowest-free-reads.Learnt,
+  write-below-below t,
+  write-below.Post,
+)
+    (write-below-at t)
+    write-below.Post
+    (write-below-load-requires t)
+    (write-below-returns t)
+    (write-below-mul-a t)
+    (write-below-add-e t)
+    (write-below-sub-write-bucket t)
+    (write-below-part-write-bucket-start t)
+    (write-below-part-write-bucket-end t)
+    (write-below-write-bucket-requires t)
+    (write-below-lowest-free-requires t)
+    (write-below-same-length t)
+    (write-below-returns-2 t)
+    (write-below-returns-3 t)
+    (write-below-add-write-below t)
+    (write-below-mul-write-below t)
+    (write-below-write-below-requires t)
+    (write-below-add-write-below-2 t)
+    (write-below-mul-write-below-2 t)
+    (write-below-add-write-below-3 t)
+    (write-below-write-below-requires-2 t)
+    (write-below-same-length-2 t)
+    (write-below-returns-4 t)

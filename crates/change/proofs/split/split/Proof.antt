@@ -1,0 +1,211 @@
+use Rattle.change.proofs.Heavy.{heavy-six, heavy-seven, source, writable, heavy-new}
+use Rattle.change.proofs.Settles.{settling}
+use Rattle.change.proofs.OnePage.{lent}
+use Rattle.change.specs.Split.{keyed, below, Source, Writable, Wrote}
+use Rattle.store.proofs.Rooms.{frees}
+use Rattle.store.proofs.Unique.{page-long}
+use Rattle.store.specs.Pages.{S1024, page, contents, asRow}
+use Rattle.partition.specs.Partition.{Row, needs, rowsOf}
+use Rattle.partition.specs.Bits.{top}
+use Rattle.page.specs.Page.{Slotted, rows}
+use Rattle.words.proofs.Bytes.{copied-whole}
+use Rattle.hash.specs.Fnv.{fnv, fnv-lt}
+use denote.Ref.{now}
+use lib.ListN.{length}
+use native.Mathlib.Omega.{arith}
+use Prim.Native.Nat.{ℕ, _+_, _≤_, _<_}
+use mathlib.Core.List.{List, _∷_, map}
+use mathlib.Core.Path.{_≡_, sym, ap, subst, _∙_}
+-- `change::split` meets its contract: refusals 6 and 7, else the new buckets, then the directory. Assumes nothing.
+use borrow.Author.Needs as Needs
+use Rattle.change.proofs.split.split.Statement.{statement}
+use Rattle.change.proofs.split.split.Tie as tie
+
+-- the page and its copy
+module _ (b : tie.After-copy-at) where
+  abbrev z : tie.Start
+  z = b .before .before .before .before .before .before .before
+
+  abbrev s : List ℕ
+  s = now (z .args .s)
+
+  abbrev p : ℕ
+  p = z .args .p
+
+  abbrev key : List ℕ
+  key = now (z .args .key)
+
+  abbrev place : List ℕ
+  place = now (z .args .place)
+
+  abbrev from : List ℕ
+  from = b .copy-at .last .0
+
+  copied : from ≡ page S1024 s p
+  copied = copied-whole (b .copy-at .ensures) (sym (ap length (lent s p) ∙ page-long S1024 s p (z .pre .1 .to))) ∙ lent s p
+
+  -- the page's rows and the code
+  abbrev all : List Row
+  all = keyed key ∷ map asRow (rows (page S1024 s p))
+
+-- what those that share the code's first 8 bits need
+module _ (e : tie.After-load) where
+  abbrev b1 : tie.After-copy-at
+  b1 = e .before .before .before .before .before
+
+  weight : e .load .result ≡ needs (rowsOf fnv (all b1) 8 (top 8 (fnv (key b1))))
+  weight =
+      let v = e .before .before .top-bits .ensures ∙ ap (top 8) (e .before .before .before .hash .ensures) in
+      e .load .ensures ∙ (λ x. needs (rowsOf fnv (keyed (key b1) ∷ map asRow (rows (copied b1 x))) 8 (v x)))
+
+-- how many buckets they make
+module _ (d : tie.After-count-below) where
+  abbrev b2 : tie.After-copy-at
+  b2 = d .before .before .before .before .before .before .before .before .before .before
+
+  number : d .count-below .result ≡ length (below fnv (all b2) 0 0)
+  number = d .count-below .ensures ∙ ap (λ g. length (below fnv (keyed (key b2) ∷ map asRow (rows g)) 0 0)) (copied b2)
+
+  fine : needs (rowsOf fnv (all b2) 8 (top 8 (fnv (key b2)))) ≤ 1016
+  fine = let l = d .before .before .before .before in omega (arith, weight (l .before), l .if1 .left)
+
+-- and that they have room
+module _ (w : tie.Else2) where
+  abbrev b3 : tie.After-copy-at
+  b3 = w .before .before .before .before .before .before .before .before .before .before .before
+
+  room : length (below fnv (all b3) 0 0) ≤ frees (contents S1024 (s b3)) + 1
+  room = omega (arith, number (w .before), w .before .before .before .free-pages .ensures .0, w .if2 .left)
+
+mul-a : tie.Need-mul-a
+mul-a c = search Needs.needs
+
+add-e : tie.Need-add-e
+add-e c = search Needs.needs
+
+slice-aggregate-copy-at : tie.Need-slice-aggregate-copy-at
+slice-aggregate-copy-at c = search Needs.needs
+
+sub-copy-at : tie.Need-sub-copy-at
+sub-copy-at c = search Needs.needs
+
+part-copy-at-start : tie.Need-part-copy-at-start
+part-copy-at-start c = search Needs.needs
+
+part-copy-at-end : tie.Need-part-copy-at-end
+part-copy-at-end c = search Needs.needs
+
+copy-at-requires : tie.Need-copy-at-requires
+copy-at-requires c κs = search Needs.needs
+
+hash-requires : tie.Need-hash-requires
+hash-requires c κs = search Needs.needs
+
+top-bits-requires : tie.Need-top-bits-requires
+top-bits-requires c κs = search Needs.needs
+
+slice-aggregate-load : tie.Need-slice-aggregate-load
+slice-aggregate-load c = search Needs.needs
+
+load-requires : tie.Need-load-requires
+load-requires c κs =
+    let b = c .before .before .before .before in
+    (omega arith, subst Slotted (sym (copied b)) (z b .pre .1 .bytes .rules .rules), z b .pre .0 .short)
+
+same-length : tie.Need-same-length
+same-length c = search Needs.needs
+
+returns : tie.Need-returns
+returns c =
+    let b = b1 (c .before) in
+    let q = z b .pre in
+    heavy-six fnv fnv-lt (s b) (key b) (place b) (q .0) (p b) (q .1) (z b .args .i) (q .2) (q .3) (omega (arith, weight (c .before), c .if1 .taken))
+
+free-pages-requires : tie.Need-free-pages-requires
+free-pages-requires c κs = search Needs.needs
+
+add-if2 : tie.Need-add-if2
+add-if2 c =
+    let z = z (c .before .before .before .before .before .before .before .before) in
+    omega (arith, c .free-pages .ensures .1, z .pre .0 .accepted .long .most)
+
+slice-aggregate-count-below : tie.Need-slice-aggregate-count-below
+slice-aggregate-count-below c = search Needs.needs
+
+count-below-requires : tie.Need-count-below-requires
+count-below-requires c κs =
+    let b = c .before .before .before .before .before .before .before .before .before in
+    (omega arith, omega arith, subst Slotted (sym (copied b)) (z b .pre .1 .bytes .rules .rules), z b .pre .0 .short)
+
+same-length-2 : tie.Need-same-length-2
+same-length-2 c = search Needs.needs
+
+returns-2 : tie.Need-returns-2
+returns-2 c =
+    let d = c .before in
+    let b = b2 d in
+    let q = z b .pre in
+    heavy-seven fnv fnv-lt (s b) (key b) (place b) (q .0) (p b) (q .1) (z b .args .i) (q .2) (q .3) (fine d) (omega (arith, number d, d .before .before .free-pages .ensures .0, c .if2 .taken))
+
+slice-aggregate-write-below : tie.Need-slice-aggregate-write-below
+slice-aggregate-write-below c = search Needs.needs
+
+write-below-requires : tie.Need-write-below-requires
+write-below-requires c κs =
+    let w = c .before .before in
+    let b = b3 w in
+    let q = z b .pre in
+    let f = fine (w .before) in (
+      subst (λ g. Source g (z b .args .i) (key b) (place b)) (sym (copied b)) (source fnv fnv-lt (s b) (key b) (place b) (q .0) (p b) (q .1) (z b .args .i) (q .2) (q .3) f (room w)),
+      subst (λ g. Writable fnv (record { code = key b; place = place b } ∷ map asRow (rows g)) 0 0 (s b) (p b)) (sym (copied b))
+          (writable fnv fnv-lt (s b) (key b) (place b) (q .0) (p b) (q .1) (z b .args .i) (q .2) (q .3) f (room w)),
+    )
+
+settle-requires : tie.Need-settle-requires
+settle-requires c κs =
+    let y = c .before .before .before in
+    let b = b3 (y .before .before .before) in
+    settling fnv fnv-lt (s b) (z b .pre .0 .accepted) (y .write-below .last .0) (y .write-below .ensures .pages)
+
+same-length-3 : tie.Need-same-length-3
+same-length-3 c = search Needs.needs
+
+returns-3 : tie.Need-returns-3
+returns-3 c =
+    let y = c .before .before .before .before .before .before in
+    let w = y .before .before .before in
+    let b = b3 w in
+    let q = z b .pre in
+    let n = y .write-below in
+    heavy-new fnv fnv-lt (s b) (key b) (place b) (q .0) (p b) (q .1) (z b .args .i) (q .2) (q .3) (fine (w .before)) (room w) (n .last .0) (n .result)
+    (subst (λ g. Wrote fnv (record { code = key b; place = place b } ∷ map asRow (rows g)) 0 0 (s b) (p b) (n .last .0) (n .result)) (copied b) (n .ensures))
+    (c .before .before .settle .last .0) (c .before .before .settle .ensures) (λ k. (c .slice-known3 .given k) .fits)
+
+pub split-spec : {M : Type 1} → statement M
+split-spec =
+    tie.close
+    (tie.spec
+    mul-a
+    add-e
+    slice-aggregate-copy-at
+    sub-copy-at
+    part-copy-at-start
+    part-copy-at-end
+    copy-at-requires
+    hash-requires
+    top-bits-requires
+    slice-aggregate-load
+    load-requires
+    same-length
+    returns
+    free-pages-requires
+    add-if2
+    slice-aggregate-count-below
+    count-below-requires
+    same-length-2
+    returns-2
+    slice-aggregate-write-below
+    write-below-requires
+    settle-requires
+    same-length-3
+    returns-3)

@@ -1,0 +1,93 @@
+-- What the steps of a split ask and answer. Assumes nothing.
+use mathlib.Core.Path.{_≡_}
+use mathlib.Core.List.{List, [], _∷_, _++_, map}
+use Prim.Native.Nat.{ℕ, _+_, _-_, _^_, _≤_, _<_}
+use lib.ListN.{length, take, drop, set}
+use Rattle.ground.specs.Lists.{byte}
+use Rattle.page.specs.Page.{Slotted, BucketPage, Belongs, Natural, depth, rows}
+use Rattle.partition.specs.Partition.{Row, Prefix, needs, rowsOf, grade, walk}
+use Rattle.partition.specs.Listing.{inOrder}
+use Rattle.partition.proofs.Rising.{Rising}
+use Rattle.store.specs.Pages.{S1024, pages, page, Page, contents, asRow}
+use Rattle.store.specs.Accepted.{GoodLength}
+use Rattle.store.specs.Moves.{find, isFree, packFrom, packed, written}
+use Rattle.change.specs.Directory.{Sound}
+
+-- a row of the code, its place left aside
+abbrev pub keyed : List ℕ → Row
+keyed c = record { code = c; place = [] }
+
+-- the buckets of rows at the prefix v of k bits and below it, in prefix order
+unfoldable pub below : (List ℕ → ℕ) → List Row → ℕ → ℕ → List Prefix
+unfolding walk grade rowsOf
+below h rs k v = walk (λ j w. grade 1016 (rowsOf h rs j w)) (8 - k) (grade 1016 (rowsOf h rs k v)) k v
+
+-- the rows of a page's slots from a up to b
+abbrev pub slots : List ℕ → ℕ → ℕ → List Row
+slots g a b = take (b - a) (drop a (map asRow (rows g)))
+
+-- the rows ts can go behind those of the packed page p: in code order, and all fit
+pub record Behind (p : List ℕ) (ts : List Row) : Type 0 where
+  pub page : Slotted p
+  pub size : length p ≡ 1024
+  pub packed : rows p ≡ packFrom 8 (map asRow (rows p))
+  pub rising : Rising (λ r. r .code) (map asRow (rows p) ++ ts)
+  pub fits : needs (map asRow (rows p) ++ ts) ≤ 1016
+
+-- q is p with the rows ts behind its own
+pub record Appended (p : List ℕ) (ts : List Row) (q : List ℕ) : Type 0 where
+  pub page : Slotted q
+  pub size : length q ≡ length p
+  pub deep : depth q ≡ depth p
+  pub rowsOf : rows q ≡ packFrom 8 (map asRow (rows p) ++ ts)
+
+-- the page that is split, and the new row, whose code belongs at slot i
+pub record Source (g : List ℕ) (i : ℕ) (c pl : List ℕ) : Type 0 where
+  pub page : Slotted g
+  pub belongs : Belongs g i c
+  pub natural : Natural pl
+  pub some : 1 ≤ length c
+  pub short : length c ≤ 64
+
+-- q is a bucket written packed: of the rows rs those whose hashes begin with the k bits of v, in code order
+pub record Bucketed (h : List ℕ → ℕ) (rs : List Row) (k v : ℕ) (q : List ℕ) : Type 0 where
+  pub page : BucketPage q
+  pub size : length q ≡ 1024
+  pub deep : depth q ≡ k
+  pub rowsOf : rows q ≡ packFrom 8 (inOrder (Rattle.partition.specs.Partition.rowsOf h rs k v))
+
+-- t is s but for its pages from 2 on, which are sound
+pub record Rewritten (s t : List ℕ) : Type 0 where
+  pub long : length t ≡ length s
+  pub low : (k : ℕ) → k < 2048 → byte t k ≡ byte s k
+  pub sound : (p : ℕ) → 2 ≤ p → p < pages S1024 s → Sound (page S1024 t p)
+
+-- the page that is taken next: i at first, then the lowest free page
+unfoldable pub next : List Page → ℕ → List Page → ℕ
+unfolding find
+next gs i [] = i
+next gs i (n ∷ ns) = next (set gs i n) (find isFree (set gs i n)) ns
+
+-- at every step the page that is taken is there
+abbrev pub Room : List Page → ℕ → List Page → Type 0
+Room gs i [] = Unit {0}
+Room gs i (n ∷ ns) = (i < length gs) × Room (set gs i n) (find isFree (set gs i n)) ns
+
+-- the buckets of rs at the prefix v of k bits and below it, written packed
+abbrev pub pagesBelow : (List ℕ → ℕ) → List Row → ℕ → ℕ → List Page
+pagesBelow h rs k v = map (packed h rs) (below h rs k v)
+
+-- there is room for them in the store s, the first in page at
+pub record Writable (h : List ℕ → ℕ) (rs : List Row) (k v : ℕ) (s : List ℕ) (at : ℕ) : Type 0 where
+  pub deep : k ≤ 8
+  pub prefix : v < 2 ^ k
+  pub long : GoodLength S1024 s
+  pub sound : Rewritten s s
+  pub from : 2 ≤ at
+  pub room : Room (contents S1024 s) (at - 2) (pagesBelow h rs k v)
+
+-- and t is s with them, the first in page at, each next in the lowest free page; then comes page p
+pub record Wrote (h : List ℕ → ℕ) (rs : List Row) (k v : ℕ) (s : List ℕ) (at : ℕ) (t : List ℕ) (p : ℕ) : Type 0 where
+  pub pages : Rewritten s t
+  pub held : contents S1024 t ≡ written (contents S1024 s) (at - 2) (pagesBelow h rs k v)
+  pub then : p ≡ 2 + next (contents S1024 s) (at - 2) (pagesBelow h rs k v)

@@ -1,0 +1,74 @@
+// A page that is split.
+ghost use mathlib.Core.Path.{_≡_};
+ghost use mathlib.Core.List.{_∷_, map};
+ghost use Prim.Native.Nat.{_+_, _<_};
+ghost use lib.ListN.{length};
+ghost use Rattle.ground.specs.Ladder.{Answers};
+ghost use Rattle.hash.specs.Fnv.{fnv};
+ghost use Rattle.page.specs.Page.{Belongs, free, rows};
+ghost use Rattle.partition.specs.Bits.{top};
+ghost use Rattle.store.specs.Pages.{S1024, page, dirDepth, asRow};
+ghost use Rattle.store.specs.Tables.{putAccepted, meaning};
+ghost use Rattle.store.proofs.Reading.{Naming};
+ghost use Rattle.change.specs.Put.{Puttable};
+ghost use Rattle.change.specs.Split.{Source, Writable, Wrote};
+use super::bucket::write_bucket;
+use super::directory::settle;
+use super::pages::free_pages;
+use super::pages::lowest_free;
+use super::weigh::count_below;
+use super::weigh::load;
+
+// The buckets at the prefix v of k bits and below it are written packed, the first to page at, each next to the lowest free page. The page that comes next.
+fn write_below(
+    s: &mut [u8],
+    from: &[u8],
+    i: usize,
+    key: &[u8],
+    place: &[u8],
+    k: u32,
+    v: u64,
+    at: usize,
+) -> usize
+    requires { ⌜ Source (now from) i (now key) (now place) × Writable fnv (record { code = now key; place = now place } ∷ map asRow (rows (now from))) k v (now s) at ⌝ }
+    ensures { λ r. ⌜ Wrote fnv (record { code = now (key .entry); place = now (place .entry) } ∷ map asRow (rows (now (from .entry)))) k v (now (s .entry)) at (now (s .exit)) r ⌝ }
+{
+    let need = load(from, key, k, v);
+    if need == 0 {
+        return at;
+    }
+    if need <= 1016 {
+        let a = at * 1024;
+        let e = a + 1024;
+        write_bucket(&mut s[a..e], from, i, key, place, k, v);
+        let n = s.len() / 1024;
+        return lowest_free(s, n);
+    }
+    if k == 8 {
+        return at;
+    }
+    let next = write_below(s, from, i, key, place, k + 1, 2 * v, at);
+    write_below(s, from, i, key, place, k + 1, 2 * v + 1, next)
+}
+
+// The new code, which belongs at slot i of page p, does not fit there: the page is split into the buckets of its rows and the new one.
+pub fn split(s: &mut [u8], p: usize, i: usize, key: &[u8], place: &[u8]) -> store::Answer
+    requires { ⌜ Puttable fnv (now s) (now key) (now place) × Naming S1024 fnv (now s) (top (dirDepth (now s)) (fnv (now key))) p × Belongs (page S1024 (now s) p) i (now key) × (free (page S1024 (now s) p) < 12 + length (now key)) ⌝ }
+    ensures { λ r. ⌜ Answers (putAccepted S1024 fnv (now (s .entry)) (record { code = now (key .entry); place = now (place .entry) })) (meaning r, now (s .exit)) ⌝ }
+{
+    let a = p * 1024;
+    let e = a + 1024;
+    let mut from = [0u8; 1024];
+    words::copy_at(&mut from, 0, &s[a..e]);
+    let v = partition::top_bits(hash::hash(key), 8);
+    if 1016 < load(&from, key, 8, v) {
+        return store::Answer::PrefixFull;
+    }
+    let n = s.len() / 1024;
+    if free_pages(s, n) + 1 < count_below(&from, key, 0, 0) {
+        return store::Answer::PagesFull;
+    }
+    write_below(s, &from, i, key, place, 0, 0, p);
+    settle(s, n);
+    store::Answer::New
+}

@@ -1,0 +1,64 @@
+-- The answer words of include/lots.h. Assumes nothing.
+use mathlib.Core.Path.{_≡_}
+use mathlib.Core.List.{List}
+use Prim.Native.Nat.{ℕ, _+_, _*_, _%_, _^_}
+use lib.IntN.{ℤ, pos, negsuc}
+use Rattle.ground.specs.Ladder.{Ladder, Answers}
+use Rattle.page.specs.declared.Place.{Place}
+use Rattle.store.specs.Tables.{Out, refused, refusedAt, formatted, accepted, new, replaced, found, counted, row}
+
+-- a part of a place; no part is negative
+abbrev pub plain : ℤ → ℕ
+plain (pos n) = n
+plain (negsuc n) = 0
+
+-- page in bits 0 to 31, slot in 32 to 47, volume in 48 to 63
+abbrev pub placeWord : Place → ℕ
+placeWord p = plain (p .page) + 2 ^ 32 * plain (p .slot) + 2 ^ 48 * plain (p .volume)
+
+-- a refusal: bit 63, the number in bits 0 to 7, the page number in bits 8 to 39
+abbrev pub refusalWord : ℕ → ℕ → ℕ
+refusalWord n p = 2 ^ 63 + n + 256 * (p % 2 ^ 32)
+
+-- the word of an answer
+abbrev pub word : Out → ℕ
+word (refused n) = refusalWord n 0
+word (refusedAt n p) = refusalWord n p
+word formatted = 0
+word accepted = 0
+word new = 2 ^ 31
+word (replaced p) = placeWord p
+word (found p) = placeWord p
+word (counted n) = n
+word (row l p) = placeWord p
+
+-- the length of the code that was given, in 32 bits, or what stood there
+abbrev pub lengthAfter : Out → ℕ → ℕ
+lengthAfter (refused n) old = old
+lengthAfter (refusedAt n p) old = old
+lengthAfter formatted old = old
+lengthAfter accepted old = old
+lengthAfter new old = old
+lengthAfter (replaced p) old = old
+lengthAfter (found p) old = old
+lengthAfter (counted n) old = old
+lengthAfter (row l p) old = l % 2 ^ 32
+
+-- r is the word of an answer that the table allows
+pub record Tells (T : Ladder Out) (r : ℕ) : Type 0 where
+  pub out : Out
+  pub allowed : Answers T out
+  pub is : r ≡ word out
+
+-- the same of a call that writes: t is what it leaves
+pub record TellsAnd (T : Ladder (Out × List ℕ)) (t : List ℕ) (r : ℕ) : Type 0 where
+  pub out : Out
+  pub allowed : Answers T (out, t)
+  pub is : r ≡ word out
+
+-- the same of a call that gives a row: the code's length too
+pub record TellsRow (T : Ladder (Out × List ℕ)) (t : List ℕ) (old len r : ℕ) : Type 0 where
+  pub out : Out
+  pub allowed : Answers T (out, t)
+  pub is : r ≡ word out
+  pub size : len ≡ lengthAfter out old

@@ -1,0 +1,138 @@
+// The C face of include/lots.h: each call checks for itself, and its word is the meaning of its answer.
+ghost use mathlib.Core.Path.{_≡_};
+ghost use Prim.Native.Nat.{_<_};
+ghost use Rattle.hash.specs.Fnv.{fnv};
+ghost use Rattle.page.specs.declared.Place.{Place};
+ghost use Rattle.store.specs.Pages.{S1024};
+ghost use Rattle.store.specs.Tables.{formatTable, checkTable, countTable, lookupTable, putTable, removeTable, rowTable, inspectTable, meaning};
+ghost use Rattle.lots_c.specs.Words.{plain, placeWord, refusalWord, word, lengthAfter, Tells, TellsAnd, TellsRow};
+use page::Place;
+use store::Answer;
+
+// A part of a place as a number.
+fn plain32(x: i32) -> u64
+    ensures { λ r. ⌜ (r ≡ plain x) × (r < 2147483648) ⌝ }
+{
+    if x < 0 {
+        return 0;
+    }
+    x as u64
+}
+
+fn plain16(x: i16) -> u64
+    ensures { λ r. ⌜ (r ≡ plain x) × (r < 32768) ⌝ }
+{
+    if x < 0 {
+        return 0;
+    }
+    x as u64
+}
+
+fn place_word(p: Place) -> u64
+    ensures { λ r. ⌜ r ≡ placeWord p ⌝ }
+{
+    plain32(p.page) + 4294967296 * plain16(p.slot) + 281474976710656 * plain16(p.volume)
+}
+
+fn refusal_word(n: u64, p: usize) -> u64
+    requires { ⌜ n < 256 ⌝ }
+    ensures { λ r. ⌜ r ≡ refusalWord n p ⌝ }
+{
+    9223372036854775808 + n + 256 * (p as u64 % 4294967296)
+}
+
+// The word of an answer.
+fn word_of(a: Answer) -> u64
+    ensures { λ r. ⌜ r ≡ word (meaning a) ⌝ }
+{
+    match a {
+        Answer::BadLength => refusal_word(1, 0),
+        Answer::BadPage(p) => refusal_word(2, p),
+        Answer::BadCode => refusal_word(3, 0),
+        Answer::BadPlace => refusal_word(4, 0),
+        Answer::NoCode => refusal_word(5, 0),
+        Answer::PrefixFull => refusal_word(6, 0),
+        Answer::PagesFull => refusal_word(7, 0),
+        Answer::ShortOutput => refusal_word(8, 0),
+        Answer::NoRow => refusal_word(9, 0),
+        Answer::Formatted => 0,
+        Answer::Accepted => 0,
+        Answer::New => 2147483648,
+        Answer::Replaced(p) => place_word(p),
+        Answer::Found(p) => place_word(p),
+        Answer::Rows(n) => n as u64,
+        Answer::RowOf(_, p) => place_word(p),
+    }
+}
+
+// The length of the code that was given, or what stood there.
+fn length_after(a: Answer, old: u32) -> u32
+    ensures { λ r. ⌜ r ≡ lengthAfter (meaning a) old ⌝ }
+{
+    match a {
+        Answer::RowOf(n, _) => (n % 4294967296) as u32,
+        Answer::BadLength => old,
+        Answer::BadPage(_) => old,
+        Answer::BadCode => old,
+        Answer::BadPlace => old,
+        Answer::NoCode => old,
+        Answer::PrefixFull => old,
+        Answer::PagesFull => old,
+        Answer::ShortOutput => old,
+        Answer::NoRow => old,
+        Answer::Formatted => old,
+        Answer::Accepted => old,
+        Answer::New => old,
+        Answer::Replaced(_) => old,
+        Answer::Found(_) => old,
+        Answer::Rows(_) => old,
+    }
+}
+
+#[no_mangle]
+pub extern "C" fn lots_format(store: &mut [u8]) -> u64
+    ensures { λ r. ⌜ TellsAnd (formatTable S1024 (now (store .entry))) (now (store .exit)) r ⌝ }
+{
+    word_of(change::format(store))
+}
+
+#[no_mangle]
+pub extern "C" fn lots_check(store: &[u8]) -> u64
+    ensures { λ r. ⌜ Tells (checkTable S1024 fnv (now (store .entry))) r ⌝ }
+{
+    word_of(reading::check(store))
+}
+
+#[no_mangle]
+pub extern "C" fn lots_count(store: &[u8]) -> u64
+    ensures { λ r. ⌜ Tells (countTable S1024 fnv (now (store .entry))) r ⌝ }
+{
+    word_of(reading::count(store))
+}
+
+#[no_mangle]
+pub extern "C" fn lots_lookup(store: &[u8], code: &[u8]) -> u64
+    ensures { λ r. ⌜ Tells (lookupTable S1024 fnv (now (store .entry)) (now (code .entry))) r ⌝ }
+{
+    word_of(reading::lookup(store, code))
+}
+
+#[no_mangle]
+pub extern "C" fn lots_row(store: &[u8], n: u64, out: &mut [u8], code_len: &mut u32) -> u64
+    ensures { λ r. ⌜ TellsRow (rowTable S1024 fnv (now (store .entry)) n (now (out .entry))) (now (out .exit)) (now («code_len» .entry)) (now («code_len» .exit)) r ⌝ }
+{
+    let a = reading::row_at(store, n as usize, out);
+    let old = *code_len;
+    *code_len = length_after(a, old);
+    word_of(a)
+}
+
+#[no_mangle]
+pub extern "C" fn lots_inspect(page: &[u8], n: u64, out: &mut [u8], code_len: &mut u32) -> u64
+    ensures { λ r. ⌜ TellsRow (inspectTable S1024 fnv (now (page .entry)) n (now (out .entry))) (now (out .exit)) (now («code_len» .entry)) (now («code_len» .exit)) r ⌝ }
+{
+    let a = reader::inspect(page, n as usize, out);
+    let old = *code_len;
+    *code_len = length_after(a, old);
+    word_of(a)
+}

@@ -1,0 +1,5 @@
+pub mod Promises
+pub mod Runs
+pub mod Programs
+pub mod OneBucket
+pub mod Turned

@@ -1,0 +1,161 @@
+-- THE THREE DEMANDS hold of the tables, for pages of 1,024 bytes and FNV-1a, with nothing left to assume.
+use mathlib.Core.Path.{_≡_, refl, sym, ap, _∙_}
+use mathlib.Core.Bool.{Bool, true, false}
+use mathlib.Core.List.{List}
+use mathlib.Core.Logic.{_⊎_, inl, inr, ⊎-elim}
+use mathlib.Core.Option.{some, none}
+use Prim.Native.Nat.{ℕ, _-_, _/_, _≤_, _<_}
+use native.Mathlib.Omega.{arith}
+use lib.ListN.{length}
+use Rattle.ground.specs.Ladder.{Answers}
+use Rattle.hash.specs.Fnv.{fnv, fnv-lt}
+use Rattle.partition.specs.Partition.{buckets}
+use Rattle.page.specs.declared.Place.{Place}
+use Rattle.page.specs.Places.{place, stored, Negative}
+use Rattle.store.specs.Pages.{S1024}
+use Rattle.store.specs.Accepted.{Accepted}
+use Rattle.store.specs.Moves.{pick}
+use Rattle.store.specs.Tables.{Out, refused, new, replaced, putTable}
+use Rattle.store.specs.Demands.{Call, format, check, count, lookup, remove, put, rowAt, inspect, Made, ok, GoodCode, map-of, putAnswer, Refuses, after, sized-1024}
+use Rattle.store.proofs.Rules.{accepted-whole}
+use Rattle.store.proofs.Settled.{format-settled, check-settled, count-settled, lookup-settled, row-settled, inspect-settled, put-settled, remove-settled}
+use Rattle.store.proofs.Meaning.{meaning-one}
+use Rattle.store.proofs.Kept.{demand-1, no-three, three}
+use Rattle.store.proofs.Whole.{demand-2, demand-3}
+use Rattle.promises.specs.Promises.{First, joining, near, PutSays, Second, Third, Promised}
+
+pair : {A B : Type 0} (x y : A × B) → x ≡ y → (x .0 ≡ y .0) × (x .1 ≡ y .1)
+pair x y e = (ap (λ q. q .0) e, ap (λ q. q .1) e)
+
+store-settled : (c : Call) (s : List ℕ) (o o′ : Out) (t t′ : List ℕ) → Made S1024 fnv c s o t → Made S1024 fnv c s o′ t′ → (o ≡ o′) × (t ≡ t′)
+store-settled format s o o′ t t′ m n = pair (o, t) (o′, t′) (format-settled S1024 s (o, t) (o′, t′) m n)
+store-settled check s o o′ t t′ m n = (check-settled S1024 fnv s o o′ (m .0) (n .0), m .1 ∙ sym (n .1))
+store-settled count s o o′ t t′ m n = (count-settled S1024 fnv s o o′ (m .0) (n .0), m .1 ∙ sym (n .1))
+store-settled (lookup c) s o o′ t t′ m n = (lookup-settled S1024 fnv s c o o′ (m .0) (n .0), m .1 ∙ sym (n .1))
+store-settled (remove c) s o o′ t t′ m n = pair (o, t) (o′, t′) (remove-settled S1024 fnv sized-1024 s c (o, t) (o′, t′) m n)
+store-settled (put c p) s o o′ t t′ m n = pair (o, t) (o′, t′) (put-settled S1024 fnv sized-1024 s c p (o, t) (o′, t′) m n)
+store-settled (rowAt n out) s o o′ t t′ m k =
+    (pair _ _ (row-settled S1024 fnv s n out (o, m .0 .0) (o′, k .0 .0) (m .0 .1) (k .0 .1)) .0, m .1 ∙ sym (k .1))
+store-settled (inspect g n out) s o o′ t t′ m k =
+    (pair _ _ (inspect-settled S1024 fnv g n out (o, m .0 .0) (o′, k .0 .0) (m .0 .1) (k .0 .1)) .0, m .1 ∙ sym (k .1))
+
+first : First
+first =
+    let d = demand-1 S1024 fnv in
+    record {
+      settled = record { store = store-settled; row = row-settled S1024 fnv; inspection = inspect-settled S1024 fnv; enum = meaning-one };
+      store-kept = d .0;
+      output-kept = d .1;
+      lengths = λ s. ((λ g. (g .whole, g .least, g .most)), (λ g. record { whole = g .0; least = g .1; most = g .2 }));
+    }
+
+-- ---- put's answer, by number
+
+module _ (s c : List ℕ) (p : Place) (o : Out) (t : List ℕ) (a : Accepted S1024 fnv s) (m : Made S1024 fnv (put c p) s o t) where
+  -- the table's answer is the only one
+  only : (x : Out) (y : List ℕ) → Answers (putTable S1024 fnv s c p) (x, y) → o ≡ x
+  only x y w = ap (λ q. q .0) (put-settled S1024 fnv sized-1024 s c p (o, t) (x, y) m w)
+
+  none-some : {b : List ℕ} → map-of S1024 s c ≡ none → map-of S1024 s c ≡ some b → ⊥
+  none-some e f = let n : _≡_ {A = ℕ} 0 1 = cc in omega arith
+
+  says-three : (GoodCode c → ⊥) → o ≡ refused 3
+  unfolding putTable
+  says-three n = only (refused 3) s (inr ((λ _ r. r (a .long)), inl (tt, (three c n, refl))))
+
+  says-four : GoodCode c → Negative p → o ≡ refused 4
+  unfolding putTable
+  says-four g n = only (refused 4) s (inr ((λ _ r. r (a .long)), inr ((λ _ r. no-three c g r), inl (tt, (n, refl)))))
+
+  module _ (g : GoodCode c) (n : Negative p → ⊥) where
+    -- a put that is not refused answers as the map says
+    answers : (Refuses S1024 fnv s c p (record { code = c; place = stored p }) → ⊥) → o ≡ putAnswer (map-of S1024 s c)
+    answers f = go (ok o) refl
+      where
+        go : (b : Bool) → ok o ≡ b → o ≡ putAnswer (map-of S1024 s c)
+        go true e = demand-2 S1024 fnv sized-1024 fnv-lt .2 s c p o t a m .0 e .0
+        go false e = absurd (f (demand-2 S1024 fnv sized-1024 fnv-lt .4 s c p o t a m .0 e))
+
+    says-known : (b : List ℕ) → map-of S1024 s c ≡ some b → o ≡ replaced (place b)
+    says-known b e = answers refuses ∙ ap putAnswer e
+      where
+        refuses : Refuses S1024 fnv s c p (record { code = c; place = stored p }) → ⊥
+        refuses (inl x) = x g
+        refuses (inr (inl x)) = n x
+        refuses (inr (inr x)) = none-some (x .0) e
+
+    module _ (e : map-of S1024 s c ≡ none) where
+      says-six : 1016 < near s c p → o ≡ refused 6
+      unfolding putTable
+      says-six l = only (refused 6) s (inr (
+        (λ _ r. r (a .long)),
+        inr (
+          (λ _ r. no-three c g r),
+          inr (
+            (λ _ r. n r),
+            inr (
+              accepted-whole S1024 fnv s a,
+              (
+                a,
+                inr ((λ b f. none-some e f), inl (tt, (l, refl))),
+              ),
+            ),
+          ),
+        ),
+      ))
+
+      module _ (l : near s c p ≤ 1016) where
+        says-seven : length s / 1024 - 2 < length (buckets S1024 fnv (joining s c p)) → o ≡ refused 7
+        unfolding putTable
+        says-seven k = only (refused 7) s (inr (
+          (λ _ r. r (a .long)),
+          inr (
+            (λ _ r. no-three c g r),
+            inr (
+              (λ _ r. n r),
+              inr (
+                accepted-whole S1024 fnv s a,
+                (
+                  a,
+                  inr ((λ b f. none-some e f), inr ((λ _ r. omega arith), inl (tt, (k, refl)))),
+                ),
+              ),
+            ),
+          ),
+        ))
+
+        says-new : length (buckets S1024 fnv (joining s c p)) ≤ length s / 1024 - 2 → o ≡ new
+        says-new k = answers refuses ∙ ap putAnswer e
+          where
+            refuses : Refuses S1024 fnv s c p (record { code = c; place = stored p }) → ⊥
+            refuses (inl x) = x g
+            refuses (inr (inl x)) = n x
+            refuses (inr (inr x)) = ⊎-elim (λ y. omega arith) (λ y. omega arith) (x .1)
+
+  put-says : PutSays s c p o
+  put-says = record { three = says-three; four = says-four; known = says-known; six = says-six; seven = says-seven; otherwise = says-new }
+
+second : Second
+second =
+    let d = demand-2 S1024 fnv sized-1024 fnv-lt in
+    record {
+      check = d .0;
+      lookup = d .1;
+      put = d .2;
+      remove = d .3;
+      put-refused = d .4;
+      put-says = put-says;
+      listed-once = d .5;
+      count = d .6;
+      row = d .7;
+      inspection = d .8;
+      places = d .9;
+      accepted-again = d .10;
+      format-accepted = d .11;
+    }
+
+third : Third
+third = let d = demand-3 S1024 fnv sized-1024 fnv-lt in record { since-format = λ rs. refl; refused-keeps = λ c o rs e. ap (λ b. pick b (after c rs) rs) e; afresh = d .0; same-refusals = d .1; kept-pages = d .2 }
+
+pub promised : Promised
+promised = record { first = first; second = second; third = third }

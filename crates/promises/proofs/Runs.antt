@@ -1,0 +1,149 @@
+-- A program that keeps the tables, run from a format of four pages: what it has stored so far, and that a put that need not be refused is not.
+use mathlib.Core.Path.{_≡_, refl, sym, ap, subst, _∙_}
+use mathlib.Core.Bool.{Bool, true, false}
+use mathlib.Core.List.{List, [], _∷_}
+use mathlib.Core.Logic.{_⊎_, inl, inr, ⊎-elim}
+use mathlib.Core.Option.{none}
+use Prim.Native.Nat.{ℕ, _-_, _/_, _≤_, _<_}
+use native.Mathlib.Omega.{arith}
+use lib.IntN.{pos}
+use lib.ListN.{length, replicate, length-replicate}
+use Rattle.ground.specs.Ladder.{Answers}
+use Rattle.ground.proofs.Ladders.{each}
+use Rattle.words.proofs.Bytes.{small-append, small-bytes, small-zeros}
+use Rattle.partition.specs.Bits.{top}
+use Rattle.partition.specs.Partition.{Row, Reordered, front, needs, rowsOf, buckets}
+use Rattle.partition.specs.Listing.{placeOf}
+use Rattle.partition.proofs.Laws.{load-reordered, reordered}
+use Rattle.partition.proofs.Maps.{cut-none}
+use Rattle.partition.proofs.Reorders.{turned}
+use Rattle.partition.proofs.Sorted.{same-map}
+use Rattle.page.specs.declared.Place.{Place}
+use Rattle.page.specs.Places.{stored, Negative, InRange}
+use Rattle.page.proofs.Signs.{positive}
+use Rattle.store.specs.Pages.{S1024, pages, rowsHeld}
+use Rattle.store.specs.Accepted.{GoodLength, Accepted}
+use Rattle.store.specs.Moves.{pick}
+use Rattle.store.specs.Tables.{Out, formatted, new, blank, formatTable, putTable}
+use Rattle.store.specs.Demands.{Hash, format, put, Made, ok, GoodCode, map-of, putAnswer, Refuses, History, begin, next, after, sized-1024}
+use Rattle.store.proofs.Whole.{demand-2, demand-3}
+use Rattle.promises.specs.Programs.{Program, Bytes, Meets}
+
+abbrev pub rowOf : List ℕ → Place → Row
+rowOf c p = record { code = c; place = stored p }
+
+-- the place (n, 0, 0)
+abbrev pub at : ℕ → Place
+at n = record { page = pos n; slot = pos 0; volume = pos 0 }
+
+pub in-range : (n : ℕ) → n < 2 → InRange (at n)
+in-range n l = record { page = omega arith; slot = omega arith; volume = omega arith }
+
+pub natural : (n : ℕ) → Negative (at n) → ⊥
+natural n x = ⊎-elim (positive n) (λ y. ⊎-elim (positive 0) (positive 0) y) x
+
+-- a put leaves bytes
+put-bytes : (h : List ℕ → ℕ) (s c : List ℕ) (p : Place) → Bytes s → (x : Out × List ℕ) → Answers (putTable S1024 h s c p) x → Bytes (x .1)
+unfolding putTable
+put-bytes h s c p b = each (λ x. Bytes (x .1)) (putTable S1024 h s c p) (
+  (λ _ _. kept),
+  (λ _. (
+    (λ _ _. kept),
+    (λ _. (
+      (λ _ _. kept),
+      (λ _. ((λ _ _. kept), (λ _ _. ((λ old _ x e. e .1 .byte-size), (λ _. ((λ _ _. kept), (λ _. ((λ _ _. kept), (λ _ x e. e .1 .byte-size))))))))),
+    )),
+  )),
+)
+  where
+    kept : {o : Out} (x : Out × List ℕ) → x ≡ (o, s) → Bytes (x .1)
+    kept x e = rw (ap (λ q. q .1) e) b
+
+-- four pages of zeros
+unfoldable pub zeros : List ℕ
+zeros = replicate 4096 0
+
+zeros-long : length zeros ≡ 4096
+unfolding zeros
+zeros-long = length-replicate {A = ℕ} 4096 0
+
+zeros-small : Bytes zeros
+unfolding zeros
+zeros-small = small-zeros 4096 .at
+
+module _ (h : List ℕ → ℕ) (hash : Hash h) (P : Program) (meets : Meets h P) where
+  -- where the program has come: its rows, its store of four pages
+  pub record At (rs : List Row) (t : List ℕ) : Type 0 where
+    pub past : History S1024 h rs t
+    pub long : length t ≡ 4096
+    pub small : Bytes t
+
+  -- where it has come is what is worked out afresh
+  pub accepted-at : {rs : List Row} {t : List ℕ} → At rs t → Accepted S1024 h t
+  accepted-at {rs} {t} w = demand-3 S1024 h sized-1024 hash .0 rs t (w .past) .keeps
+
+  pub same-at : {rs : List Row} {t : List ℕ} → At rs t → Reordered (rowsHeld S1024 t) rs
+  same-at {rs} {t} w = demand-3 S1024 h sized-1024 hash .0 rs t (w .past) .same
+
+  pub map-at : {rs : List Row} {t : List ℕ} → At rs t → (c : List ℕ) → map-of S1024 t c ≡ placeOf rs c
+  map-at {rs} {t} w c = sym (same-map (turned (same-at w)) (demand-3 S1024 h sized-1024 hash .0 rs t (w .past) .once) .1 c)
+
+  zeros-good : GoodLength S1024 zeros
+  zeros-good = record { whole = rw zeros-long refl; least = rw zeros-long (omega arith); most = rw zeros-long (omega arith) }
+
+  abbrev pub begun : List ℕ
+  begun = P .format zeros .1
+
+  formats-it : (x : Out × List ℕ) → Answers (formatTable S1024 zeros) x → x ≡ (formatted, blank S1024 zeros)
+  unfolding formatTable
+  formats-it x m = each (λ x. x ≡ (formatted, blank S1024 zeros)) (formatTable S1024 zeros) ((λ _ r. absurd (r zeros-good)), (λ _ x e. e)) x m
+
+  blank-small : Bytes (blank S1024 zeros)
+  unfolding blank
+  blank-small = small-append (small-bytes 4 (pages S1024 zeros)) (small-append (small-bytes 4 1024) (small-append (small-bytes 4 256) (small-append (small-bytes 4 2048) (small-zeros (length zeros - 16))))) .at
+
+  -- a format, and no rows
+  pub at-first : At [] begun
+  at-first =
+      let m : Answers (formatTable S1024 zeros) (P .format zeros) = meets .formats zeros zeros-small in
+      let e : P .format zeros ≡ (formatted, blank S1024 zeros) = formats-it (P .format zeros) m in
+      let f : Made S1024 h format zeros formatted begun = subst (λ (o : Out). Answers (formatTable S1024 zeros) (o, begun)) (ap (λ q. q .0) e) m in
+      record {
+        past = begin zeros f;
+        long = demand-2 S1024 h sized-1024 hash .11 zeros begun f .2 ∙ zeros-long;
+        small = rw (ap (λ q. q .1) e) blank-small;
+      }
+
+  -- a put of a new code that neither 6 nor 7 refuses is stored
+  module _ {rs : List Row} {t : List ℕ} (w : At rs t) (c : List ℕ) (p : Place) (good : GoodCode c) (small : Bytes c) (range : InRange p) (natural : Negative p → ⊥)
+      (fresh : placeOf rs c ≡ none) (near : needs (rowsOf h (rowOf c p ∷ rs) 8 (top 8 (h c))) ≤ 1016) (room : length (buckets S1024 h (rowOf c p ∷ rs)) ≤ 2) where
+    abbrev o : Out
+    o = P .put t c p .0
+
+    abbrev pub then : List ℕ
+    then = P .put t c p .1
+
+    made : Made S1024 h (put c p) t o then
+    made = meets .puts t c p (w .small) small range
+
+    refuses : Refuses S1024 h t c p (rowOf c p) → ⊥
+    refuses (inl x) = x good
+    refuses (inr (inl x)) = natural x
+    refuses (inr (inr x)) = ⊎-elim
+        (λ y. omega (arith, load-reordered S1024 h (front (rowOf c p) (same-at w)) 8 (top 8 (h c))))
+        (λ y. let e : length t / 1024 ≡ 4 = rw (w .long) refl in omega (arith, ap length (reordered S1024 h (front (rowOf c p) (same-at w)))))
+        (x .1)
+
+    sure : (b : Bool) → ok o ≡ b → ok o ≡ true
+    sure true e = e
+    sure false e = absurd (refuses (demand-2 S1024 h sized-1024 hash .4 t c p o then (accepted-at w) made .0 e))
+
+    pub says-new : o ≡ new
+    says-new = demand-2 S1024 h sized-1024 hash .2 t c p o then (accepted-at w) made .0 (sure (ok o) refl) .0 ∙ ap putAnswer (map-at w c ∙ fresh)
+
+    pub at-next : At (rowOf c p ∷ rs) then
+    at-next = record {
+      past = subst (λ (q : List Row). History S1024 h q then) (ap (λ (b : Bool). pick b (after (put c p) rs) rs) (ap ok says-new) ∙ ap (λ q. rowOf c p ∷ q) (cut-none c rs fresh)) (next (put c p) o (w .past) made);
+      long = demand-2 S1024 h sized-1024 hash .10 (put c p) t o then (accepted-at w) made .1 ∙ w .long;
+      small = put-bytes h t c p (w .small) (o, then) made;
+    }

@@ -1,0 +1,79 @@
+-- Programs, and the wrong ones that document 01 wants turned away. Pages of 1,024 bytes, any hash. Assumes nothing.
+use mathlib.Core.Path.{_≡_}
+use mathlib.Core.Bool.{true, false}
+use mathlib.Core.List.{List, []}
+use Prim.Native.Nat.{ℕ, _<_}
+use lib.ListN.{length}
+use Rattle.ground.specs.Ladder.{Answers}
+use Rattle.ground.specs.Lists.{byte}
+use Rattle.partition.specs.Partition.{Row, needs}
+use Rattle.partition.specs.Listing.{listing}
+use Rattle.page.specs.declared.Place.{Place}
+use Rattle.page.specs.Places.{InRange}
+use Rattle.store.specs.Pages.{S1024, dirDepth, rowsHeld}
+use Rattle.store.specs.Accepted.{Accepted}
+use Rattle.store.specs.Tables.{Out, new, found, counted, formatTable, checkTable, countTable, lookupTable, putTable, removeTable, rowTable}
+use Rattle.store.specs.Demands.{ok, History}
+
+-- what a program answers to each call, with the store or output it leaves
+pub record Program : Type 0 where
+  pub format : List ℕ → Out × List ℕ
+  pub check : List ℕ → Out
+  pub count : List ℕ → Out
+  pub lookup : List ℕ → List ℕ → Out
+  pub put : List ℕ → List ℕ → Place → Out × List ℕ
+  pub remove : List ℕ → List ℕ → Out × List ℕ
+  pub row : List ℕ → ℕ → List ℕ → Out × List ℕ
+
+-- every number of a list is a byte
+abbrev pub Bytes : List ℕ → Type 0
+Bytes l = (k : ℕ) → byte l k < 256
+
+-- a program whose calls keep the promises of the tables
+pub record Meets (h : List ℕ → ℕ) (P : Program) : Type 0 where
+  pub formats : (s : List ℕ) → Bytes s → Answers (formatTable S1024 s) (P .format s)
+  pub checks : (s : List ℕ) → Bytes s → Answers (checkTable S1024 h s) (P .check s)
+  pub counts : (s : List ℕ) → Bytes s → Answers (countTable S1024 h s) (P .count s)
+  pub looks : (s c : List ℕ) → Bytes s → Bytes c → Answers (lookupTable S1024 h s c) (P .lookup s c)
+  pub puts : (s c : List ℕ) (p : Place) → Bytes s → Bytes c → InRange p → Answers (putTable S1024 h s c p) (P .put s c p)
+  pub removes : (s c : List ℕ) → Bytes s → Bytes c → Answers (removeTable S1024 h s c) (P .remove s c)
+  pub rows : (s : List ℕ) (n : ℕ) (out : List ℕ) → Bytes s → Bytes out → Answers (rowTable S1024 h s n out) (P .row s n out)
+
+-- one that refuses every put
+abbrev pub RefusesEveryPut : Program → Type 0
+RefusesEveryPut P = (s c : List ℕ) (p : Place) → ok (P .put s c p .0) ≡ false
+
+-- lookup with one fixed place
+abbrev pub OneFixedPlace : Program → Type 0
+OneFixedPlace P = (q : Place) × ((s c : List ℕ) (p : Place) → P .lookup s c ≡ found p → p ≡ q)
+
+-- a listing that repeats one row
+abbrev pub RepeatsOneRow : Program → Type 0
+RepeatsOneRow P = (s : List ℕ) (n m : ℕ) (out : List ℕ) → ok (P .row s n out .0) ≡ true → ok (P .row s m out .0) ≡ true → P .row s n out ≡ P .row s m out
+
+-- a remove that only answers
+abbrev pub OnlyAnswers : Program → Type 0
+OnlyAnswers P = (s c : List ℕ) → P .remove s c .1 ≡ s
+
+-- a put that stores the first row and then only says "new"
+abbrev pub StoresOnlyTheFirst : Program → Type 0
+StoresOnlyTheFirst P = (s c : List ℕ) (p : Place) → (rowsHeld S1024 s ≡ [] → ⊥) → P .put s c p .0 ≡ new → P .put s c p .1 ≡ s
+
+-- a count of rows that is not the map's size, on some accepted store
+abbrev pub Miscounts : (List ℕ → ℕ) → Program → Type 0
+Miscounts h P = (s : List ℕ) × Bytes s × Accepted S1024 h s × (P .count s ≡ counted (length (listing S1024 h (rowsHeld S1024 s))) → ⊥)
+
+-- one bucket for everything: the stores that put leaves have no second directory entry
+abbrev pub OneBucket : Program → Type 0
+OneBucket P = (s c : List ℕ) (p : Place) → dirDepth (P .put s c p .1) ≡ 0
+
+-- a program that keeps the tables is none of these
+pub record TurnedAway (h : List ℕ → ℕ) (P : Program) : Type 0 where
+  pub refuses-every-put : RefusesEveryPut P → ⊥
+  pub one-fixed-place : OneFixedPlace P → ⊥
+  pub repeats-one-row : RepeatsOneRow P → ⊥
+  pub only-answers : OnlyAnswers P → ⊥
+  pub stores-only-the-first : StoresOnlyTheFirst P → ⊥
+  pub miscounts : Miscounts h P → ⊥
+  -- rows that do not fit together have a second directory entry
+  pub more-than-one-bucket : (rs : List Row) (t : List ℕ) → History S1024 h rs t → 1016 < needs rs → 0 < dirDepth t

@@ -1,0 +1,83 @@
+-- The customer's three demands, for pages of 1,024 bytes and FNV-1a. Assumes nothing.
+use mathlib.Core.Path.{_≡_}
+use mathlib.Core.Bool.{false}
+use mathlib.Core.List.{List, [], _∷_}
+use mathlib.Core.Logic.{_↔_}
+use mathlib.Core.Option.{some, none}
+use Prim.Native.Nat.{ℕ, _-_, _/_, _%_, _≤_, _<_}
+use lib.ListN.{length}
+use Rattle.ground.specs.Ladder.{Answers}
+use Rattle.hash.specs.Fnv.{fnv}
+use Rattle.partition.specs.Bits.{top}
+use Rattle.partition.specs.Partition.{Row, needs, rowsOf, buckets}
+use Rattle.page.specs.declared.Place.{Place}
+use Rattle.page.specs.Places.{place, stored, Negative}
+use Rattle.store.specs.declared.Answer.{Answer}
+use Rattle.store.specs.Pages.{S1024, rowsHeld}
+use Rattle.store.specs.Accepted.{GoodLength, Accepted}
+use Rattle.store.specs.Tables.{Out, refused, formatted, new, replaced, meaning, rowTable, inspectTable}
+use Rattle.store.specs.Demands.{Call, format, put as a-put, Made, ok, surviving, GoodCode, map-of, RefusalKeeps, OutputKept, CheckExact, LookupIsMap, PutIsMap, RemoveIsMap, PutRefused, ListedOnce, CountIsSize, RowIsListed, InspectIsSlot, PlaceComesBack, AcceptedAgain, FormatAccepted, AfreshAlways, SameRefusals, KeptPages}
+
+-- a finished promise: for every input the answer and each byte of store and output are settled, refused calls too; so is the enum's case
+pub record Settled : Type 0 where
+  pub store : (c : Call) (s : List ℕ) (o o′ : Out) (t t′ : List ℕ) → Made S1024 fnv c s o t → Made S1024 fnv c s o′ t′ → (o ≡ o′) × (t ≡ t′)
+  pub row : (s : List ℕ) (n : ℕ) (out : List ℕ) (a b : Out × List ℕ) → Answers (rowTable S1024 fnv s n out) a → Answers (rowTable S1024 fnv s n out) b → a ≡ b
+  pub inspection : (g : List ℕ) (n : ℕ) (out : List ℕ) (a b : Out × List ℕ) → Answers (inspectTable S1024 fnv g n out) a → Answers (inspectTable S1024 fnv g n out) b → a ≡ b
+  pub enum : (a b : Answer) → meaning a ≡ meaning b → a ≡ b
+
+-- 1. Any bytes may come as the store, any code, any row place. .. The store and the output buffer keep every byte.
+pub record First : Type 0 where
+  pub settled : Settled
+  pub store-kept : RefusalKeeps S1024 fnv
+  pub output-kept : OutputKept S1024 fnv
+  pub lengths : (s : List ℕ) → GoodLength S1024 s ↔ ((length s % 1024 ≡ 0) × (3 ≤ length s / 1024) × (length s / 1024 ≤ 258))
+
+-- the rows of s with the row (c, p), and what those of them need that share its first 8 bits
+abbrev pub joining : List ℕ → List ℕ → Place → List Row
+joining s c p = record { code = c; place = stored p } ∷ rowsHeld S1024 s
+
+abbrev pub near : List ℕ → List ℕ → Place → ℕ
+near s c p = needs (rowsOf fnv (joining s c p) 8 (top 8 (fnv c)))
+
+-- put's answer on an accepted store: 3, 4, a known code's old place, 6, 7, new; each exactly when
+pub record PutSays (s c : List ℕ) (p : Place) (o : Out) : Type 0 where
+  pub three : (GoodCode c → ⊥) → o ≡ refused 3
+  pub four : GoodCode c → Negative p → o ≡ refused 4
+  pub known : GoodCode c → (Negative p → ⊥) → (b : List ℕ) → map-of S1024 s c ≡ some b → o ≡ replaced (place b)
+  pub six : GoodCode c → (Negative p → ⊥) → map-of S1024 s c ≡ none → 1016 < near s c p → o ≡ refused 6
+  pub seven : GoodCode c → (Negative p → ⊥) → map-of S1024 s c ≡ none → near s c p ≤ 1016 → length s / 1024 - 2 < length (buckets S1024 fnv (joining s c p)) → o ≡ refused 7
+  pub otherwise : GoodCode c → (Negative p → ⊥) → map-of S1024 s c ≡ none → near s c p ≤ 1016 → length (buckets S1024 fnv (joining s c p)) ≤ length s / 1024 - 2 → o ≡ new
+
+-- 2. The check accepts exactly the stores that document 01 describes. On an accepted store, lookup, put, remove and listing answer as a plain map from code to
+-- row place, save that a put is refused exactly when the table says. Each row is listed once, and the store is accepted again afterwards.
+pub record Second : Type 0 where
+  pub check : CheckExact S1024 fnv
+  pub lookup : LookupIsMap S1024 fnv
+  pub put : PutIsMap S1024 fnv
+  pub remove : RemoveIsMap S1024 fnv
+  pub put-refused : PutRefused S1024 fnv
+  pub put-says : (s c : List ℕ) (p : Place) (o : Out) (t : List ℕ) → Accepted S1024 fnv s → Made S1024 fnv (a-put c p) s o t → PutSays s c p o
+  pub listed-once : ListedOnce S1024 fnv
+  pub count : CountIsSize S1024 fnv
+  pub row : RowIsListed S1024 fnv
+  pub inspection : InspectIsSlot S1024 fnv
+  pub places : PlaceComesBack S1024 fnv
+  pub accepted-again : AcceptedAgain S1024 fnv
+  pub format-accepted : FormatAccepted S1024 fnv
+
+-- 3. Format a store, then make any calls on it, refused ones among them. ..
+pub record Third : Type 0 where
+  -- the rows that survive since the last accepted format: it begins anew, and a refused call changes nothing
+  pub since-format : (rs : List Row) → surviving format formatted rs ≡ []
+  pub refused-keeps : (c : Call) (o : Out) (rs : List Row) → ok o ≡ false → surviving c o rs ≡ rs
+  -- the buckets, their depths, the rows in each, the directory entries that share each one and the listing are those worked out afresh from the rows that survive
+  pub afresh : AfreshAlways S1024 fnv
+  -- two histories with the same surviving rows and the same store length refuse the same next put
+  pub same-refusals : SameRefusals S1024 fnv
+  -- in each call but format, a bucket whose rows and depth come out the same keeps its page and all its bytes
+  pub kept-pages : KeptPages S1024 fnv
+
+pub record Promised : Type 0 where
+  pub first : First
+  pub second : Second
+  pub third : Third

@@ -1,0 +1,93 @@
+-- `reading::place_of` meets its contract. Assumes nothing.
+use Prim.Native.Nat.{ℕ, _+_, _*_, _-_, _≤_, _<_}
+use mathlib.Core.Path.{_≡_, refl, sym, ap, subst, _∙_}
+use mathlib.Core.List.{List}
+use mathlib.Core.Logic.{inl, inr}
+use mathlib.Core.Option.{none}
+use native.Mathlib.Omega.{arith}
+use denote.Ref.{now}
+use Rattle.page.specs.Page.{place}
+use Rattle.page.specs.Places as Places
+use Rattle.partition.specs.Listing.{placeOf}
+use Rattle.store.specs.Pages.{S1024, page}
+use Rattle.store.specs.Tables.{found}
+use Rattle.store.proofs.Views.{lent-page}
+use Rattle.rows.specs.Spots.{Stands}
+use Rattle.rows.specs.declared.Spot.the-variants.{Here, Nowhere}
+use Rattle.reading.proofs.Calls.{some-not}
+use borrow.Author.Needs.{needs}
+use Rattle.reading.proofs.place_of.Statement.{statement}
+use Rattle.reading.proofs.place_of.Tie as tie
+
+-- where the row was found
+module _ (b : tie.After-p) where
+  abbrev store : List ℕ
+  store = now (b .before .before .before .before .before .args .s)
+
+  abbrev key : List ℕ
+  key = now (b .before .before .before .before .before .args .key)
+
+  abbrev page-no : ℕ
+  page-no = b .p .given .0 .0
+
+  abbrev slot-no : ℕ
+  slot-no = b .p .given .0 .1 .0
+
+  here : Stands store key (Here page-no slot-no)
+  here = subst (Stands store key) (b .p .given .1) (b .before .before .find-row .ensures)
+
+find-row-requires : tie.Need-find-row-requires
+find-row-requires c κs = search needs
+
+enum-known-p : tie.Need-enum-known-p
+enum-known-p c = search needs
+
+mul-a : tie.Need-mul-a
+mul-a c = omega (arith, here (c .before) .0 .within)
+
+add-e : tie.Need-add-e
+add-e c = omega (arith, here (c .before) .0 .within)
+
+sub-read-place : tie.Need-sub-read-place
+sub-read-place c = search needs
+
+part-read-place-start : tie.Need-part-read-place-start
+part-read-place-start c = search needs
+
+part-read-place-end : tie.Need-part-read-place-end
+part-read-place-end c = omega (arith, here (c .before) .0 .within)
+
+read-place-requires : tie.Need-read-place-requires
+read-place-requires c κs = let b = c .before .before in
+    let w = here b .0 in
+    rw (lent-page S1024 (store b) (page-no b) (page-no b * 1024) (page-no b * 1024 + 1024) refl refl) (w .rules .rules, w .slot)
+
+enum-told : tie.Need-enum-told
+enum-told c = search needs
+
+returns : tie.Need-returns
+returns c = let b = c .before .before .before in
+    let e : c .read-place .result ≡ Places.place (place (page S1024 (store b) (page-no b)) (slot-no b)) =
+    c .read-place .ensures ∙ ap (λ g. Places.place (place g (slot-no b))) (lent-page S1024 (store b) (page-no b) (page-no b * 1024) (page-no b * 1024 + 1024) refl refl) in
+    inl (place (page S1024 (store b) (page-no b)) (slot-no b), (here b .2, ap found e))
+
+returns-2 : tie.Need-returns-2
+returns-2 c = let f = c .before .before in
+    let e : placeOf _ _ ≡ none = subst (Stands _ _) (c .enum-told .given .1) (f .find-row .ensures) in
+    inr ((λ b q. some-not (sym e ∙ q)), refl)
+
+pub place-of-spec : {M : Type 1} → statement M
+place-of-spec =
+    tie.close
+    (tie.spec
+    find-row-requires
+    enum-known-p
+    mul-a
+    add-e
+    sub-read-place
+    part-read-place-start
+    part-read-place-end
+    read-place-requires
+    enum-told
+    returns
+    returns-2)

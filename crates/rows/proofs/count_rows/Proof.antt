@@ -1,0 +1,56 @@
+-- `rows::count_rows` meets its contract: page after page, each once. Assumes nothing.
+use Prim.Native.Nat.{ℕ, _+_, _*_, _-_, _≤_, _<_}
+use mathlib.Core.Path.{_≡_, refl, sym, ap, subst, _∙_}
+use native.Mathlib.Omega.{arith}
+use denote.Ref.{now}
+use Rattle.store.specs.Pages.{S1024, page, read, rowsOn}
+use lib.ListN.{length}
+use Rattle.rows.proofs.Finds.{rowsTo, rows-none, rows-next, rows-all}
+use Rattle.rows.proofs.count_rows.Statement.{statement}
+use Rattle.rows.proofs.count_rows.Tie as tie
+
+abbrev Inv-loop : tie.InvT-loop
+Inv-loop s n sum₀ p₀ sum p = (2 ≤ p) × (p ≤ n) × (sum ≡ rowsTo s p) × (sum ≤ 65536 * p)
+
+abbrev μ-loop : tie.MeasureT-loop
+μ-loop s n sum₀ p₀ sum p = n - p
+
+loop-holds : tie.Need-loop-holds Inv-loop μ-loop
+loop-holds c = (omega arith, omega arith, sym (rows-none _), omega arith)
+
+rows-on-requires : tie.Need-rows-on-requires Inv-loop μ-loop
+rows-on-requires c κs = omega arith
+
+add-sum : tie.Need-add-sum Inv-loop μ-loop
+add-sum c = omega (arith, c .rows-on .ensures .1)
+
+add-p : tie.Need-add-p Inv-loop μ-loop
+add-p c = omega arith
+
+loop-less : tie.Need-loop-less Inv-loop μ-loop
+loop-less c = omega arith
+
+loop-again : tie.Need-loop-again Inv-loop μ-loop
+loop-again c = let l = c .before .before .loop in
+    let z = c .before .before .before .before in
+    (omega arith, omega arith, (λ i. l .inv .2 i + c .rows-on .ensures .0 i) ∙ sym (rows-next (now (z .args .s)) (l .p) (l .inv .0)), omega (arith, c .rows-on .ensures .1))
+
+returns : tie.Need-returns Inv-loop μ-loop
+returns c = let l = c .before .loop in
+    let z = c .before .before .before in
+    let e : l .p ≡ z .args .n = omega arith in
+    l .inv .2 ∙ ap (rowsTo (now (z .args .s))) e ∙ rows-all (now (z .args .s)) (z .args .n) (z .pre .0)
+
+pub count-rows-spec : {M : Type 1} → statement M
+count-rows-spec =
+    tie.close
+    (tie.spec
+    Inv-loop
+    μ-loop
+    loop-holds
+    rows-on-requires
+    add-sum
+    add-p
+    loop-less
+    loop-again
+    returns)

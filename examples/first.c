@@ -1,0 +1,37 @@
+/* A first store from C: format, put, look up, list. tests/outside builds and runs it. */
+#include "../include/lots.h"
+#include <stdio.h>
+#include <string.h>
+
+static uint8_t store[8 * 1024];
+
+static void put(const char *code, int32_t page, int16_t slot, int16_t volume) {
+    uint64_t word = lots_put(store, sizeof store, (const uint8_t *)code, strlen(code), page, slot, volume);
+    if (word & LOTS_REFUSED) printf("put %s: refused %u\n", code, (unsigned)(word & 255));
+    else printf("put %s: %s\n", code, word == LOTS_NEW ? "new" : "replaced");
+}
+
+static void print_place(uint64_t word) {
+    printf("page %u, slot %u, volume %u\n", (unsigned)(word & 0xFFFFFFFF), (unsigned)(word >> 32 & 0xFFFF), (unsigned)(word >> 48));
+}
+
+int main(void) {
+    lots_format(store, sizeof store);
+    put("LOT-7A", 7, 2, 0);
+    put("LOT-7B", 7, 3, 0);
+    put("LOT-7A", 9, 1, 0);
+    put("", 1, 1, 1);
+    uint64_t found = lots_lookup(store, sizeof store, (const uint8_t *)"LOT-7A", 6);
+    printf("LOT-7A: ");
+    print_place(found);
+    uint64_t rows = lots_count(store, sizeof store);
+    for (uint64_t n = 0; n < rows; n++) {
+        uint8_t code[64];
+        uint32_t len;
+        uint64_t place = lots_row(store, sizeof store, n, code, sizeof code, &len);
+        printf("%.*s: ", (int)len, (char *)code);
+        print_place(place);
+    }
+    printf("check %llu\n", (unsigned long long)lots_check(store, sizeof store));
+    return 0;
+}
