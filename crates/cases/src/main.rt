@@ -14,7 +14,12 @@ fn main() {
     damaged[1024] = 1;
     refusals::all(&store, &damaged, &damaged[..3071]);
     let free = [0u8; 1024];
-    refusals::inspections(&store[2048..3072], &damaged[1024..2048], &damaged[1024..2047], &free);
+    refusals::inspections(
+        &store[2048..3072],
+        &damaged[1024..2048],
+        &damaged[1024..2047],
+        &free,
+    );
 }
 
 // In 3 pages, "a" with place (7, 2, 0), whatever they held.
