@@ -1,8 +1,8 @@
 -- Pages 0 and 1: what their tests say of their rules. Assumes nothing.
-use mathlib.Core.Path.{_≡_, refl, sym, ap, subst, _∙_}
+use mathlib.Core.Path.{_≡_, refl, sym, ap, _∙_}
 use mathlib.Core.List.{List}
-use mathlib.Core.Logic.{_↔_, _⊎_, inl, inr, ⊎-elim}
-use Prim.Native.Nat.{ℕ, _+_, _-_, _*_, _^_, _≤_, _<_}
+use mathlib.Core.Logic.{_⊎_, inl, inr, ⊎-elim}
+use Prim.Native.Nat.{ℕ, _+_, _-_, _^_, _≤_, _<_}
 use native.Mathlib.Omega.{arith}
 use lib.ListN.{length, getD, take, drop, List·getD-eq-default}
 use Rattle.ground.specs.Lists.{byte, part}
@@ -12,7 +12,7 @@ use Rattle.words.specs.Zeros.{Zero}
 use Rattle.store.specs.Pages.{S1024, pages, dirDepth, entryAt}
 use Rattle.hash.specs.Fnv.{fnv}
 use Rattle.store.specs.Accepted.{GoodLength, Page0, Page1, Stands}
-use Rattle.reading.specs.Directory.{Entries, AllAre, NoneIs, AllBelow, Ranges}
+use Rattle.reading.specs.Directory.{Entries, AllAre, Ranges}
 use Rattle.reading.specs.Begun.{Begun, Standing}
 
 -- the bytes lent from a up to e

@@ -7,5 +7,5 @@ pub mod Heads
 pub mod Sums
 pub mod Standing
 pub mod Parting
-pub mod Holdings
 pub mod Calls
+pub mod Settled

@@ -1,12 +1,11 @@
 -- What the rows of a prefix need, added up page by page. Assumes nothing.
-use mathlib.Core.Path.{_≡_, refl, sym, ap, subst, _∙_}
+use mathlib.Core.Path.{_≡_, refl, sym, ap, _∙_}
 use mathlib.Core.Bool.{Bool, true, false}
 use mathlib.Core.List.{List, [], _∷_, _++_, map, flatMap}
-use mathlib.Core.Logic.{_⊎_, inl, inr, ⊎-elim}
-use Prim.Native.Nat.{ℕ, zero, suc, _+_, _-_, _*_, _/_, _^_, _≤_, _<_}
+use mathlib.Core.Logic.{_⊎_, ⊎-elim}
+use Prim.Native.Nat.{ℕ, zero, suc, _+_, _-_, _/_, _^_, _≤_, _<_}
 use native.Mathlib.Omega.{arith}
 use lib.Dec.{eqb}
-use lib.ListN.{length}
 use borrow.Author.Tests.{eq-eqb, ne-eqb}
 use Rattle.ground.specs.Lists.{byte, tab, total}
 use Rattle.ground.proofs.Sides.{side, same}
@@ -17,8 +16,8 @@ use Rattle.partition.specs.Partition.{Shape, Row, needs, rowsOf}
 use Rattle.partition.proofs.Bits.{top-step}
 use Rattle.partition.proofs.Path.{path-cut}
 use Rattle.partition.proofs.Pages.{rows-append, rows-every, rows-none}
-use Rattle.store.specs.Pages.{size, pages, page, dirDepth, entryAt, Page, free, bucket, read, asRow, rowsOn, rowsIn, contents, rowsHeld}
-use Rattle.store.specs.Accepted.{Zero, Bucket, Stands, unused, used}
+use Rattle.store.specs.Pages.{pages, page, dirDepth, entryAt, Page, read, asRow, rowsOn, rowsIn, contents, rowsHeld}
+use Rattle.store.specs.Accepted.{Stands, unused, used}
 use Rattle.store.specs.Moves.{pick}
 use Rattle.store.specs.Demands.{Sized, Hash}
 use Rattle.store.proofs.Unique.{read-zero, read-bucket}

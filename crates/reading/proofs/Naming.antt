@@ -1,13 +1,12 @@
 -- The entries that a prefix calls for are one run. Assumes nothing.
-use mathlib.Core.Path.{_≡_, refl, sym, ap, subst, _∙_}
+use mathlib.Core.Path.{_≡_, sym, ap, subst, _∙_}
 use mathlib.Core.Bool.{Bool}
 use mathlib.Core.List.{List}
 use mathlib.Core.Logic.{_↔_, ⊎-elim}
-use Prim.Native.Nat.{ℕ, suc, _+_, _-_, _*_, _/_, _^_, _≤_, _<_}
+use Prim.Native.Nat.{ℕ, _+_, _-_, _*_, _/_, _^_, _≤_, _<_}
 use native.Mathlib.Omega.{arith}
 use native.Mathlib.Nat.{suc-mul, mul-le-mul-right}
 use native.Mathlib.Numerals.{add-one}
-use lib.ListN.{length, getD}
 use lib.Pow.{pow-add}
 use Rattle.ground.specs.Says.{Says}
 use Rattle.ground.proofs.Sides.{side}
@@ -16,7 +15,6 @@ use Rattle.partition.specs.Bits.{top}
 use Rattle.partition.specs.Partition.{first, after}
 use Rattle.partition.proofs.Bits.{top-lt}
 use Rattle.partition.proofs.Directory.{holds-range}
-use Rattle.store.specs.Accepted.{Calls}
 use Rattle.reading.specs.Directory.{AllAre, NoneIs, Exactly, Named}
 
 pub run-within : (x d k : ℕ) → x < 2 ^ 32 → k ≤ d → top k x * 2 ^ (d - k) + 2 ^ (d - k) ≤ 2 ^ d

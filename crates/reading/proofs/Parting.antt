@@ -1,14 +1,12 @@
 -- Pass 2: what is kept of each page, and what it says of the rule. Assumes nothing.
 use mathlib.Core.Path.{_≡_, refl, sym, ap, subst, _∙_}
-use mathlib.Core.Bool.{Bool}
-use mathlib.Core.List.{List, [], map}
+use mathlib.Core.List.{List, map}
 use mathlib.Core.Logic.{_⊎_, inl, inr, ⊎-elim, _↔_}
 use Prim.Native.Nat.{ℕ, zero, suc, _+_, _-_, _*_, _/_, _^_, _≤_, _<_}
 use native.Mathlib.Omega.{arith}
 use lib.Dec.{eqb}
 use lib.ListN.{length, getD, take, drop}
 use Rattle.ground.specs.Lists.{byte, total}
-use Rattle.ground.proofs.Parts.{byte-part}
 use Rattle.ground.proofs.Tables.{total-same}
 use Rattle.words.specs.Zeros.{Zero}
 use Rattle.hash.specs.Fnv.{fnv, fnv-lt}
@@ -17,21 +15,17 @@ use Rattle.page.specs.Page.{free as total-free}
 use Rattle.partition.specs.Bits.{top}
 use Rattle.partition.specs.Partition.{needs, rowsOf}
 use Rattle.partition.proofs.Bits.{top-is}
-use Rattle.store.specs.Pages.{S1024, size, pages, page, dirDepth, free, bucket, read, asRow, rowsOn, rowsHeld}
+use Rattle.store.specs.Pages.{S1024, page, dirDepth, read, asRow, rowsOn, rowsHeld}
 use Rattle.store.specs.Accepted.{Stands, unused, used, Parted}
 use Rattle.store.specs.Moves.{pick}
 use Rattle.store.specs.Demands.{sized-1024}
 use Rattle.store.proofs.Unique.{read-zero, read-used, page-long}
+use Rattle.store.proofs.Depths.{page-byte}
 use Rattle.store.proofs.Showing.{page-needs}
 use Rattle.reading.specs.Begun.{Standing}
-use Rattle.reading.specs.Digest.{Legible, TopOf, LoadOf, Digest, loadOf}
+use Rattle.reading.specs.Digest.{Legible, LoadOf, Digest, loadOf}
 use Rattle.reading.proofs.Standing.{seen}
 use Rattle.reading.proofs.Loads.{cut-top, pick-none, load-shorter}
-
--- byte k of page p
-pub page-byte : (s : List ℕ) (p k : ℕ) → k < 1024 → byte s (p * 1024 + k) ≡ byte (page S1024 s p) k
-unfolding page
-page-byte s p k l = sym (byte-part s (p * 1024) 1024 k l)
 
 depth-small : (s : List ℕ) (p : ℕ) → dirDepth s ≤ 8 → Stands S1024 fnv s p → depth (page S1024 s p) ≤ 8
 depth-small s p d (unused z _) = omega (arith, z 1)

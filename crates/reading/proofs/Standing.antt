@@ -1,17 +1,17 @@
 -- Whether a page stands, from the tests of pass 1. Assumes nothing.
-use mathlib.Core.Path.{_≡_, refl, sym, ap, subst, _∙_}
+use mathlib.Core.Path.{_≡_, refl, sym, subst, _∙_}
 use mathlib.Core.List.{List}
 use mathlib.Core.Logic.{_↔_}
-use Prim.Native.Nat.{ℕ, _+_, _-_, _*_, _^_, _≤_, _<_}
+use Prim.Native.Nat.{ℕ, _+_, _-_, _*_, _≤_, _<_}
 use native.Mathlib.Omega.{arith}
-use lib.ListN.{length, getD, take, drop}
-use Rattle.ground.specs.Lists.{byte, part}
-use Rattle.ground.proofs.Parts.{lent-part}
+use lib.ListN.{take, drop}
+use Rattle.ground.specs.Lists.{byte}
 use Rattle.hash.specs.Fnv.{fnv}
-use Rattle.page.specs.Page.{BucketPage, depth, count, code}
+use Rattle.page.specs.Page.{depth, count, code}
 use Rattle.partition.specs.Bits.{top}
-use Rattle.store.specs.Pages.{S1024, size, pages, page, dirDepth, entryAt}
+use Rattle.store.specs.Pages.{S1024, page, dirDepth, entryAt}
 use Rattle.store.specs.Accepted.{Bucket, Calls, Stands, unused, used}
+use Rattle.store.proofs.Views.{lent-page}
 use Rattle.reading.specs.Directory.{Named}
 use Rattle.words.specs.Zeros.{Zero}
 use Rattle.reading.specs.First.{FirstBad}
@@ -19,8 +19,7 @@ use Rattle.reading.specs.Begun.{Begun, Free, Own}
 
 -- the part of a store that is lent as page p
 pub seen : (s : List ℕ) (p : ℕ) → take (p * 1024 + 1024 - p * 1024) (drop (p * 1024) s) ≡ page S1024 s p
-unfolding page
-seen s p = lent-part s (p * 1024) (p * 1024 + 1024) 1024 refl
+seen s p = lent-page S1024 s p (p * 1024) (p * 1024 + 1024) refl refl
 
 -- the prefix of a bucket, by its first code
 abbrev pub prefixOf : List ℕ → ℕ

@@ -1,14 +1,14 @@
 -- The passes' answers, put together: where the check stops, and that a store with no bad page is accepted. Assumes nothing.
-use mathlib.Core.Path.{_≡_, refl, subst, sym}
+use mathlib.Core.Path.{_≡_, refl, subst}
 use mathlib.Core.List.{List, [], _∷_, _++_}
-use mathlib.Core.Logic.{_⊎_, inl, inr}
+use mathlib.Core.Logic.{inl, inr}
 use Prim.Native.Nat.{ℕ, zero, suc, _+_, _-_, _≤_, _<_}
 use native.Mathlib.Omega.{arith}
 use Rattle.ground.specs.Lists.{tab}
 use Rattle.partition.specs.Partition.{Shape}
 use Rattle.store.specs.Pages.{pages}
-use Rattle.store.specs.Accepted.{GoodLength, Page0, Page1, Stands, Parted, Deepest, Rule, rule, rules, upward, Every, Stops, Broken, Accepted}
-use Rattle.store.proofs.Rules.{Opened, up-every, closed}
+use Rattle.store.specs.Accepted.{GoodLength, Page0, Page1, Stands, Parted, Deepest, Rule, rule, rules, upward, Every, Stops, Broken}
+use Rattle.store.proofs.Rules.{up-every, closed}
 use Rattle.reading.specs.First.{FirstBad, Judged}
 
 stops-left : (l m : List Rule) (p : ℕ) → Stops l p → Stops (l ++ m) p
@@ -40,12 +40,12 @@ none-bad n P p f l q a b = f .before q (omega arith) a
 module _ (S : Shape) (h : List ℕ → ℕ) (s : List ℕ) (long : GoodLength S s) where
   pub bad-0 : (Page0 S s → ⊥) → Judged S h s 0
   unfolding Broken rules
-  bad-0 n = record { bad = λ _. inl (n, refl); sound = λ l. absurd (omega (arith, long .least)) }
+  bad-0 n = record { within = omega arith; bad = λ _. inl (n, refl); sound = λ l. absurd (omega (arith, long .least)) }
 
   module _ (zeroth : Page0 S s) where
     pub bad-1 : (Page1 S s → ⊥) → Judged S h s 1
     unfolding Broken rules
-    bad-1 n = record { bad = λ _. inr (zeroth, inl (n, refl)); sound = λ l. absurd (omega (arith, long .least)) }
+    bad-1 n = record { within = omega (arith, long .least); bad = λ _. inr (zeroth, inl (n, refl)); sound = λ l. absurd (omega (arith, long .least)) }
 
     module _ (first : Page1 S s) where
       up : List Rule
@@ -59,12 +59,13 @@ module _ (S : Shape) (h : List ℕ → ℕ) (s : List ℕ) (long : GoodLength S 
 
       pub bad-up : (p : ℕ) → FirstBad (pages S s) (Stands S h s) p → p < pages S s → Judged S h s p
       unfolding Broken rules up again end
-      bad-up p f l = record { bad = λ _. inr (zeroth, inr (first, stops-left up (again ++ end) p (stops-up (pages S s) (Stands S h s) p f l))); sound = λ g. absurd (omega arith) }
+      bad-up p f l = record { within = omega arith; bad = λ _. inr (zeroth, inr (first, stops-left up (again ++ end) p (stops-up (pages S s) (Stands S h s) p f l))); sound = λ g. absurd (omega arith) }
 
       module _ (stands : (q : ℕ) → 2 ≤ q → q < pages S s → Stands S h s q) where
         pub bad-again : (p : ℕ) → FirstBad (pages S s) (Parted S h s) p → p < pages S s → Judged S h s p
         unfolding Broken rules up again end
         bad-again p f l = record {
+          within = omega arith;
           bad = λ _. inr (
             zeroth,
             inr (
@@ -80,6 +81,7 @@ module _ (S : Shape) (h : List ℕ → ℕ) (s : List ℕ) (long : GoodLength S 
           pub bad-last : (Deepest S s → ⊥) → Judged S h s 0
           unfolding Broken rules up again end
           bad-last n = record {
+            within = omega arith;
             bad = λ _. inr (
               zeroth,
               inr (
@@ -93,6 +95,7 @@ module _ (S : Shape) (h : List ℕ → ℕ) (s : List ℕ) (long : GoodLength S 
 
           pub all-sound : Deepest S s → Judged S h s (pages S s)
           all-sound d = record {
+            within = omega arith;
             bad = λ l. absurd (omega arith);
             sound = λ _. closed S h s (record { long = long; page0 = zeroth; page1 = first; stands = stands; parted = parted; deepest = d });
           }

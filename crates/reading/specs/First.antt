@@ -14,5 +14,6 @@ pub record FirstBad (n : ℕ) (Keeps : ℕ → Type 0) (p : ℕ) : Type 0 where
 
 -- p is the page at which the check stops, or the number of pages of an accepted store
 pub record Judged (S : Shape) (h : List ℕ → ℕ) (s : List ℕ) (p : ℕ) : Type 0 where
+  pub within : p ≤ pages S s
   pub bad : p < pages S s → Broken S h s p
   pub sound : pages S s ≤ p → Accepted S h s

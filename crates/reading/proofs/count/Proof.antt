@@ -1,15 +1,15 @@
 -- `reading::count` meets its contract. Assumes nothing.
+use borrow.Author.Tests.{not-true, not-false}
+use borrow.Author.Needs.{needs}
+use mathlib.Core.Logic.{inl, inr}
+use mathlib.Core.Path.{refl, ap}
 use native.Mathlib.Omega.{arith}
+use Rattle.ground.proofs.Tests.{says-true, says-false}
+use Rattle.hash.specs.Fnv.{fnv}
 use Rattle.store.proofs.Rules.{accepted-whole}
 use Rattle.store.specs.Tables.{countTable, counted}
-use Rattle.store.specs.Accepted.{GoodLength, Accepted}
-use Rattle.store.specs.Pages.{S1024, pages}
-use Rattle.hash.specs.Fnv.{fnv}
-use Rattle.ground.proofs.Tests.{says-true, says-false}
-use borrow.Author.Tests.{not-true, not-false}
-use mathlib.Core.Logic.{inl, inr}
-use mathlib.Core.Path.{_≡_, refl, sym, ap, _∙_}
-use borrow.Author.Needs.{needs}
+use Rattle.store.specs.Accepted.{GoodLength}
+use Rattle.store.specs.Pages.{S1024}
 use Rattle.reading.proofs.count.Statement.{statement}
 use Rattle.reading.proofs.count.Tie as tie
 

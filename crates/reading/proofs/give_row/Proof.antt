@@ -1,20 +1,20 @@
 -- `reading::give_row` meets its contract. Assumes nothing.
-use Prim.Native.Nat.{ℕ, _+_, _*_, _-_, _≤_, _<_}
+use denote.Ref.{now}
+use Rattle.rows.specs.Spots.{Listed}
+use Rattle.rows.specs.declared.Spot.the-variants.{Here}
+use borrow.Author.Needs.{needs}
 use mathlib.Core.Path.{_≡_, refl, sym, ap, subst, _∙_}
 use mathlib.Core.List.{List}
 use mathlib.Core.Logic.{inl, inr}
+use Prim.Native.Nat.{ℕ, _+_, _*_, _-_}
 use native.Mathlib.Omega.{arith}
-use denote.Ref.{now}
-use Rattle.page.specs.Page.{place, code, rowAt}
-use Rattle.page.specs.Places as Places
+use Rattle.page.specs.Page.{place, rowAt}
 use Rattle.page.specs.Found.{CodeOut}
+use Rattle.page.specs.Places as Places
 use Rattle.store.specs.Pages.{S1024, page, asRow}
 use Rattle.store.specs.Tables.{row}
 use Rattle.store.proofs.Views.{lent-page}
-use Rattle.rows.specs.Spots.{Listed}
-use Rattle.rows.specs.declared.Spot.the-variants.{Here, Nowhere}
 use Rattle.reading.proofs.Calls.{some-not}
-use borrow.Author.Needs.{needs}
 use Rattle.reading.proofs.give_row.Statement.{statement}
 use Rattle.reading.proofs.give_row.Tie as tie
 

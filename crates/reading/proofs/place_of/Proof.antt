@@ -1,21 +1,21 @@
 -- `reading::place_of` meets its contract. Assumes nothing.
-use Prim.Native.Nat.{ℕ, _+_, _*_, _-_, _≤_, _<_}
+use denote.Ref.{now}
+use Rattle.rows.specs.Spots.{Stands}
+use Rattle.rows.specs.declared.Spot.the-variants.{Here}
+use borrow.Author.Needs.{needs}
 use mathlib.Core.Path.{_≡_, refl, sym, ap, subst, _∙_}
 use mathlib.Core.List.{List}
 use mathlib.Core.Logic.{inl, inr}
 use mathlib.Core.Option.{none}
+use Prim.Native.Nat.{ℕ, _+_, _*_, _-_}
 use native.Mathlib.Omega.{arith}
-use denote.Ref.{now}
+use Rattle.partition.specs.Listing.{placeOf}
 use Rattle.page.specs.Page.{place}
 use Rattle.page.specs.Places as Places
-use Rattle.partition.specs.Listing.{placeOf}
 use Rattle.store.specs.Pages.{S1024, page}
 use Rattle.store.specs.Tables.{found}
 use Rattle.store.proofs.Views.{lent-page}
-use Rattle.rows.specs.Spots.{Stands}
-use Rattle.rows.specs.declared.Spot.the-variants.{Here, Nowhere}
 use Rattle.reading.proofs.Calls.{some-not}
-use borrow.Author.Needs.{needs}
 use Rattle.reading.proofs.place_of.Statement.{statement}
 use Rattle.reading.proofs.place_of.Tie as tie
 

@@ -1,8 +1,10 @@
-use native.Mathlib.Omega.{arith}
-use mathlib.Core.Path.{_≡_, refl, sym, ap, subst, _∙_}
+-- `reading::checks::first_bad` meets its contract. Assumes nothing.
+use borrow.Author.Tests.{not-true, not-false}
+use borrow.Author.Needs.{needs}
+use mathlib.Core.Path.{_≡_, refl, sym, ap, _∙_}
 use mathlib.Core.List.{List}
 use Prim.Native.Nat.{ℕ, _^_, _≤_, _<_}
-use borrow.Author.Tests.{not-true, not-false}
+use native.Mathlib.Omega.{arith}
 use Rattle.ground.proofs.Tests.{says-true, says-false}
 use Rattle.hash.specs.Fnv.{fnv}
 use Rattle.store.specs.Pages.{S1024, pages, dirDepth}
@@ -10,7 +12,6 @@ use Rattle.store.specs.Accepted.{Page0, Page1, Stands, Parted}
 use Rattle.reading.specs.Directory.{Ranges}
 use Rattle.reading.proofs.Heads.{to-page1, of-page1, begun, standing}
 use Rattle.reading.proofs.Stops.{none-bad, bad-0, bad-1, bad-up, bad-again, bad-last, all-sound}
-use borrow.Author.Needs.{needs}
 use Rattle.reading.proofs.checks.first_bad.Statement.{statement}
 use Rattle.reading.proofs.checks.first_bad.Tie as tie
 

@@ -1,43 +1,33 @@
-use Rattle.reading.specs.Directory.{AllAre, NoneIs}
+-- `reading::directory::exactly` meets its contract. Assumes nothing.
+use borrow.Author.Tests.{not-true, not-false}
+use borrow.Author.Needs.{needs}
+use mathlib.Core.Logic.{⊎-elim}
+use native.Mathlib.Omega.{arith}
 use Rattle.ground.proofs.Tests.{says-true, says-false, says-same}
 use Rattle.ground.proofs.Sides.{side}
-use borrow.Author.Tests.{not-true, not-false}
-use mathlib.Core.Logic.{⊎-elim}
-use mathlib.Core.Path.{_≡_}
-use native.Mathlib.Omega.{arith}
-use borrow.Author.Needs.{needs}
+use Rattle.reading.specs.Directory.{AllAre, NoneIs}
 use Rattle.reading.proofs.directory.exactly.Statement.{statement}
 use Rattle.reading.proofs.directory.exactly.Tie as tie
-use Rattle.reading.proofs.directory.exactly.Reads as reads
-use Rattle.reading.proofs.directory.exactly.Lts as lts
-use Rattle.reading.proofs.directory.all_are.Reads as all-are-reads
-use Rattle.reading.proofs.directory.none_is.Reads as none-is-reads
 
--- src/directory.rt:73:9
 none-is-requires : tie.Need-none-is-requires
 none-is-requires c κs = search needs
 
--- src/directory.rt:74:9
 returns : tie.Need-returns
 returns c =
     let x = c .before .before .before .args in
     λ e. says-false {P = NoneIs (x .dir .now) 0 (x .a) (x .x)} (c .before .none-is .result) (not-true _ (c .if1 .taken)) (c .before .none-is .ensures) (λ i l h q. omega (arith, e i (omega arith) .0 q .0))
 
--- src/directory.rt:76:9
 all-are-requires : tie.Need-all-are-requires
 all-are-requires c κs = search needs
 
--- src/directory.rt:77:9
 returns-2 : tie.Need-returns-2
 returns-2 c =
     let x = c .before .before .before .before .before .args in
     λ e. says-false {P = AllAre (x .dir .now) (x .a) (x .b) (x .x)} (c .before .all-are .result) (not-true _ (c .if2 .taken)) (c .before .all-are .ensures) (λ i l h. e i (omega arith) .1 (l, h))
 
--- src/directory.rt:79:5
 none-is-requires-2 : tie.Need-none-is-requires-2
 none-is-requires-2 c κs = search needs
 
--- src/directory.rt:69:1
 returns-3 : tie.Need-returns-3
 returns-3 c =
     let x = c .before .before .before .before .before .before .args in

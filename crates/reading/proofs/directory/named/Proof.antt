@@ -1,18 +1,12 @@
-use Rattle.reading.proofs.Naming.{run-within, named-by}
-use Rattle.reading.specs.Directory.{Exactly}
-use Rattle.partition.specs.Bits.{top}
-use Rattle.ground.proofs.Tests.{says-same}
-use Prim.Native.Nat.{ℕ, _+_, _-_, _*_, _^_, _≤_}
-use mathlib.Core.Path.{_≡_, ap, _∙_}
-use native.Mathlib.Omega.{arith}
+-- `reading::directory::named` meets its contract. Assumes nothing.
 use borrow.Author.Needs.{needs}
+use mathlib.Core.Path.{_≡_}
+use Prim.Native.Nat.{_+_, _-_, _*_, _^_, _≤_}
+use native.Mathlib.Omega.{arith}
+use Rattle.partition.specs.Bits.{top}
+use Rattle.reading.proofs.Naming.{run-within, named-by}
 use Rattle.reading.proofs.directory.named.Statement.{statement}
 use Rattle.reading.proofs.directory.named.Tie as tie
-use Rattle.reading.proofs.directory.named.Reads as reads
-use Rattle.reading.proofs.directory.named.Lts as lts
-use Rattle.partition.proofs.top_bits.Reads as top-bits-reads
-use Rattle.reading.proofs.directory.exactly.Reads as exactly-reads
-use Rattle.reading.proofs.directory.two_to.Reads as two-to-reads
 
 -- the run lies within the directory
 fit : (c : tie.After-top-bits) → c .top-bits .result * c .before .two-to2 .result + c .before .two-to2 .result ≤ c .before .before .two-to .result
@@ -21,35 +15,27 @@ fit c =
     let e : c .top-bits .result * c .before .two-to2 .result + c .before .two-to2 .result ≡ top (x .k) (x .x) * 2 ^ (x .d - x .k) + 2 ^ (x .d - x .k) = cc in
     omega (arith, e, run-within (x .x) (x .d) (x .k) (c .before .before .before .before .fits .x .fits) (c .before .before .before .before .pre .2), c .before .before .two-to .ensures .0)
 
--- src/directory.rt:109:9
 two-to-requires : tie.Need-two-to-requires
 two-to-requires c κs = search needs
 
--- src/directory.rt:110:20
 sub-two-to : tie.Need-sub-two-to
 sub-two-to c = search needs
 
--- src/directory.rt:110:9
 two-to-requires-2 : tie.Need-two-to-requires-2
 two-to-requires-2 c κs = search needs
 
--- src/directory.rt:111:14
 top-bits-requires : tie.Need-top-bits-requires
 top-bits-requires c κs = search needs
 
--- src/directory.rt:111:13
 mul-a : tie.Need-mul-a
 mul-a c = record { fits = omega (arith, fit c) }
 
--- src/directory.rt:112:24
 add-exactly : tie.Need-add-exactly
 add-exactly c = record { fits = omega (arith, fit c) }
 
--- src/directory.rt:112:5
 exactly-requires : tie.Need-exactly-requires
 exactly-requires c κs = (omega arith, omega arith, fit c)
 
--- src/directory.rt:105:1
 returns : tie.Need-returns
 returns c =
     let a = c .before .before .before .before .before in

@@ -1,42 +1,30 @@
-use Rattle.reading.specs.Directory.{AllAre, AllBelow, NoneIs, Ranges}
-use Rattle.ground.proofs.Tests.{says-true, says-false, says-same}
+-- `reading::directory::ranges` meets its contract. Assumes nothing.
 use borrow.Author.Tests.{not-true, not-false}
-use mathlib.Core.Path.{_≡_}
-use native.Mathlib.Omega.{arith}
 use borrow.Author.Needs.{needs}
+use Rattle.ground.proofs.Tests.{says-true, says-false, says-same}
+use Rattle.reading.specs.Directory.{AllAre, AllBelow, NoneIs}
 use Rattle.reading.proofs.directory.ranges.Statement.{statement}
 use Rattle.reading.proofs.directory.ranges.Tie as tie
-use Rattle.reading.proofs.directory.ranges.Reads as reads
-use Rattle.reading.proofs.directory.ranges.Lts as lts
-use Rattle.reading.proofs.directory.all_are.Reads as all-are-reads
-use Rattle.reading.proofs.directory.all_below.Reads as all-below-reads
-use Rattle.reading.proofs.directory.none_is.Reads as none-is-reads
 
--- src/directory.rt:95:9
 none-is-requires : tie.Need-none-is-requires
 none-is-requires c κs = search needs
 
--- src/directory.rt:96:9
 returns : tie.Need-returns
 returns c =
     let x = c .before .before .before .args in
     λ e. says-false {P = NoneIs (x .dir .now) 0 256 1} (c .before .none-is .result) (not-true _ (c .if1 .taken)) (c .before .none-is .ensures) (e .not-one)
 
--- src/directory.rt:98:9
 all-below-requires : tie.Need-all-below-requires
 all-below-requires c κs = search needs
 
--- src/directory.rt:99:9
 returns-2 : tie.Need-returns-2
 returns-2 c =
     let x = c .before .before .before .before .before .args in
     λ e. says-false {P = AllBelow (x .dir .now) 0 256 (x .n)} (c .before .all-below .result) (not-true _ (c .if2 .taken)) (c .before .all-below .ensures) (e .below)
 
--- src/directory.rt:101:5
 all-are-requires : tie.Need-all-are-requires
 all-are-requires c κs = search needs
 
--- src/directory.rt:91:1
 returns-3 : tie.Need-returns-3
 returns-3 c =
     let x = c .before .before .before .before .before .before .args in

@@ -1,75 +1,56 @@
-use Rattle.reading.proofs.Heads.{lent-zero, zero-lent}
-use Prim.Native.Nat.{_-_}
-use lib.ListN.{take, drop}
-use Rattle.words.specs.Zeros.{Zero}
-use Rattle.ground.proofs.Tests.{says-same}
-use mathlib.Core.Path.{_≡_, _∙_, sym}
-use native.Mathlib.Omega.{arith}
+-- `reading::head::page0_ok` meets its contract. Assumes nothing.
 use borrow.Author.Needs.{needs}
+use Prim.Native.Nat.{_-_}
+use native.Mathlib.Omega.{arith}
+use lib.ListN.{take, drop}
+use Rattle.ground.proofs.Tests.{says-same}
+use Rattle.words.specs.Zeros.{Zero}
+use Rattle.reading.proofs.Heads.{lent-zero, zero-lent}
 use Rattle.reading.proofs.head.page0_ok.Statement.{statement}
 use Rattle.reading.proofs.head.page0_ok.Tie as tie
-use Rattle.reading.proofs.head.page0_ok.Reads as reads
-use Rattle.reading.proofs.head.page0_ok.Lts as lts
-use Rattle.words.proofs.all_zero.Reads as all-zero-reads
-use Rattle.words.proofs.get32.Reads as get32-reads
 
--- src/head.rt:29:8
 get32-requires : tie.Need-get32-requires
 get32-requires c κs = search needs
 
--- src/head.rt:30:9
 returns : tie.Need-returns
 returns c = search needs
 
--- src/head.rt:32:8
 get32-requires-2 : tie.Need-get32-requires-2
 get32-requires-2 c κs = search needs
 
--- src/head.rt:33:9
 returns-2 : tie.Need-returns-2
 returns-2 c = search needs
 
--- src/head.rt:35:8
 get32-requires-3 : tie.Need-get32-requires-3
 get32-requires-3 c κs = search needs
 
--- src/head.rt:36:9
 returns-3 : tie.Need-returns-3
 returns-3 c = search needs
 
--- src/head.rt:38:8
 get32-requires-4 : tie.Need-get32-requires-4
 get32-requires-4 c κs = search needs
 
--- src/head.rt:39:9
 returns-4 : tie.Need-returns-4
 returns-4 c = search needs
 
--- src/head.rt:41:12
 get32-requires-5 : tie.Need-get32-requires-5
 get32-requires-5 c κs = search needs
 
--- src/head.rt:42:9
 returns-5 : tie.Need-returns-5
 returns-5 c = search needs
 
--- src/head.rt:44:21
 sub-all-zero : tie.Need-sub-all-zero
 sub-all-zero c = search needs
 
--- src/head.rt:44:21
 part-all-zero-start : tie.Need-part-all-zero-start
 part-all-zero-start c = search needs
 
--- src/head.rt:44:21
 part-all-zero-end : tie.Need-part-all-zero-end
 part-all-zero-end c = search needs
 
--- src/head.rt:44:5
 all-zero-requires : tie.Need-all-zero-requires
 all-zero-requires c κs = search needs
 
--- src/head.rt:25:1
 returns-6 : tie.Need-returns-6
 returns-6 c =
     let a = c .before .before .before .before .before .before .before .before .before .before .before .before .before in

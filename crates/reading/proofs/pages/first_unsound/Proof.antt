@@ -1,38 +1,24 @@
-use mathlib.Core.Path.{subst}
-use Rattle.ground.specs.Says.{Says}
-use Rattle.partition.specs.Bits.{top}
-use Rattle.page.specs.Page.{depth, code}
-use Rattle.reading.specs.Directory.{Named}
-use Rattle.reading.specs.Begun.{Free}
-use Rattle.reading.proofs.Standing.{prefixOf}
-use Rattle.reading.proofs.Standing.{ends-bad, ends-fine}
-use mathlib.Core.Path.{_≡_, refl, _∙_}
+-- `reading::pages::first_unsound` meets its contract. Assumes nothing.
 use borrow.Author.Count.{below-more}
-use mathlib.Core.List.{List}
-use lib.ListN.{take, drop}
 use borrow.Author.Tests.{not-true, not-false}
+use borrow.Author.Needs.{needs}
+use mathlib.Core.Path.{subst, _≡_, refl, _∙_}
+use mathlib.Core.List.{List}
+use Prim.Native.Nat.{ℕ, _+_, _-_, _*_, _≤_, _<_}
+use native.Mathlib.Omega.{arith}
+use lib.ListN.{take, drop, length}
+use Rattle.ground.specs.Says.{Says}
 use Rattle.ground.proofs.Tests.{says-true, says-false}
-use Rattle.reading.specs.Begun.{Own}
-use Rattle.reading.proofs.Standing.{seen, Like, free-stands, used-stands, stands-free, stands-own, stands-like, stands-named}
+use Rattle.hash.specs.Fnv.{fnv}
+use Rattle.partition.specs.Bits.{top}
+use Rattle.page.specs.Page.{depth, code, count}
 use Rattle.store.specs.Accepted.{Stands}
 use Rattle.store.specs.Pages.{S1024, page}
-use Rattle.page.specs.Page.{count}
-use Rattle.hash.specs.Fnv.{fnv}
-use lib.ListN.{length}
-use Prim.Native.Nat.{ℕ, _+_, _-_, _*_, _≤_, _<_}
-use mathlib.Core.Path.{_≡_}
-use native.Mathlib.Omega.{arith}
-use borrow.Author.Needs.{needs}
+use Rattle.reading.specs.Directory.{Named}
+use Rattle.reading.specs.Begun.{Free, Own}
+use Rattle.reading.proofs.Standing.{prefixOf, ends-bad, ends-fine, seen, Like, free-stands, used-stands, stands-free, stands-own, stands-like, stands-named}
 use Rattle.reading.proofs.pages.first_unsound.Statement.{statement}
 use Rattle.reading.proofs.pages.first_unsound.Tie as tie
-use Rattle.reading.proofs.pages.first_unsound.Reads as reads
-use Rattle.reading.proofs.pages.first_unsound.Lts as lts
-use Rattle.audit.proofs.hash_slot.Reads as hash-slot-reads
-use Rattle.audit.proofs.shares.Reads as shares-reads
-use Rattle.reading.proofs.directory.named.Reads as named-reads
-use Rattle.reading.proofs.pages.free_ok.Reads as free-ok-reads
-use Rattle.reading.proofs.pages.own_ok.Reads as own-ok-reads
-use Rattle.words.proofs.get16.Reads as get16-reads
 
 abbrev Inv-slots : tie.InvT-slots
 Inv-slots s dir n d marks p a e pg k first count i₀ i = (1 ≤ i) × (i ≤ count) × ((j : ℕ) → j < i → Like pg j)
@@ -76,51 +62,39 @@ name-said c =
     subst (λ y. Says (c .named .result) (Named (a .dir .now) (a .d) (depth (pg-of x)) (top (depth (pg-of x)) y) (x .before .before .before .before .before .before .before .before .pages .p)))
     (c .before .before .before .before .hash-slot .ensures) (c .named .ensures)
 
--- src/pages.rt:43:5
 pages-holds : tie.Need-pages-holds Inv-slots μ-slots Inv-pages μ-pages
 pages-holds c = (refl, omega arith, omega (arith, c .before .before .pre .least), λ q l h. absurd (omega arith))
 
--- src/pages.rt:47:17
 mul-a : tie.Need-mul-a Inv-slots μ-slots Inv-pages μ-pages
 mul-a c = search needs
 
--- src/pages.rt:48:17
 add-e : tie.Need-add-e Inv-slots μ-slots Inv-pages μ-pages
 add-e c = search needs
 
--- src/pages.rt:49:18
 sub-pg : tie.Need-sub-pg Inv-slots μ-slots Inv-pages μ-pages
 sub-pg c = search needs
 
--- src/pages.rt:49:18
 part-pg-start : tie.Need-part-pg-start Inv-slots μ-slots Inv-pages μ-pages
 part-pg-start c = search needs
 
--- src/pages.rt:49:18
 part-pg-end : tie.Need-part-pg-end Inv-slots μ-slots Inv-pages μ-pages
 part-pg-end c = search needs
 
--- src/pages.rt:50:12
 shared-slice-read-if2 : tie.Need-shared-slice-read-if2 Inv-slots μ-slots Inv-pages μ-pages
 shared-slice-read-if2 c = search needs
 
--- src/pages.rt:51:37
 cast-free-ok : tie.Need-cast-free-ok Inv-slots μ-slots Inv-pages μ-pages
 cast-free-ok c = search needs
 
--- src/pages.rt:51:17
 free-ok-requires : tie.Need-free-ok-requires Inv-slots μ-slots Inv-pages μ-pages
 free-ok-requires c κs = search needs
 
--- src/pages.rt:54:13
 add-p : tie.Need-add-p Inv-slots μ-slots Inv-pages μ-pages
 add-p c = search needs
 
--- src/pages.rt:43:5
 pages-less : tie.Need-pages-less Inv-slots μ-slots Inv-pages μ-pages
 pages-less c = search needs
 
--- src/pages.rt:43:5
 pages-again : tie.Need-pages-again Inv-slots μ-slots Inv-pages μ-pages
 pages-again c =
     let a = c .before .before .before .before .before .before .before .before .before in
@@ -135,49 +109,38 @@ pages-again c =
           (says-true {P = Free g (a .args .dir .now) (l .p)} (c .before .free-ok .result) (not-false _ (c .if3 .left)) (c .before .free-ok .ensures))),
     )
 
--- src/pages.rt:57:24
 slice-aggregate-own-ok : tie.Need-slice-aggregate-own-ok Inv-slots μ-slots Inv-pages μ-pages
 slice-aggregate-own-ok c = search needs
 
--- src/pages.rt:57:13
 own-ok-requires : tie.Need-own-ok-requires Inv-slots μ-slots Inv-pages μ-pages
 own-ok-requires c κs = search needs
 
--- src/pages.rt:60:17
 shared-slice-read-k : tie.Need-shared-slice-read-k Inv-slots μ-slots Inv-pages μ-pages
 shared-slice-read-k c = search needs
 
--- src/pages.rt:61:13
 hash-slot-requires : tie.Need-hash-slot-requires Inv-slots μ-slots Inv-pages μ-pages
 hash-slot-requires c κs = (own (c .before) .rules, own (c .before) .rules .some)
 
--- src/pages.rt:62:13
 get16-requires : tie.Need-get16-requires Inv-slots μ-slots Inv-pages μ-pages
 get16-requires c κs = search needs
 
--- src/pages.rt:64:9
 slots-holds : tie.Need-slots-holds Inv-slots μ-slots Inv-pages μ-pages
 slots-holds c = (omega arith, omega (arith, own (c .before .before .before) .rules .some, c .get16 .ensures .0), λ j h. let e : j ≡ 0 = omega arith in rw e refl)
 
--- src/pages.rt:65:38
 hash-slot-requires-2 : tie.Need-hash-slot-requires-2 Inv-slots μ-slots Inv-pages μ-pages
 hash-slot-requires-2 c κs = (own (c .before .before .before .before .before) .rules, omega (arith, c .before .before .get16 .ensures .0))
 
--- src/pages.rt:65:17
 shares-requires : tie.Need-shares-requires Inv-slots μ-slots Inv-pages μ-pages
 shares-requires c κs =
     let x = c .before .before .before .before .before .before in
     omega (arith, own x .deep, x .before .before .before .before .before .before .before .before .before .before .before .pre .deep)
 
--- src/pages.rt:68:13
 add-i : tie.Need-add-i Inv-slots μ-slots Inv-pages μ-pages
 add-i c = search needs
 
--- src/pages.rt:64:9
 slots-less : tie.Need-slots-less Inv-slots μ-slots Inv-pages μ-pages
 slots-less c = search needs
 
--- src/pages.rt:64:9
 slots-again : tie.Need-slots-again Inv-slots μ-slots Inv-pages μ-pages
 slots-again c =
     let x = c .before .before .before .before .before .before .before .before in (
@@ -187,32 +150,26 @@ slots-again c =
           (says-true {P = Like (pg-of x) (c .before .before .before .before .slots .i)} (c .before .shares .result) (not-false _ (c .if5 .left)) (slot-said (c .before))),
     )
 
--- src/pages.rt:70:27
 cast-named : tie.Need-cast-named Inv-slots μ-slots Inv-pages μ-pages
 cast-named c =
     let x = c .before .before .before .before .before in
     record { fits = omega (arith, own x .deep, x .before .before .before .before .before .before .before .before .before .before .before .pre .deep) }
 
--- src/pages.rt:70:44
 cast-named-2 : tie.Need-cast-named-2 Inv-slots μ-slots Inv-pages μ-pages
 cast-named-2 c = search needs
 
--- src/pages.rt:70:13
 named-requires : tie.Need-named-requires Inv-slots μ-slots Inv-pages μ-pages
 named-requires c κs =
     let x = c .before .before .before .before .before in
     let b = x .before .before .before .before .before .before .before .before .before .before .before .pre in
     (b .entries .long, b .deep, own x .deep, omega arith, b .beyond)
 
--- src/pages.rt:73:9
 add-p-2 : tie.Need-add-p-2 Inv-slots μ-slots Inv-pages μ-pages
 add-p-2 c = search needs
 
--- src/pages.rt:43:5
 pages-less-2 : tie.Need-pages-less-2 Inv-slots μ-slots Inv-pages μ-pages
 pages-less-2 c = search needs
 
--- src/pages.rt:43:5
 pages-again-2 : tie.Need-pages-again-2 Inv-slots μ-slots Inv-pages μ-pages
 pages-again-2 c =
     let x = c .before .before .before .before .before .before .before in
@@ -228,11 +185,9 @@ pages-again-2 c =
           (says-true {P = Named (a .args .dir .now) (a .args .d) (depth (pg-of x)) (prefixOf (pg-of x)) (l .p)} (c .before .named .result) (not-false _ (c .if6 .left)) (name-said (c .before)))),
     )
 
--- src/pages.rt:37:1
 returns : tie.Need-returns Inv-slots μ-slots Inv-pages μ-pages
 returns c = let l = c .before .pages in ends-fine _ _ (l .p) (l .inv .1) (l .inv .2) (c .if1 .taken) (l .inv .3)
 
--- src/pages.rt:37:1
 returns-2 : tie.Need-returns-2 Inv-slots μ-slots Inv-pages μ-pages
 returns-2 c =
     let a = c .before .before .before .before .before .before .before .before .before in
@@ -243,7 +198,6 @@ returns-2 c =
     (λ st. says-false {P = Free g (a .args .dir .now) (l .p)} (c .before .free-ok .result) (not-true _ (c .if3 .taken)) (c .before .free-ok .ensures)
     (stands-free s (a .args .dir .now) (a .args .n) (a .args .d) (l .p) (a .pre) g (seen s (l .p)) (c .before .before .if2 .taken) st))
 
--- src/pages.rt:37:1
 returns-3 : tie.Need-returns-3 Inv-slots μ-slots Inv-pages μ-pages
 returns-3 c =
     let a = c .before .before .before .before .before .before .before .before .before .before .before in
@@ -254,7 +208,6 @@ returns-3 c =
     (λ st. says-false {P = Own g (a .args .d)} (c .before .before .own-ok .result) (not-true _ (c .if4 .taken)) (c .before .before .own-ok .ensures)
     (stands-own s (a .args .dir .now) (a .args .n) (a .args .d) (l .p) (a .pre) g (seen s (l .p)) (c .before .before .before .before .if2 .left) st))
 
--- src/pages.rt:37:1
 returns-4 : tie.Need-returns-4 Inv-slots μ-slots Inv-pages μ-pages
 returns-4 c =
     let x = c .before .before .before .before .before .before .before .before in
@@ -266,7 +219,6 @@ returns-4 c =
     (stands-like s (a .args .dir .now) (a .args .n) (a .args .d) (l .p) (a .pre) (pg-of x) (seen s (l .p)) (x .before .before .before .before .if2 .left) st (c .before .before .before .before .slots .i)
     (omega (arith, c .before .before .before .before .before .get16 .ensures .0))))
 
--- src/pages.rt:37:1
 returns-5 : tie.Need-returns-5 Inv-slots μ-slots Inv-pages μ-pages
 returns-5 c =
     let x = c .before .before .before .before .before .before .before in

@@ -1,37 +1,26 @@
-use Prim.Native.Nat.{_^_}
+-- `reading::pages::free_ok` meets its contract. Assumes nothing.
+use borrow.Author.Tests.{not-true, not-false}
+use borrow.Author.Needs.{needs}
+use native.Mathlib.Omega.{arith}
+use Rattle.ground.proofs.Tests.{says-true, says-false, says-same}
+use Rattle.words.specs.Zeros.{Zero}
 use Rattle.reading.proofs.Naming.{unnamed}
 use Rattle.reading.specs.Directory.{NoneIs}
-use Rattle.words.specs.Zeros.{Zero}
-use Rattle.ground.proofs.Tests.{says-true, says-false, says-same}
-use borrow.Author.Tests.{not-true, not-false, leb-true, leb-false}
-use mathlib.Core.Path.{_≡_, ap}
-use native.Mathlib.Omega.{arith}
-use borrow.Author.Needs.{needs}
 use Rattle.reading.proofs.pages.free_ok.Statement.{statement}
 use Rattle.reading.proofs.pages.free_ok.Tie as tie
-use Rattle.reading.proofs.pages.free_ok.Reads as reads
-use Rattle.reading.proofs.pages.free_ok.Lts as lts
-use Rattle.reading.proofs.directory.none_is.Reads as none-is-reads
-use Rattle.reading.proofs.directory.two_to.Reads as two-to-reads
-use Rattle.words.proofs.all_zero.Reads as all-zero-reads
 
--- src/pages.rt:19:9
 all-zero-requires : tie.Need-all-zero-requires
 all-zero-requires c κs = search needs
 
--- src/pages.rt:20:9
 returns : tie.Need-returns
 returns c = λ e. says-false {P = Zero (c .before .before .before .before .args .pg .now)} (c .before .all-zero .result) (not-true _ (c .if1 .taken)) (c .before .all-zero .ensures) (e .zero)
 
--- src/pages.rt:22:21
 two-to-requires : tie.Need-two-to-requires
 two-to-requires c κs = search needs
 
--- src/pages.rt:22:5
 none-is-requires : tie.Need-none-is-requires
 none-is-requires c κs = search needs
 
--- src/pages.rt:15:1
 returns-2 : tie.Need-returns-2
 returns-2 c =
     let a = c .before .before .before .before .before .before in

@@ -1,15 +1,12 @@
-use Rattle.ground.specs.Lists.{byte}
-use Rattle.page.specs.Page.{BucketPage}
-use Rattle.ground.proofs.Tests.{says-true, says-false, says-same, says-leb}
+-- `reading::pages::own_ok` meets its contract. Assumes nothing.
 use borrow.Author.Tests.{not-true, not-false}
-use mathlib.Core.Path.{_≡_}
-use native.Mathlib.Omega.{arith}
 use borrow.Author.Needs.{needs}
+use native.Mathlib.Omega.{arith}
+use Rattle.ground.specs.Lists.{byte}
+use Rattle.ground.proofs.Tests.{says-true, says-false, says-leb}
+use Rattle.page.specs.Page.{BucketPage}
 use Rattle.reading.proofs.pages.own_ok.Statement.{statement}
 use Rattle.reading.proofs.pages.own_ok.Tie as tie
-use Rattle.reading.proofs.pages.own_ok.Reads as reads
-use Rattle.reading.proofs.pages.own_ok.Lts as lts
-use Rattle.audit.proofs.page_ok.Reads as page-ok-reads
 
 -- past the first test
 fine : (c : tie.After-shared-slice-known2) → BucketPage (c .before .before .before .before .before .before .before .before .args .pg .now)
@@ -17,31 +14,24 @@ fine c =
     says-true {P = BucketPage (c .before .before .before .before .before .before .before .before .args .pg .now)} (c .before .before .before .before .page-ok .result) (not-false _ (c .before .if1 .left))
     (c .before .before .before .before .page-ok .ensures)
 
--- src/pages.rt:30:9
 page-ok-requires : tie.Need-page-ok-requires
 page-ok-requires c κs = search needs
 
--- src/pages.rt:31:9
 same-length : tie.Need-same-length
 same-length c = search needs
 
--- src/pages.rt:31:9
 returns : tie.Need-returns
 returns c = λ e. says-false {P = BucketPage (c .before .before .before .before .before .before .before .args .pg .now)} (c .before .before .before .page-ok .result) (not-true _ (c .if1 .taken)) (c .before .before .before .page-ok .ensures) (e .rules)
 
--- src/pages.rt:33:6
 shared-slice-read-result : tie.Need-shared-slice-read-result
 shared-slice-read-result c = omega (arith, fine c .rules .least)
 
--- src/pages.rt:33:6
 cast-result : tie.Need-cast-result
 cast-result c = record { fits = omega (arith, c .shared-slice-known2 .given 1) }
 
--- src/pages.rt:26:1
 same-length-2 : tie.Need-same-length-2
 same-length-2 c = search needs
 
--- src/pages.rt:26:1
 returns-2 : tie.Need-returns-2
 returns-2 c =
     let x = c .before .before .before .before .before .before .before .before .args in

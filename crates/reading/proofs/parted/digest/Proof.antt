@@ -1,18 +1,15 @@
+-- `reading::parted::digest` meets its contract. Assumes nothing.
+use borrow.Author.Needs.{needs}
+use mathlib.Core.Path.{sym, subst, _∙_}
+use Prim.Native.Nat.{_≤_, _-_}
+use native.Mathlib.Omega.{arith}
+use Rattle.store.specs.Pages.{S1024, page}
 use Rattle.reading.proofs.Parting.{legible}
 use Rattle.reading.proofs.Standing.{seen}
 use Rattle.reading.proofs.Fills.{Filled, filled-none, filled-more}
 use Rattle.reading.specs.Digest.{TopOf, LoadOf}
-use Rattle.store.specs.Pages.{S1024, page}
-use mathlib.Core.Path.{_≡_, sym, subst, _∙_}
-use Prim.Native.Nat.{_≤_, _-_}
-use native.Mathlib.Omega.{arith}
-use borrow.Author.Needs.{needs}
 use Rattle.reading.proofs.parted.digest.Statement.{statement}
 use Rattle.reading.proofs.parted.digest.Tie as tie
-use Rattle.reading.proofs.parted.digest.Reads as reads
-use Rattle.reading.proofs.parted.digest.Lts as lts
-use Rattle.reading.proofs.parted.page_load.Reads as page-load-reads
-use Rattle.reading.proofs.parted.page_top.Reads as page-top-reads
 
 abbrev Inv-loop : tie.InvT-loop
 Inv-loop s n tops₀ loads₀ p₀ tops loads p = (p ≤ n) × Filled (λ k v. TopOf (page S1024 s k) v) 258 2 p tops × Filled (λ k v. LoadOf (page S1024 s k) v) 258 2 p loads
@@ -20,63 +17,48 @@ Inv-loop s n tops₀ loads₀ p₀ tops loads p = (p ≤ n) × Filled (λ k v. T
 abbrev μ-loop : tie.MeasureT-loop
 μ-loop s n tops₀ loads₀ p₀ tops loads p = n - p
 
--- src/parted.rt:40:5
 loop-holds : tie.Need-loop-holds Inv-loop μ-loop
 loop-holds c = let a = c .before .before .before in (omega (arith, a .pre .0 .least), filled-none _ 258 2 _ (a .pre .1), filled-none _ 258 2 _ (a .pre .2))
 
--- src/parted.rt:41:17
 mul-a : tie.Need-mul-a Inv-loop μ-loop
 mul-a c = search needs
 
--- src/parted.rt:42:17
 add-e : tie.Need-add-e Inv-loop μ-loop
 add-e c = search needs
 
--- src/parted.rt:43:18
 sub-pg : tie.Need-sub-pg Inv-loop μ-loop
 sub-pg c = search needs
 
--- src/parted.rt:43:18
 part-pg-start : tie.Need-part-pg-start Inv-loop μ-loop
 part-pg-start c = search needs
 
--- src/parted.rt:43:18
 part-pg-end : tie.Need-part-pg-end Inv-loop μ-loop
 part-pg-end c = search needs
 
--- src/parted.rt:44:19
 page-top-requires : tie.Need-page-top-requires Inv-loop μ-loop
 page-top-requires c κs = let a = c .before .before .before .before .before .before in legible (a .args .s .now) (a .args .n) (c .before .before .loop .p) (a .pre .0) (c .before .before .loop .inv .1 .start) (c .before .loop-test .taken)
 
--- src/parted.rt:44:9
 mul-tops : tie.Need-mul-tops Inv-loop μ-loop
 mul-tops c = search needs
 
--- src/parted.rt:44:9
 slice-write-tops : tie.Need-slice-write-tops Inv-loop μ-loop
 slice-write-tops c = omega (arith, c .before .before .before .loop .inv .1 .long, c .before .before .before .before .before .before .before .pre .0 .most)
 
--- src/parted.rt:45:20
 page-load-requires : tie.Need-page-load-requires Inv-loop μ-loop
 page-load-requires c κs = let a = c .before .before .before .before .before .before .before in legible (a .args .s .now) (a .args .n) (c .before .before .before .loop .p) (a .pre .0) (c .before .before .before .loop .inv .1 .start) (c .before .before .loop-test .taken)
 
--- src/parted.rt:45:9
 mul-loads : tie.Need-mul-loads Inv-loop μ-loop
 mul-loads c = search needs
 
--- src/parted.rt:45:9
 slice-write-loads : tie.Need-slice-write-loads Inv-loop μ-loop
 slice-write-loads c = omega (arith, c .before .before .before .before .loop .inv .2 .long, c .before .before .before .before .before .before .before .before .pre .0 .most)
 
--- src/parted.rt:46:9
 add-p : tie.Need-add-p Inv-loop μ-loop
 add-p c = search needs
 
--- src/parted.rt:40:5
 loop-less : tie.Need-loop-less Inv-loop μ-loop
 loop-less c = search needs
 
--- src/parted.rt:40:5
 loop-again : tie.Need-loop-again Inv-loop μ-loop
 loop-again c =
     let a = c .before .before .before .before .before .before .before .before in
@@ -87,15 +69,12 @@ loop-again c =
       filled-more _ (l .inv .2) (omega (arith, a .pre .0 .most)) (subst (λ g. LoadOf g (c .page-load .result)) (seen s (l .p)) (c .page-load .ensures)),
     )
 
--- src/parted.rt:35:1
 same-length : tie.Need-same-length Inv-loop μ-loop
 same-length c = c .before .loop .inv .1 .long ∙ sym (c .before .before .before .before .before .pre .1)
 
--- src/parted.rt:35:1
 same-length-2 : tie.Need-same-length-2 Inv-loop μ-loop
 same-length-2 c = c .before .loop .inv .2 .long ∙ sym (c .before .before .before .before .before .pre .2)
 
--- src/parted.rt:35:1
 returns : tie.Need-returns Inv-loop μ-loop
 returns c =
     let l = c .before .loop in

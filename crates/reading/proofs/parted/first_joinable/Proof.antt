@@ -1,20 +1,16 @@
-use Rattle.reading.proofs.Standing.{ends-bad, ends-fine}
-use Rattle.store.specs.Accepted.{Parted}
-use Rattle.store.specs.Pages.{S1024}
-use Rattle.hash.specs.Fnv.{fnv}
-use Rattle.ground.proofs.Tests.{says-true, says-false}
-use mathlib.Core.Path.{_≡_, refl, sym, subst, _∙_}
-use Prim.Native.Nat.{ℕ, _≤_, _<_, _-_}
-use native.Mathlib.Omega.{arith}
+-- `reading::parted::first_joinable` meets its contract. Assumes nothing.
 use borrow.Author.Tests.{not-true, not-false}
 use borrow.Author.Count.{below-more}
 use borrow.Author.Needs.{needs}
+use Prim.Native.Nat.{ℕ, _≤_, _<_, _-_}
+use native.Mathlib.Omega.{arith}
+use Rattle.ground.proofs.Tests.{says-true, says-false}
+use Rattle.hash.specs.Fnv.{fnv}
+use Rattle.store.specs.Accepted.{Parted}
+use Rattle.store.specs.Pages.{S1024}
+use Rattle.reading.proofs.Standing.{ends-bad, ends-fine}
 use Rattle.reading.proofs.parted.first_joinable.Statement.{statement}
 use Rattle.reading.proofs.parted.first_joinable.Tie as tie
-use Rattle.reading.proofs.parted.first_joinable.Reads as reads
-use Rattle.reading.proofs.parted.first_joinable.Lts as lts
-use Rattle.reading.proofs.parted.digest.Reads as digest-reads
-use Rattle.reading.proofs.parted.parted_ok.Reads as parted-ok-reads
 
 abbrev Inv-loop : tie.InvT-loop
 Inv-loop s n tops loads p₀ p = (2 ≤ p) × (p ≤ n) × ((q : ℕ) → q < p → 2 ≤ q → Parted S1024 fnv s q)
@@ -22,50 +18,39 @@ Inv-loop s n tops loads p₀ p = (2 ≤ p) × (p ≤ n) × ((q : ℕ) → q < p 
 abbrev μ-loop : tie.MeasureT-loop
 μ-loop s n tops loads p₀ p = n - p
 
--- src/parted.rt:86:18
 slice-aggregate-digest : tie.Need-slice-aggregate-digest Inv-loop μ-loop
 slice-aggregate-digest c = search needs
 
--- src/parted.rt:86:29
 slice-aggregate-digest-2 : tie.Need-slice-aggregate-digest-2 Inv-loop μ-loop
 slice-aggregate-digest-2 c = search needs
 
--- src/parted.rt:86:5
 digest-requires : tie.Need-digest-requires Inv-loop μ-loop
 digest-requires c κs = search needs
 
--- src/parted.rt:88:5
 loop-holds : tie.Need-loop-holds Inv-loop μ-loop
 loop-holds c = search needs
 
--- src/parted.rt:89:26
 slice-aggregate-parted-ok : tie.Need-slice-aggregate-parted-ok Inv-loop μ-loop
 slice-aggregate-parted-ok c = search needs
 
--- src/parted.rt:89:33
 slice-aggregate-parted-ok-2 : tie.Need-slice-aggregate-parted-ok-2 Inv-loop μ-loop
 slice-aggregate-parted-ok-2 c = search needs
 
--- src/parted.rt:89:13
 parted-ok-requires : tie.Need-parted-ok-requires Inv-loop μ-loop
 parted-ok-requires c κs = search needs
 
--- src/parted.rt:90:13
 returns : tie.Need-returns Inv-loop μ-loop
 returns c =
     let l = c .before .before .before .before .before .loop in
     let s = c .before .before .before .before .before .before .before .before .before .before .before .before .args .s .now in
     ends-bad _ (Parted S1024 fnv s) (l .p) (l .inv .0) (l .inv .1) (l .inv .2) (says-false {P = Parted S1024 fnv s (l .p)} (c .before .parted-ok .result) (not-true _ (c .if1 .taken)) (c .before .parted-ok .ensures))
 
--- src/parted.rt:92:9
 add-p : tie.Need-add-p Inv-loop μ-loop
 add-p c = search needs
 
--- src/parted.rt:88:5
 loop-less : tie.Need-loop-less Inv-loop μ-loop
 loop-less c = search needs
 
--- src/parted.rt:88:5
 loop-again : tie.Need-loop-again Inv-loop μ-loop
 loop-again c =
     let l = c .before .before .before .before .before .loop in
@@ -75,7 +60,6 @@ loop-again c =
       below-more (λ q. 2 ≤ q → Parted S1024 fnv s q) _ (l .inv .2) (λ _. says-true {P = Parted S1024 fnv s (l .p)} (c .before .parted-ok .result) (not-false _ (c .if1 .left)) (c .before .parted-ok .ensures)),
     )
 
--- src/parted.rt:80:1
 returns-2 : tie.Need-returns-2 Inv-loop μ-loop
 returns-2 c = let l = c .before .loop in ends-fine _ (Parted S1024 fnv (c .before .before .before .before .before .before .before .before .args .s .now)) (l .p) (l .inv .0) (l .inv .1) (c .loop-test .left) (l .inv .2)
 

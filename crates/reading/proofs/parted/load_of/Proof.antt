@@ -1,16 +1,14 @@
-use Rattle.reading.proofs.Sums.{Summed, summed-none, summed-more, summed-all, pick-small, picked, passed}
-use Rattle.store.specs.Moves.{pick}
-use lib.ListN.{getD}
-use lib.Dec.{eqb}
+-- `reading::parted::load_of` meets its contract. Assumes nothing.
 use borrow.Author.Tests.{eq-eqb, ne-eqb}
 use mathlib.Core.Logic.{⊎-elim}
-use mathlib.Core.Path.{_≡_}
-use Prim.Native.Nat.{ℕ, _+_, _-_, _/_, _^_, _≤_}
+use Prim.Native.Nat.{_-_, _/_, _^_, _≤_}
 use native.Mathlib.Omega.{arith}
+use lib.ListN.{getD}
+use lib.Dec.{eqb}
+use Rattle.store.specs.Moves.{pick}
+use Rattle.reading.proofs.Sums.{Summed, summed-none, summed-more, summed-all, pick-small, picked, passed}
 use Rattle.reading.proofs.parted.load_of.Statement.{statement}
 use Rattle.reading.proofs.parted.load_of.Tie as tie
-use Rattle.reading.proofs.parted.load_of.Reads as reads
-use Rattle.reading.proofs.parted.load_of.Lts as lts
 
 abbrev Inv-loop : tie.InvT-loop
 Inv-loop tops loads n k v sum₀ q₀ sum q = (q ≤ n) × Summed (λ j. pick (eqb (getD tops j 0 / 2 ^ k) v) (getD loads j 0) 0) q sum
@@ -18,46 +16,36 @@ Inv-loop tops loads n k v sum₀ q₀ sum q = (q ≤ n) × Summed (λ j. pick (e
 abbrev μ-loop : tie.MeasureT-loop
 μ-loop tops loads n k v sum₀ q₀ sum q = n - q
 
--- src/parted.rt:14:5
 loop-holds : tie.Need-loop-holds Inv-loop μ-loop
 loop-holds c = (omega arith, summed-none _)
 
--- src/parted.rt:15:12
 mul-if1 : tie.Need-mul-if1 Inv-loop μ-loop
 mul-if1 c = omega arith
 
--- src/parted.rt:15:12
 shared-slice-read-if1 : tie.Need-shared-slice-read-if1 Inv-loop μ-loop
 shared-slice-read-if1 c = omega arith
 
--- src/parted.rt:15:12
 shr-if1 : tie.Need-shr-if1 Inv-loop μ-loop
 shr-if1 c = omega arith
 
--- src/parted.rt:16:20
 mul-sum : tie.Need-mul-sum Inv-loop μ-loop
 mul-sum c = omega arith
 
--- src/parted.rt:16:20
 shared-slice-read-sum : tie.Need-shared-slice-read-sum Inv-loop μ-loop
 shared-slice-read-sum c = omega arith
 
--- src/parted.rt:16:13
 add-sum : tie.Need-add-sum Inv-loop μ-loop
 add-sum c =
     let l = c .before .before .before .before .loop in
     let a = c .before .before .before .before .before in
     record { fits = omega (arith, l .inv .1 .small, a .pre .1 .each (l .q) (l .inv .1 .start) (c .before .before .before .loop-test .taken)) }
 
--- src/parted.rt:18:9
 add-q : tie.Need-add-q Inv-loop μ-loop
 add-q c = omega arith
 
--- src/parted.rt:14:5
 loop-less : tie.Need-loop-less Inv-loop μ-loop
 loop-less c = omega arith
 
--- src/parted.rt:14:5
 loop-again : tie.Need-loop-again Inv-loop μ-loop
 loop-again c =
     let l = c .before .before .before .loop in
@@ -70,7 +58,6 @@ loop-again c =
           (⊎-elim (λ w. picked b y (l .sum) (c .if1 .sum) (eq-eqb _ _ (w .0 .taken)) (w .2)) (λ w. passed b y (l .sum) (c .if1 .sum) (ne-eqb _ _ (w .0 .left)) (w .1)) (c .if1 .came)),
     )
 
--- src/parted.rt:8:1
 returns : tie.Need-returns Inv-loop μ-loop
 returns c = summed-all (c .before .loop .inv .1) (c .before .loop .inv .0) (c .loop-test .left)
 

@@ -1,32 +1,24 @@
-use Rattle.reading.proofs.Parting.{load-free, load-used}
+-- `reading::parted::page_load` meets its contract. Assumes nothing.
 use borrow.Author.Needs.{needs}
+use Rattle.reading.proofs.Parting.{load-free, load-used}
 use Rattle.reading.proofs.parted.page_load.Statement.{statement}
 use Rattle.reading.proofs.parted.page_load.Tie as tie
-use Rattle.reading.proofs.parted.page_load.Reads as reads
-use Rattle.reading.proofs.parted.page_load.Lts as lts
-use Rattle.words.proofs.get16.Reads as get16-reads
 
--- src/parted.rt:29:8
 shared-slice-read-if1 : tie.Need-shared-slice-read-if1
 shared-slice-read-if1 c = search needs
 
--- src/parted.rt:30:9
 returns : tie.Need-returns
 returns c = load-free (c .before .before .before .args .pg .now) (c .before .before .before .pre) (c .if1 .taken)
 
--- src/parted.rt:32:13
 get16-requires : tie.Need-get16-requires
 get16-requires c κs = search needs
 
--- src/parted.rt:32:6
 sub-result : tie.Need-sub-result
 sub-result c = let x = c .before .before .before .before in load-used (x .args .pg .now) (x .pre) (c .before .if1 .left) (c .get16 .result) (c .get16 .ensures .0) .0
 
--- src/parted.rt:32:5
 cast-result : tie.Need-cast-result
 cast-result c = search needs
 
--- src/parted.rt:25:1
 returns-2 : tie.Need-returns-2
 returns-2 c = let x = c .before .before .before .before in load-used (x .args .pg .now) (x .pre) (c .before .if1 .left) (c .get16 .result) (c .get16 .ensures .0) .1
 

@@ -1,27 +1,20 @@
-use Rattle.reading.proofs.Parting.{used-page, top-8}
-use Rattle.partition.specs.Bits.{top}
-use mathlib.Core.Path.{_≡_, ap, _∙_}
-use native.Mathlib.Omega.{arith}
+-- `reading::parted::page_top` meets its contract. Assumes nothing.
 use borrow.Author.Needs.{needs}
+use mathlib.Core.Path.{ap, _∙_}
+use Rattle.partition.specs.Bits.{top}
+use Rattle.reading.proofs.Parting.{used-page, top-8}
 use Rattle.reading.proofs.parted.page_top.Statement.{statement}
 use Rattle.reading.proofs.parted.page_top.Tie as tie
-use Rattle.reading.proofs.parted.page_top.Reads as reads
-use Rattle.reading.proofs.parted.page_top.Lts as lts
-use Rattle.audit.proofs.hash_slot.Reads as hash-slot-reads
 
--- src/parted.rt:18:8
 shared-slice-read-if1 : tie.Need-shared-slice-read-if1
 shared-slice-read-if1 c = search needs
 
--- src/parted.rt:19:9
 returns : tie.Need-returns
 returns c = search needs
 
--- src/parted.rt:21:5
 hash-slot-requires : tie.Need-hash-slot-requires
 hash-slot-requires c κs = let b = used-page (c .before .before .before .args .pg .now) (c .before .before .before .pre) (c .if1 .left) in (b, b .some)
 
--- src/parted.rt:14:1
 returns-2 : tie.Need-returns-2
 returns-2 c = λ e. top-8 (c .hash-slot .result) ∙ ap (top 8) (c .hash-slot .ensures)
 
