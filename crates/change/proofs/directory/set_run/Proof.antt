@@ -7,9 +7,6 @@ use mathlib.Core.Path.{_≡_, refl, ap, _∙_}
 use Prim.Native.Nat.{ℕ, _+_, _*_, _-_, _≤_, _<_}
 use Rattle.change.proofs.directory.set_run.Statement.{statement}
 use Rattle.change.proofs.directory.set_run.Tie as tie
-use Rattle.change.proofs.directory.set_run.Reads as reads
-use Rattle.change.proofs.directory.set_run.Lts as lts
-use Rattle.words.proofs.put32.Reads as put32-reads
 
 abbrev Inv-loop : tie.InvT-loop
 Inv-loop s₀ a b p i₀ s i = (a ≤ i) × (i ≤ b) × RunSet s₀ a i p s × (length s ≡ length s₀)
@@ -17,39 +14,30 @@ Inv-loop s₀ a b p i₀ s i = (a ≤ i) × (i ≤ b) × RunSet s₀ a i p s × 
 abbrev μ-loop : tie.MeasureT-loop
 μ-loop s₀ a b p i₀ s i = b - i
 
--- src/directory.rt:14:5
 loop-holds : tie.Need-loop-holds Inv-loop μ-loop
 loop-holds c = let a = c .before .args in (omega arith, omega arith, run-none (a .s .now) (a .a) (a .p), refl)
 
--- src/directory.rt:15:32
 mul-put32 : tie.Need-mul-put32 Inv-loop μ-loop
 mul-put32 c = omega arith
 
--- src/directory.rt:15:25
 add-put32 : tie.Need-add-put32 Inv-loop μ-loop
 add-put32 c = omega arith
 
--- src/directory.rt:15:9
 put32-requires : tie.Need-put32-requires Inv-loop μ-loop
 put32-requires c κs = omega arith
 
--- src/directory.rt:16:9
 add-i : tie.Need-add-i Inv-loop μ-loop
 add-i c = omega arith
 
--- src/directory.rt:14:5
 loop-less : tie.Need-loop-less Inv-loop μ-loop
 loop-less c = omega arith
 
--- src/directory.rt:14:5
 loop-again : tie.Need-loop-again Inv-loop μ-loop
 loop-again c = let w = c .before .before .put32 in let l = c .before .before .before .before .before .loop in (omega arith, omega arith, run-more (l .inv .2) (w .ensures) (omega arith), w .ensures .old .len ∙ l .inv .3)
 
--- src/directory.rt:9:1
 same-length : tie.Need-same-length Inv-loop μ-loop
 same-length c = omega arith
 
--- src/directory.rt:9:1
 returns : tie.Need-returns Inv-loop μ-loop
 returns c = let l = c .before .loop in let e : l .i ≡ c .before .before .before .args .b = omega arith in rw (← e) (l .inv .2)
 
