@@ -2,7 +2,7 @@
 use mathlib.Core.Path.{_≡_, refl, sym, ap, subst, _∙_}
 use mathlib.Core.Bool.{Bool, true, false}
 use mathlib.Core.List.{List, [], _∷_}
-use mathlib.Core.Logic.{_⊎_, ⊎-elim}
+use mathlib.Core.Logic.{_⊎_, inl, inr, ⊎-elim}
 use mathlib.Core.Option.{Option, some, none}
 use Prim.Native.Nat.{ℕ, zero, suc, _+_, _≤_, _<_}
 use native.Mathlib.Omega.{arith}
@@ -15,7 +15,7 @@ use Rattle.ground.proofs.Sides.{side}
 use Rattle.words.specs.Codes.{order}
 use Rattle.words.proofs.Bytes.{small-zeros}
 use Rattle.partition.specs.Bits.{top}
-use Rattle.partition.specs.Partition.{Row, keep, need, needs, rowsOf, grade, fitting, walk, buckets}
+use Rattle.partition.specs.Partition.{Shape, Row, keep, need, needs, rowsOf, grade, fitting, walk, buckets}
 use Rattle.partition.specs.Listing.{placeOf, listing, Once}
 use Rattle.partition.proofs.Maps.{absent}
 use Rattle.partition.proofs.Reorders.{length-same}
@@ -24,8 +24,8 @@ use Rattle.partition.proofs.Splice.{walk-fits}
 use Rattle.page.specs.declared.Place.{Place}
 use Rattle.page.specs.Places.{place, stored}
 use Rattle.store.specs.Pages.{S1024, rowsHeld}
-use Rattle.store.specs.Accepted.{Accepted}
-use Rattle.store.specs.Tables.{Out, row, new, found, rowTable}
+use Rattle.store.specs.Accepted.{GoodLength, Accepted}
+use Rattle.store.specs.Tables.{Out, refused, row, new, found, rowTable}
 use Rattle.store.specs.Demands.{Hash, lookup, remove, count, ok, GoodCode, AtStart, Nth, map-of, update, answerOf, sized-1024}
 use Rattle.store.proofs.Kept.{clash}
 use Rattle.store.proofs.Given.{member}
@@ -226,3 +226,12 @@ module _ (h : List ℕ → ℕ) (hash : Hash h) where
             let k′ = length-same (same-at h hash P meets with-b) in
             let r = here (listing S1024 h (rowsHeld S1024 two)) n (omega arith) in
             ap ok (d .7 two n (replicate 64 0) (P .row two n (replicate 64 0) .0) (P .row two n (replicate 64 0) .1) (asks n) .1 w (omega arith) .is (r .0) (r .1) .0)
+
+-- A row at place n that gives 2 before 8: on a store of good length a short output is 8, whatever else is wrong.
+pub two-before-eight : (S : Shape) (h : List ℕ → ℕ) (s : List ℕ) (n : ℕ) (out : List ℕ) (r : Out × List ℕ) → GoodLength S s → length out < 64
+    → Answers (rowTable S h s n out) r → r ≡ (refused 8, out)
+unfolding rowTable
+two-before-eight S h s n out r g l w = ⊎-elim
+    (λ x. absurd (x .1 .0 g))
+    (λ x. ⊎-elim (λ y. y .1 .1) (λ z. absurd (z .0 tt l)) (x .1))
+    w
