@@ -1,16 +1,15 @@
 -- Rows that go behind those of a packed page, and a bucket written so. Over any hash. Assumes nothing.
 use mathlib.Core.Path.{_≡_, refl, sym, ap, subst, _∙_}
-use mathlib.Core.List.{List, [], _∷_, _++_, map, append-nil, append-assoc, List·Memᴰ, List·Memᴰ·head, List·Memᴰ·tail, List·Memᴰ·not-nil, List·Memᴰ·cases-cons, Memᴰ·append-left, Memᴰ·append-right}
+use mathlib.Core.List.{List, [], _∷_, _++_, map, append-nil, append-assoc, List·Memᴰ, List·Memᴰ·head, List·Memᴰ·not-nil, List·Memᴰ·cases-cons, Memᴰ·append-left, Memᴰ·append-right}
 use mathlib.Core.Logic.{⊎-elim}
-use Prim.Native.Nat.{ℕ, zero, suc, _+_, _-_, _*_, _^_, _≤_, _<_}
+use Prim.Native.Nat.{ℕ, _+_, _-_, _≤_, _<_}
 use native.Mathlib.Omega.{arith}
-use native.Mathlib.Numerals.{add-one}
 use lib.ListN.{length, getD, take, drop, length-map, length-drop}
 use lib.Seq.{take-all, take-add, drop-drop, drop-cons}
 use Rattle.ground.specs.Lists.{tab, insertAt}
 use Rattle.ground.proofs.Tables.{length-tab, getD-tab}
 use Rattle.words.specs.Codes.{Before}
-use Rattle.page.specs.Page.{Slotted, BucketPage, Belongs, Natural, depth, count, code, rows, rowAt}
+use Rattle.page.specs.Page.{Slotted, Natural, count, code, rows, rowAt}
 use Rattle.page.specs.Steps.{Insertable, Inserted}
 use Rattle.page.specs.Packed.{Fresh}
 use Rattle.partition.specs.Bits.{top}

@@ -2,11 +2,11 @@
 -- Assumes nothing.
 use mathlib.Core.Path.{_≡_, refl, sym, ap, subst, _∙_}
 use mathlib.Core.List.{List, [], _∷_, map}
-use mathlib.Core.Logic.{_⊎_, inl, inr, ⊎-elim, _↔_}
+use mathlib.Core.Logic.{inl, inr, ⊎-elim, _↔_}
 use mathlib.Core.Option.{some, none}
-use Prim.Native.Nat.{ℕ, suc, _+_, _-_, _*_, _/_, _^_, _≤_, _<_}
+use Prim.Native.Nat.{ℕ, suc, _+_, _-_, _/_, _≤_, _<_}
 use native.Mathlib.Omega.{arith}
-use lib.ListN.{length, getD, set, length-set}
+use lib.ListN.{length, set}
 use Rattle.ground.specs.Lists.{byte}
 use Rattle.ground.specs.Ladder.{Answers}
 use Rattle.ground.proofs.Sides.{side}
@@ -15,8 +15,6 @@ use Rattle.page.specs.Page as InPage
 use Rattle.partition.specs.Bits.{top}
 use Rattle.partition.specs.Partition.{Row, need, needs, rowsOf, buckets}
 use Rattle.partition.specs.Listing.{placeOf}
-use Rattle.partition.proofs.Tree.{pfx}
-use Rattle.partition.proofs.Directory.{holds-top}
 use Rattle.partition.proofs.Rows.{same-load}
 use Rattle.store.specs.Pages.{S1024, pages, page, dirDepth, Page, contents, asRow, rowsHeld, deepestIn}
 use Rattle.store.specs.Accepted.{Accepted}

@@ -1,18 +1,17 @@
 -- PUT of a new code where no page holds its hash: a bucket of the row alone in the lowest free page, or refusal 7. Assumes nothing.
 use mathlib.Core.Path.{_≡_, refl, sym, ap, subst, _∙_}
 use mathlib.Core.List.{List, [], _∷_}
-use mathlib.Core.Logic.{_⊎_, inl, inr, ⊎-elim, _↔_}
+use mathlib.Core.Logic.{inl, inr, ⊎-elim, _↔_}
 use mathlib.Core.Bool.{true}
 use mathlib.Core.Option.{some, none}
-use Prim.Native.Nat.{ℕ, zero, suc, _+_, _-_, _*_, _/_, _^_, _≤_, _<_}
+use Prim.Native.Nat.{ℕ, zero, suc, _+_, _-_, _/_, _^_, _≤_, _<_}
 use native.Mathlib.Omega.{arith}
-use native.Mathlib.Nat.{le-trans}
 use lib.Pow.{pow-mono}
-use lib.ListN.{length, getD, set, List·getD-eq-default}
+use lib.ListN.{length, getD, set}
 use Rattle.ground.specs.Lists.{byte}
 use Rattle.ground.specs.Ladder.{Answers}
 use Rattle.ground.proofs.Sides.{side}
-use Rattle.page.specs.Page.{Natural, depth, rows}
+use Rattle.page.specs.Page.{depth}
 use Rattle.page.specs.Packed.{Started}
 use Rattle.partition.specs.Bits.{top}
 use Rattle.partition.specs.Partition.{Row, need, needs, rowsOf, buckets}
@@ -21,7 +20,7 @@ use Rattle.partition.proofs.Bits.{top-step}
 use Rattle.partition.proofs.Path.{path-le}
 use Rattle.partition.proofs.Rows.{load, load-mono}
 use Rattle.store.specs.Pages.{S1024, pages, page, dirDepth, entryAt, Page, free, bucket, contents, rowsHeld, deepestIn}
-use Rattle.store.specs.Accepted.{Calls, Accepted}
+use Rattle.store.specs.Accepted.{Accepted}
 use Rattle.store.specs.Moves.{find, isFree, record-at, putNew}
 use Rattle.store.specs.Tables.{new, refused, Refusal6, Refusal7, putAccepted}
 use Rattle.store.specs.Demands.{Hash, sized-1024}
@@ -48,7 +47,7 @@ free-some (free ∷ gs) i l e = omega arith
 free-some (bucket k rs ∷ gs) zero l e = let z : _≡_ {A = ℕ} 0 1 = cc in absurd (omega arith)
 free-some (bucket k rs ∷ gs) (suc i) l e = free-some gs i (omega arith) e
 
-module _ (h : List ℕ → ℕ) (hash : Hash h) (s c pl : List ℕ) (P : Puttable h s c pl) (zero : entryOf S1024 h s c ≡ 0) where
+module _ (h : List ℕ → ℕ) (hash : Hash h) (s c pl : List ℕ) (P : Puttable h s c pl) (unnamed : entryOf S1024 h s c ≡ 0) where
   abbrev A : Accepted S1024 h s
   A = P .accepted
 
@@ -73,16 +72,16 @@ module _ (h : List ℕ → ℕ) (hash : Hash h) (s c pl : List ℕ) (P : Puttabl
       let z : d - d ≡ 0 = omega arith in
       let e : i / 2 ^ 0 ≡ top d (h c) = subst (λ n. i / 2 ^ n ≡ top d (h c)) z (q .bits) in
       let j : i ≡ top d (h c) = omega (arith, e) in
-      ap (entryAt S1024 s) j ∙ zero
+      ap (entryAt S1024 s) j ∙ unnamed
 
   -- a prefix that has no row
   unset-all : (j : ℕ) → j ≤ d → needs (rowsOf h (rowsHeld S1024 s) j (top j (h c))) ≤ 0 → Unset s d j (top j (h c))
   unset-all j l z i q =
       let b : i < 256 = let m : 2 ^ d ≤ 2 ^ 8 = pow-mono d-8 in omega (arith, q .below) in
-      ⊎-elim (λ p. absurd (omega (arith, some-row S1024 h sized-1024 hash s A c zero j i l b q (λ e. omega (arith, p, e))))) (λ p. omega (arith, p)) (side 0 (entryAt S1024 s i))
+      ⊎-elim (λ p. absurd (omega (arith, some-row S1024 h sized-1024 hash s A c unnamed j i l b q (λ e. omega (arith, p, e))))) (λ p. omega (arith, p)) (side 0 (entryAt S1024 s i))
 
   absent : placeOf (rowsHeld S1024 s) c ≡ none
-  absent = lookup-none S1024 h sized-1024 hash s A c zero
+  absent = lookup-none S1024 h sized-1024 hash s A c unnamed
 
   small : need r ≤ 1016
   unfolding need
@@ -90,10 +89,10 @@ module _ (h : List ℕ → ℕ) (hash : Hash h) (s c pl : List ℕ) (P : Puttabl
 
   six : Refusal6 S1024 h (rowsHeld S1024 s) r → ⊥
   unfolding need
-  six x = omega (arith, unheld-six S1024 h hash (rowsHeld S1024 s) gs shows r (off S1024 h sized-1024 hash s A c zero), P .short)
+  six x = omega (arith, unheld-six S1024 h hash (rowsHeld S1024 s) gs shows r (off S1024 h sized-1024 hash s A c unnamed), P .short)
 
   seven : (length (buckets S1024 h (r ∷ rowsHeld S1024 s)) ≤ length gs) ↔ (0 < frees gs)
-  seven = unheld-seven S1024 h hash (rowsHeld S1024 s) gs shows r (off S1024 h sized-1024 hash s A c zero) small
+  seven = unheld-seven S1024 h hash (rowsHeld S1024 s) gs shows r (off S1024 h sized-1024 hash s A c unnamed) small
 
   none-there : (x : List ℕ) → placeOf (rowsHeld S1024 s) c ≡ some x → ⊥
   none-there x e = let z : _≡_ {A = ℕ} 0 1 = cc absent in omega arith
@@ -126,7 +125,7 @@ module _ (h : List ℕ → ℕ) (hash : Hash h) (s c pl : List ℕ) (P : Puttabl
         (side 0 (needs (rowsOf h (rowsHeld S1024 s) (k - 1) (top (k - 1) (h c)))))
 
     is : putNew S1024 h gs r ≡ set gs (find isFree gs) (bucket k (record-at 8 r ∷ []))
-    is = put-unheld-is S1024 h hash (rowsHeld S1024 s) gs shows r (off S1024 h sized-1024 hash s A c zero) small k bare above
+    is = put-unheld-is S1024 h hash (rowsHeld S1024 s) gs shows r (off S1024 h sized-1024 hash s A c unnamed) small k bare above
 
     pub wrote : Rewritten s (setPage S1024 s f q)
     wrote = rewritten-set s s (unwritten h hash s A) f (omega arith) to q (Q .page) (Q .long ∙ page-long S1024 s f to) (omega (arith, Q .deep, K .low, d-8))

@@ -2,23 +2,23 @@
 use mathlib.Core.Path.{_≡_, refl, sym, ap, subst, subst₂, _∙_}
 use mathlib.Core.List.{List, [], _∷_, _++_}
 use mathlib.Core.Logic.{_⊎_, inl, inr, _≢_}
-use Prim.Native.Nat.{ℕ, zero, suc, _+_, _-_, _*_, _/_, _%_, _≤_, _<_, max}
+use Prim.Native.Nat.{ℕ, zero, suc, _+_, _-_, _*_, _%_, _≤_, _<_, max}
 use native.Mathlib.Omega.{arith}
 use native.Mathlib.Nat.{mul-le-mul-right}
 use native.Mathlib.Decide.{ℕ-discrete}
-use lib.ListN.{length, take, drop, getD, set}
+use lib.ListN.{length, take, drop, set}
 use Rattle.ground.specs.Lists.{byte}
 use Rattle.page.specs.Page.{Record, BucketPage, depth, rows}
 use Rattle.partition.specs.Partition.{Shape}
-use Rattle.store.specs.Pages.{S1024, size, pages, page, dirDepth, entryAt, Page, free, bucket, read, contents, depthOn, deepestIn}
-use Rattle.store.specs.Accepted.{GoodLength, Calls}
+use Rattle.store.specs.Pages.{S1024, size, pages, page, dirDepth, entryAt, Page, bucket, read, depthOn, deepestIn}
+use Rattle.store.specs.Accepted.{Calls}
 use Rattle.store.specs.Demands.{Sized}
 use Rattle.store.proofs.Shows.{prefixOn, Holding}
 use Rattle.store.proofs.Shown.{free-not, within-pages}
 use Rattle.store.proofs.Rooms.{bucket-one, held-set, set-holds, set-other as other-holds}
 use Rattle.store.proofs.Unique.{read-used}
 use Rattle.store.proofs.Named.{Entry, nothing, names}
-use Rattle.store.proofs.Accepting.{Head, Whole, Laid, head-kept}
+use Rattle.store.proofs.Accepting.{Whole, Laid, head-kept}
 use Rattle.store.proofs.Views.{setPage, lent-page, page-back, set-long, set-pages, set-same, set-other, set-below, set-depth, set-entry, set-contents}
 
 -- a page of the same depth leaves the largest depth

@@ -1,17 +1,17 @@
 -- PUT on an accepted store where a page holds the hash of the code: a known code, and a new one that fits. Over any page size and hash. Assumes nothing.
 use mathlib.Core.Path.{_≡_, refl, sym, ap, subst, _∙_}
-use mathlib.Core.List.{List, [], _∷_, map, List·Memᴰ, List·Memᴰ·head}
+use mathlib.Core.List.{List, _∷_, map, List·Memᴰ, List·Memᴰ·head}
 use mathlib.Core.Logic.{inl, inr, ⊎-elim}
 use mathlib.Core.Option.{some, none}
 use Prim.Native.Nat.{ℕ, _+_, _-_, _*_, _≤_, _<_}
 use native.Mathlib.Omega.{arith}
 use lib.ListN.{length, getD, set, length-set}
-use Rattle.ground.specs.Lists.{byte, insertAt}
+use Rattle.ground.specs.Lists.{byte}
 use Rattle.ground.specs.Ladder.{Answers}
 use Rattle.ground.proofs.Sides.{side}
 use Rattle.ground.proofs.Tables.{length-tab}
-use Rattle.page.specs.Page.{Record, Slotted, BucketPage, Belongs, depth, count, frontier, code, place, rows, rowAt}
-use Rattle.page.specs.Steps.{Inserted, Overwritten}
+use Rattle.page.specs.Page.{Slotted, BucketPage, depth, count, frontier, code, place, rows, rowAt}
+use Rattle.page.specs.Steps.{Overwritten}
 use Rattle.page.specs.Packed.{Fitting, Added}
 use Rattle.page.specs.Places as Places
 use Rattle.partition.specs.Bits.{top}
@@ -21,10 +21,10 @@ use Rattle.partition.proofs.Tree.{pfx}
 use Rattle.partition.proofs.Sorted.{by-code, in-order-reordered, order-put}
 use Rattle.partition.proofs.Reorders.{turned, mem-reordered}
 use Rattle.partition.proofs.Directory.{holds-top}
-use Rattle.store.specs.Pages.{size, pages, page, dirDepth, Page, free, bucket, contents, asRow, rowsHeld}
+use Rattle.store.specs.Pages.{size, page, dirDepth, Page, free, bucket, contents, asRow, rowsHeld}
 use Rattle.store.specs.Accepted.{Accepted}
 use Rattle.store.specs.Moves.{find, holds, added, placeOn, overwriteOn, overwritten, putNew}
-use Rattle.store.specs.Tables.{replaced, new, Refusal6, Refusal7, Becomes, putAccepted}
+use Rattle.store.specs.Tables.{replaced, new, Refusal6, Refusal7, putAccepted}
 use Rattle.store.specs.Demands.{Sized, Hash}
 use Rattle.store.proofs.Shows.{prefixOn, Holding, Shows}
 use Rattle.store.proofs.Shown.{within-pages, page-row, find-only}

@@ -1,7 +1,7 @@
 -- An accepted store whose pages are written anew and that is settled then. Assumes nothing.
 use mathlib.Core.Path.{_≡_, refl, sym, ap, subst, _∙_}
-use mathlib.Core.List.{List, _∷_}
-use Prim.Native.Nat.{ℕ, _+_, _-_, _*_, _/_, _≤_, _<_}
+use mathlib.Core.List.{List}
+use Prim.Native.Nat.{ℕ, _-_, _/_, _≤_, _<_}
 use native.Mathlib.Omega.{arith}
 use native.Mathlib.Nat.{le-trans}
 use native.Mathlib.Decide.{ℕ-discrete}
@@ -9,7 +9,7 @@ use lib.ListN.{length, set}
 use Rattle.ground.specs.Lists.{byte}
 use Rattle.page.specs.Page.{BucketPage, depth, rows}
 use Rattle.partition.specs.Partition.{Row}
-use Rattle.store.specs.Pages.{S1024, pages, page, Page, bucket, read, contents, deepestIn}
+use Rattle.store.specs.Pages.{S1024, pages, page, bucket, contents, deepestIn}
 use Rattle.store.specs.Accepted.{Stands, unused, used as in-use, Accepted}
 use Rattle.store.specs.Tables.{Becomes}
 use Rattle.store.specs.Demands.{Hash, sized-1024}

@@ -1,20 +1,16 @@
 -- Buckets written one after another down the prefixes: what each step of the recursion asks and leaves. Over any hash. Assumes nothing.
 use mathlib.Core.Path.{_≡_, refl, sym, ap, subst, _∙_}
 use mathlib.Core.List.{List, [], _∷_, _++_, map, map-append}
-use Prim.Native.Nat.{ℕ, suc, _+_, _-_, _*_, _/_, _%_, _^_, _≤_, _<_}
+use Prim.Native.Nat.{ℕ, _+_, _-_, _*_, _/_, _≤_, _<_}
 use native.Mathlib.Omega.{arith}
 use lib.ListN.{length, set}
-use Rattle.ground.specs.Lists.{byte}
-use Rattle.page.specs.Page.{BucketPage, depth, rows}
-use Rattle.partition.specs.Partition.{Row, Prefix, needs, rowsOf}
-use Rattle.partition.specs.Listing.{inOrder}
+use Rattle.partition.specs.Partition.{Row, needs, rowsOf}
 use Rattle.partition.proofs.Tree.{pfx}
 use Rattle.store.specs.Pages.{S1024, pages, page, Page, bucket, contents}
 use Rattle.store.specs.Accepted.{GoodLength}
-use Rattle.store.specs.Moves.{find, isFree, packFrom, packed, written}
+use Rattle.store.specs.Moves.{find, isFree, packed, written}
 use Rattle.store.proofs.Showing.{pages-held}
 use Rattle.store.proofs.Views.{setPage}
-use Rattle.change.specs.Directory.{Sound}
 use Rattle.change.specs.Split.{below, Bucketed, Rewritten, next, Room, pagesBelow, Writable, Wrote}
 use Rattle.change.proofs.Settles.{rewritten-set, set-holds}
 use Rattle.change.proofs.Weighs.{below-none, below-one, below-deep, below-two, double}

@@ -1,9 +1,9 @@
 -- NO BUCKET HOLDS THE HASH of a code: a prefix of the hash has no row exactly if no entry that it calls for names a page. Over any page size and hash.
 -- Assumes nothing.
-use mathlib.Core.Path.{_≡_, refl, sym, ap, subst, _∙_}
+use mathlib.Core.Path.{_≡_, refl, sym, subst, _∙_}
 use mathlib.Core.List.{List, [], _∷_, map, List·Memᴰ, List·Memᴰ·not-nil}
-use mathlib.Core.Logic.{_⊎_, inl, inr, ⊎-elim}
-use Prim.Native.Nat.{ℕ, zero, suc, _+_, _-_, _*_, _^_, _≤_, _<_}
+use mathlib.Core.Logic.{_⊎_, inl, inr}
+use Prim.Native.Nat.{ℕ, _+_, _-_, _*_, _^_, _≤_, _<_}
 use native.Mathlib.Omega.{arith}
 use native.Mathlib.Nat.{le-trans}
 use lib.ListN.{length, length-map}
@@ -55,7 +55,7 @@ module _ (S : Shape) (h : List ℕ → ℕ) (sized : Sized S) (hash : Hash h) (s
         λ z. absent (rowsHeld S s) (r .0 .code) (lookup-none S h sized hash s A (r .0 .code) z) (r .0) (m .0) refl,
       )
 
-  module _ (c : List ℕ) (zero : entryOf S h s c ≡ 0) where
+  module _ (c : List ℕ) (unnamed : entryOf S h s c ≡ 0) where
     -- no page holds the hash
     pub off : (i k : ℕ) (rs : List Record) → Holding (contents S s) i k rs → top k (h c) ≡ prefixOn h k rs → ⊥
     off i k rs g e =
@@ -63,7 +63,7 @@ module _ (S : Shape) (h : List ℕ → ℕ) (sized : Sized S) (hash : Hash h) (s
         let n : entryAt S s (top d (h c)) ≡ i + 2 =
         u .names (top d (h c)) (entry-within S h sized hash s (T .page0 .depth) (h c) (hash c)) .1
         (calls-top d k (prefixOn h k rs) (h c) (u .low) (subst (λ v. v < 2 ^ k) e (top-lt (h c) k (hash c))) e) in
-        omega (arith, zero, n)
+        omega (arith, unnamed, n)
 
     -- so an entry that a prefix of the hash calls for names a page only if the prefix has a row
     pub some-row : (k i : ℕ) → k ≤ d → i < S .entries → Calls d k (top k (h c)) i → (entryAt S s i ≡ 0 → ⊥) → 0 < needs (rowsOf h (rowsHeld S s) k (top k (h c)))

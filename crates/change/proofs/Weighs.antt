@@ -2,7 +2,6 @@
 use mathlib.Core.Path.{_≡_, refl, sym, ap, subst, _∙_}
 use mathlib.Core.Bool.{Bool, true, false}
 use mathlib.Core.List.{List, [], _∷_, _++_, map}
-use mathlib.Core.Logic.{_≢_}
 use Prim.Native.Nat.{ℕ, zero, suc, _+_, _-_, _*_, _^_, _≤_, _<_}
 use native.Mathlib.Omega.{arith}
 use native.Mathlib.Nat.{pow-suc}
@@ -11,13 +10,12 @@ use lib.Dec.{eqb}
 use lib.Pow.{pow-pos, pow-mono}
 use lib.ListN.{length, getD, drop, length-append, length-map}
 use lib.Seq.{drop-cons, drop-length}
-use Rattle.ground.specs.Lists.{tab}
 use Rattle.ground.proofs.Tables.{length-tab, getD-tab}
-use Rattle.page.specs.Page.{Slotted, count, code, rows, rowAt}
+use Rattle.page.specs.Page.{count, code, rows, rowAt}
 use Rattle.partition.specs.Bits.{top}
-use Rattle.partition.specs.Partition.{Row, Prefix, Grade, bare, fits, over, keep, need, needs, rowsOf, grade, walk, buckets}
+use Rattle.partition.specs.Partition.{Row, Grade, bare, fits, over, keep, need, needs, rowsOf, grade, walk, buckets}
 use Rattle.partition.proofs.Tree.{pfx, Means}
-use Rattle.partition.proofs.Rows.{load-on, load-off, mean-of, mean-one, same-load}
+use Rattle.partition.proofs.Rows.{load-on, load-off, mean-of, mean-one}
 use Rattle.partition.proofs.Splice.{walk-bare, walk-fits}
 use Rattle.store.specs.Pages.{S1024, asRow}
 use Rattle.store.proofs.PageTies.{rows-tab}

@@ -1,7 +1,7 @@
 -- What the steps of a put on an accepted store ask and answer. Assumes nothing.
 use mathlib.Core.Path.{_≡_}
 use mathlib.Core.List.{List}
-use Prim.Native.Nat.{ℕ, suc, _≤_, _<_}
+use Prim.Native.Nat.{ℕ, suc, _≤_}
 use lib.ListN.{length}
 use Rattle.page.specs.Page.{Natural}
 use Rattle.partition.specs.Bits.{top}

@@ -1,7 +1,6 @@
 // A row put on an accepted store.
 ghost use mathlib.Core.Path.{_≡_};
-ghost use Prim.Native.Nat.{_+_, _≤_, _<_};
-ghost use lib.ListN.{length};
+ghost use Prim.Native.Nat.{_+_, _<_};
 ghost use Rattle.ground.specs.Ladder.{Answers};
 ghost use Rattle.hash.specs.Fnv.{fnv};
 ghost use Rattle.page.specs.Page.{Natural, count, code};
@@ -42,8 +41,8 @@ fn add_row(s: &mut [u8], p: usize, i: usize, key: &[u8], place: &[u8]) -> store:
 }
 
 // No bucket holds the hash x of the code: a new one takes the lowest free page.
-fn new_bucket(s: &mut [u8], x: u32, d: u32, key: &[u8], place: &[u8]) -> store::Answer
-    requires { ⌜ Puttable fnv (now s) (now key) (now place) × (x ≡ fnv (now key)) × (d ≡ dirDepth (now s)) × (entryOf S1024 fnv (now s) (now key) ≡ 0) ⌝ }
+fn new_bucket(s: &mut [u8], x: u32, key: &[u8], place: &[u8]) -> store::Answer
+    requires { ⌜ Puttable fnv (now s) (now key) (now place) × (x ≡ fnv (now key)) × (entryOf S1024 fnv (now s) (now key) ≡ 0) ⌝ }
     ensures { λ r. ⌜ Answers (putAccepted S1024 fnv (now (s .entry)) (record { code = now (key .entry); place = now (place .entry) })) (meaning r, now (s .exit)) ⌝ }
 {
     let n = s.len() / 1024;
@@ -51,6 +50,7 @@ fn new_bucket(s: &mut [u8], x: u32, d: u32, key: &[u8], place: &[u8]) -> store::
     if p == n {
         return store::Answer::PagesFull;
     }
+    let d = words::get32(s, 16) as u32;
     let k = vacant_depth(s, x, d);
     let a = p * 1024;
     let e = a + 1024;
@@ -85,11 +85,9 @@ pub fn put_row(s: &mut [u8], key: &[u8], place: &[u8]) -> store::Answer
     ensures { λ r. ⌜ Answers (putAccepted S1024 fnv (now (s .entry)) (record { code = now (key .entry); place = now (place .entry) })) (meaning r, now (s .exit)) ⌝ }
 {
     let x = hash::hash(key);
-    let d = words::get32(s, 16) as u32;
-    let i = partition::top_bits(x, d) as usize;
-    let p = words::get32(s, 1024 + 4 * i);
+    let p = rows::entry_of(s, x);
     if p == 0 {
-        return new_bucket(s, x, d, key, place);
+        return new_bucket(s, x, key, place);
     }
     put_on(s, p, key, place)
 }

@@ -1,5 +1,4 @@
 // A page that is split.
-ghost use mathlib.Core.Path.{_≡_};
 ghost use mathlib.Core.List.{_∷_, map};
 ghost use Prim.Native.Nat.{_+_, _<_};
 ghost use lib.ListN.{length};

@@ -1,5 +1,4 @@
 // The depth of a bucket that did not exist.
-ghost use mathlib.Core.Path.{_≡_};
 ghost use Prim.Native.Nat.{_≤_};
 ghost use lib.ListN.{length};
 ghost use Rattle.ground.specs.Says.{Says};

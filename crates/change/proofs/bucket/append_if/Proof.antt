@@ -1,15 +1,14 @@
+-- `change::append_if` meets its contract. Assumes nothing.
 use Rattle.change.proofs.Appends.{appended-none, ready, done, rows-yes, rows-no}
 use Rattle.change.specs.Split.{Behind, Appended}
 use Rattle.partition.specs.Partition.{Row, rowsOf}
 use Rattle.partition.specs.Bits.{top}
 use Rattle.page.specs.Steps.{Insertable, Inserted}
-use Rattle.page.specs.Page.{count}
 use Rattle.hash.specs.Fnv.{fnv}
 use denote.Ref.{now}
 use Prim.Native.Nat.{ℕ}
 use mathlib.Core.List.{List, [], _∷_}
 use mathlib.Core.Path.{_≡_, sym, ap, subst, _∙_}
--- `change::append_if` meets its contract. Assumes nothing.
 use borrow.Author.Needs.{needs}
 use Rattle.change.proofs.bucket.append_if.Statement.{statement}
 use Rattle.change.proofs.bucket.append_if.Tie as tie

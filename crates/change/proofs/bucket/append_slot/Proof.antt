@@ -1,3 +1,4 @@
+-- `change::append_slot` meets its contract. Assumes nothing.
 use Rattle.page.proofs.Sums.{place-part, len-of-code}
 use Rattle.page.proofs.Slots.{lies, code-part}
 use Rattle.page.specs.Page.{place, code}
@@ -7,7 +8,6 @@ use native.Mathlib.Omega.{arith}
 use Prim.Native.Nat.{ℕ, _+_, _-_}
 use mathlib.Core.List.{List}
 use mathlib.Core.Path.{_≡_}
--- `change::append_slot` meets its contract. Assumes nothing.
 use borrow.Author.Needs.{needs}
 use Rattle.change.proofs.bucket.append_slot.Statement.{statement}
 use Rattle.change.proofs.bucket.append_slot.Tie as tie

@@ -1,3 +1,4 @@
+-- `change::append_slots` meets its contract: those put behind, and room for those that are left. Assumes nothing.
 use Rattle.change.proofs.Appends.{behind-left, behind-next, appended-none, appended-then, slots-none, slots-more, slots-apart}
 use Rattle.change.specs.Split.{slots, Behind, Appended}
 use Rattle.store.specs.Pages.{asRow}
@@ -10,7 +11,6 @@ use native.Mathlib.Omega.{arith}
 use Prim.Native.Nat.{ℕ, _+_, _-_, _≤_, _<_}
 use mathlib.Core.List.{List, [], _∷_, _++_}
 use mathlib.Core.Path.{_≡_, refl, sym, subst, _∙_}
--- `change::append_slots` meets its contract: those put behind, and room for those that are left. Assumes nothing.
 use Rattle.change.proofs.bucket.append_slots.Statement.{statement}
 use Rattle.change.proofs.bucket.append_slots.Tie as tie
 

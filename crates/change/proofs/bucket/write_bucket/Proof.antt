@@ -1,3 +1,4 @@
+-- `change::write_bucket` meets its contract: the rows before the new one, the new one, and those behind it. Assumes nothing.
 use Rattle.change.proofs.Appends.{behind-left, behind-next, appended-then, fresh-behind, bucketed}
 use Rattle.change.specs.Split.{slots, Behind, Appended}
 use Rattle.partition.specs.Partition.{Row, rowsOf}
@@ -5,10 +6,9 @@ use Rattle.page.specs.Page.{count}
 use Rattle.hash.specs.Fnv.{fnv}
 use denote.Ref.{now}
 use native.Mathlib.Omega.{arith}
-use Prim.Native.Nat.{ℕ, _≤_}
+use Prim.Native.Nat.{ℕ}
 use mathlib.Core.List.{List, [], _∷_, _++_}
-use mathlib.Core.Path.{_≡_, sym, subst}
--- `change::write_bucket` meets its contract: the rows before the new one, the new one, and those behind it. Assumes nothing.
+use mathlib.Core.Path.{sym, subst}
 use borrow.Author.Needs.{needs}
 use Rattle.change.proofs.bucket.write_bucket.Statement.{statement}
 use Rattle.change.proofs.bucket.write_bucket.Tie as tie

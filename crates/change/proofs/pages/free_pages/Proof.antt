@@ -1,13 +1,13 @@
+-- `change::free_pages` meets its contract: those counted and those left are all. Assumes nothing.
 use Rattle.change.proofs.Frees.{free-more, used-more, frees-end}
 use Rattle.store.proofs.Showing.{pages-held}
 use Rattle.store.proofs.Rooms.{frees}
 use Rattle.store.specs.Pages.{S1024, contents}
 use lib.ListN.{drop}
 use native.Mathlib.Omega.{arith}
-use Prim.Native.Nat.{ℕ, _+_, _-_, _≤_, _<_}
+use Prim.Native.Nat.{_+_, _-_, _≤_}
 use mathlib.Core.Logic.{⊎-elim}
 use mathlib.Core.Path.{_≡_}
--- `change::free_pages` meets its contract: those counted and those left are all. Assumes nothing.
 use Rattle.change.proofs.pages.free_pages.Statement.{statement}
 use Rattle.change.proofs.pages.free_pages.Tie as tie
 

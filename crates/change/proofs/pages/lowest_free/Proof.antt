@@ -1,10 +1,10 @@
+-- `change::lowest_free` meets its contract: no page passed is free. Assumes nothing.
 use Rattle.change.proofs.Frees.{lowest}
 use Rattle.ground.specs.Lists.{byte}
 use borrow.Author.Count.{below-more}
 use native.Mathlib.Omega.{arith}
 use Prim.Native.Nat.{ℕ, _*_, _-_, _≤_, _<_}
 use mathlib.Core.Path.{_≡_}
--- `change::lowest_free` meets its contract: no page passed is free. Assumes nothing.
 use Rattle.change.proofs.pages.lowest_free.Statement.{statement}
 use Rattle.change.proofs.pages.lowest_free.Tie as tie
 

@@ -1,3 +1,4 @@
+-- `change::put` meets its contract: the refusals in order, then the row on an accepted store. Assumes nothing.
 use Rattle.store.proofs.Rules.{accepted-whole}
 use Rattle.store.specs.Tables.{Refusal3, putAccepted, putTable, meaning}
 use Rattle.store.specs.Accepted.{GoodLength}
@@ -13,7 +14,6 @@ use native.Mathlib.Omega.{arith}
 use mathlib.Core.Path.{refl, sym, subst}
 use mathlib.Core.Logic.{inl, inr, ⊎-elim}
 use borrow.Author.Tests.{not-true, not-false}
--- `change::put` meets its contract: the refusals in order, then the row on an accepted store. Assumes nothing.
 use borrow.Author.Needs.{needs}
 use Rattle.change.proofs.putting.put.Statement.{statement}
 use Rattle.change.proofs.putting.put.Tie as tie

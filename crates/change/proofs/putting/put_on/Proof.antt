@@ -1,3 +1,4 @@
+-- `change::put_on` meets its contract, by where the code stands. Assumes nothing.
 use Rattle.change.proofs.OnePage.{lent}
 use Rattle.store.proofs.Reading.{Naming}
 use Rattle.store.specs.Tables.{putAccepted, meaning}
@@ -12,7 +13,6 @@ use native.Mathlib.Omega.{arith}
 use Prim.Native.Nat.{ℕ, _<_}
 use mathlib.Core.List.{List}
 use mathlib.Core.Path.{_≡_, sym, ap, subst, _∙_}
--- `change::put_on` meets its contract, by where the code stands. Assumes nothing.
 use borrow.Author.Needs.{needs}
 use Rattle.change.proofs.putting.put_on.Statement.{statement}
 use Rattle.change.proofs.putting.put_on.Tie as tie

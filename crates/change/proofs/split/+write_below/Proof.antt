@@ -1,8 +1,9 @@
+-- `change::write_below` meets its contract, by the cases of `below`. Assumes nothing.
 use Rattle.change.proofs.Splits.{bare-wrote, deep-wrote, one-there, one-wrote, half-ready, other-ready, both-wrote}
 use Rattle.change.proofs.Weighs.{load-any}
 use Rattle.change.proofs.OnePage.{lent, back}
-use Rattle.change.specs.Split.{keyed, Bucketed, Writable, Wrote}
-use Rattle.store.proofs.Views.{setPage, set-long}
+use Rattle.change.specs.Split.{keyed, Writable, Wrote}
+use Rattle.store.proofs.Views.{set-long}
 use Rattle.store.proofs.Unique.{page-long}
 use Rattle.store.specs.Moves.{find, isFree}
 use Rattle.store.specs.Pages.{S1024, pages, contents, asRow}
@@ -16,8 +17,7 @@ use lib.ListN.{length}
 use native.Mathlib.Omega.{arith}
 use mathlib.Core.List.{List, _∷_, map}
 use mathlib.Core.Path.{_≡_, refl, sym, ap, subst, _∙_}
--- `change::write_below` meets its contract, by the cases of `below`. Assumes nothing.
-use Prim.Native.Nat.{ℕ, _+_, _*_, _-_, _/_, _^_, _≤_, _<_}
+use Prim.Native.Nat.{ℕ, _+_, _-_, _^_, _≤_, _<_}
 use borrow.Fn.Kinds.{In}
 use borrow.Fn.PlainCycle.{Measures, is, falls, and}
 use Rattle.change.proofs.split.write_below.Reads as write-below

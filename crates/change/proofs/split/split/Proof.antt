@@ -1,3 +1,4 @@
+-- `change::split` meets its contract: refusals 6 and 7, else the new buckets, then the directory. Assumes nothing.
 use Rattle.change.proofs.Heavy.{heavy-six, heavy-seven, source, writable, heavy-new}
 use Rattle.change.proofs.Settles.{settling}
 use Rattle.change.proofs.OnePage.{lent}
@@ -13,10 +14,9 @@ use Rattle.hash.specs.Fnv.{fnv, fnv-lt}
 use denote.Ref.{now}
 use lib.ListN.{length}
 use native.Mathlib.Omega.{arith}
-use Prim.Native.Nat.{ℕ, _+_, _≤_, _<_}
+use Prim.Native.Nat.{ℕ, _+_, _≤_}
 use mathlib.Core.List.{List, _∷_, map}
 use mathlib.Core.Path.{_≡_, sym, ap, subst, _∙_}
--- `change::split` meets its contract: refusals 6 and 7, else the new buckets, then the directory. Assumes nothing.
 use borrow.Author.Needs as Needs
 use Rattle.change.proofs.split.split.Statement.{statement}
 use Rattle.change.proofs.split.split.Tie as tie

@@ -1,13 +1,13 @@
+-- `change::unset` meets its contract: the run of entries is all that the prefix calls for. Assumes nothing.
 use Rattle.store.specs.Pages.{S1024, entryAt}
 use Rattle.partition.proofs.Directory.{holds-range}
-use Rattle.partition.specs.Partition.{Prefix, first, after}
+use Rattle.partition.specs.Partition.{Prefix}
 use Rattle.partition.specs.Bits.{top}
 use borrow.Author.Count.{below-more}
 use lib.Pow.{pow-mono}
 use native.Mathlib.Omega.{arith}
 use Prim.Native.Nat.{ℕ, _-_, _^_, _≤_, _<_}
 use mathlib.Core.Path.{_≡_, sym, _∙_}
--- `change::unset` meets its contract: the run of entries is all that the prefix calls for. Assumes nothing.
 use Rattle.change.proofs.vacant.unset.Statement.{statement}
 use Rattle.change.proofs.vacant.unset.Tie as tie
 

@@ -1,11 +1,11 @@
+-- `change::vacant_depth` meets its contract: shorter and shorter prefixes, until one has an entry. Assumes nothing.
 use Rattle.change.specs.Put.{Unset}
 use Rattle.partition.specs.Bits.{top}
 use Rattle.ground.proofs.Tests.{says-true, says-false}
 use borrow.Author.Tests.{not-true, not-false}
 use native.Mathlib.Omega.{arith}
-use Prim.Native.Nat.{ℕ, _-_, _≤_}
+use Prim.Native.Nat.{_-_, _≤_}
 use mathlib.Core.Path.{_≡_, subst}
--- `change::vacant_depth` meets its contract: shorter and shorter prefixes, until one has an entry. Assumes nothing.
 use Rattle.change.proofs.vacant.vacant_depth.Statement.{statement}
 use Rattle.change.proofs.vacant.vacant_depth.Tie as tie
 

@@ -1,3 +1,4 @@
+-- `change::count_below` meets its contract, by the cases of `below`. Assumes nothing.
 use Rattle.change.proofs.Weighs.{below-none, below-one, below-deep, below-two, below-most, double}
 use Rattle.change.specs.Split.{keyed, below}
 use Rattle.store.specs.Pages.{asRow}
@@ -10,7 +11,6 @@ use lib.ListN.{length, length-append}
 use native.Mathlib.Omega.{arith}
 use mathlib.Core.List.{List, _∷_, map}
 use mathlib.Core.Path.{sym, ap, _∙_}
--- `change::count_below` meets its contract, by the cases of `below`. Assumes nothing.
 use Prim.Native.Nat.{ℕ, _+_, _*_, _-_, _^_, _≤_, _<_}
 use borrow.Fn.Kinds.{In}
 use borrow.Fn.PlainCycle.{Measures, is, falls, and}

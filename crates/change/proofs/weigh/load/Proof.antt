@@ -1,16 +1,16 @@
+-- `change::load` meets its contract: what is added up and what is left are all. Assumes nothing.
 use Rattle.change.proofs.Weighs.{load-cons, load-slot, load-end}
 use Rattle.change.specs.Split.{keyed}
 use Rattle.store.specs.Pages.{asRow}
-use Rattle.partition.specs.Partition.{Row, needs, rowsOf}
+use Rattle.partition.specs.Partition.{needs, rowsOf}
 use Rattle.page.specs.Page.{rows, count}
 use Rattle.hash.specs.Fnv.{fnv}
 use lib.ListN.{drop}
 use denote.Ref.{now}
 use native.Mathlib.Omega.{arith}
-use Prim.Native.Nat.{ℕ, _+_, _*_, _-_, _≤_, _<_}
-use mathlib.Core.List.{List, [], _∷_, map}
+use Prim.Native.Nat.{_+_, _*_, _-_, _≤_, _<_}
+use mathlib.Core.List.{_∷_, map}
 use mathlib.Core.Path.{_≡_}
--- `change::load` meets its contract: what is added up and what is left are all. Assumes nothing.
 use Rattle.change.proofs.weigh.load.Statement.{statement}
 use Rattle.change.proofs.weigh.load.Tie as tie
 

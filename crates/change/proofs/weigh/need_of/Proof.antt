@@ -1,3 +1,4 @@
+-- `change::need_of` meets its contract. Assumes nothing.
 use Rattle.change.proofs.Weighs.{load-yes, load-no}
 use mathlib.Core.Path.{ap}
 use Rattle.partition.specs.Bits.{top}
@@ -5,7 +6,6 @@ use Rattle.hash.specs.Fnv.{fnv}
 use denote.Ref.{now}
 use native.Mathlib.Omega.{arith}
 use mathlib.Core.Path.{sym, _∙_}
--- `change::need_of` meets its contract. Assumes nothing.
 use borrow.Author.Needs.{needs}
 use Rattle.change.proofs.weigh.need_of.Statement.{statement}
 use Rattle.change.proofs.weigh.need_of.Tie as tie

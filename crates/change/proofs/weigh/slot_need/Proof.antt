@@ -1,13 +1,12 @@
+-- `change::slot_need` meets its contract. Assumes nothing.
 use Rattle.page.proofs.Sums.{len-of-code}
 use Rattle.page.proofs.Slots.{lies, code-part}
 use Rattle.page.specs.Page.{code}
 use lib.ListN.{length, take, drop}
 use denote.Ref.{now}
 use native.Mathlib.Omega.{arith}
-use Prim.Native.Nat.{ℕ, _+_, _-_, _≤_}
-use mathlib.Core.List.{List}
-use mathlib.Core.Path.{_≡_, ap, _∙_}
--- `change::slot_need` meets its contract. Assumes nothing.
+use Prim.Native.Nat.{_+_, _-_}
+use mathlib.Core.Path.{_≡_, ap}
 use borrow.Author.Needs.{needs}
 use Rattle.change.proofs.weigh.slot_need.Statement.{statement}
 use Rattle.change.proofs.weigh.slot_need.Tie as tie
