@@ -49,7 +49,7 @@ pub fn count(s: &[u8]) -> Answer
 }
 
 // The place of a code, on an accepted store.
-fn place_of(s: &[u8], key: &[u8]) -> Answer
+pub fn place_of(s: &[u8], key: &[u8]) -> Answer
     requires { ⌜ Accepted S1024 fnv (now s) ⌝ }
     ensures { λ r. ⌜ Answers (lookedUp S1024 (now (s .entry)) (now (key .entry))) (meaning r) ⌝ }
 {
@@ -84,7 +84,7 @@ pub fn lookup(s: &[u8], key: &[u8]) -> Answer
 }
 
 // The row at place n of the listing, its code to the start of the output, on an accepted store.
-fn give_row(s: &[u8], n: usize, out: &mut [u8]) -> Answer
+pub fn give_row(s: &[u8], n: usize, out: &mut [u8]) -> Answer
     requires { ⌜ Accepted S1024 fnv (now s) × (64 ≤ length (now out)) ⌝ }
     ensures { λ r. ⌜ Answers (rowOf (listing S1024 fnv (rowsHeld S1024 (now (s .entry)))) n (now (out .entry))) (meaning r, now (out .exit)) ⌝ }
 {
