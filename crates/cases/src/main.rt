@@ -1,5 +1,6 @@
 // The worked cases of document 01 that run; what they must write stands in `stdout`.
 mod answers;
+mod history;
 mod reads;
 mod refusals;
 mod show;
@@ -15,6 +16,20 @@ fn main() {
     damaged[1024] = 1;
     refusals::all(&store, &damaged);
     reads::row_by_row();
+    histories(&mut store);
+}
+
+// On what the other cases left, and on larger stores.
+fn histories(store: &mut [u8]) {
+    let mut nine = [0xAAu8; 9216];
+    let mut five = [0xAAu8; 5120];
+    history::full(store);
+    history::crowded(store);
+    history::deep_split(&mut nine);
+    history::deep_join(&mut nine);
+    history::fragmented(store);
+    history::joined(&mut five);
+    history::cleared(&mut five);
 }
 
 // In 3 pages, "a" with place (7, 2, 0), whatever they held.

@@ -1,0 +1,279 @@
+// Case 11, and histories through a deep split, a full store, a crowded prefix, a join over levels, emptied buckets and a fragmented page.
+// Rows go in and out only as long as the check accepts after each step.
+ghost use mathlib.Core.Path.{_≡_};
+ghost use Prim.Native.Nat.{_≤_};
+ghost use lib.ListN.{length};
+use super::answers::say_number;
+use super::answers::say_place;
+use super::show::digits;
+use libc::STDOUT_FILENO;
+
+// Codes of one length, 2 to 64 bytes, whose hashes begin with these bits.
+struct Kind {
+    len: usize,
+    bits: u32,
+    value: u64,
+}
+
+// Code number i of every length: two bytes that count, then letters.
+fn write_code(code: &mut [u8], i: u32)
+    requires { ⌜ 2 ≤ length (now code) ⌝ }
+{
+    code[0] = (i % 256) as u8;
+    code[1] = (i / 256 % 256) as u8;
+}
+
+// Whether code number i is of the kind.
+fn is_of(kind: Kind, i: u32) -> bool
+    requires { ⌜ (kind .len ≤ 64) × (kind .bits ≤ 8) ⌝ }
+{
+    let mut code = [120u8; 64];
+    write_code(&mut code, i);
+    let len = kind.len;
+    partition::top_bits(hash::hash(&code[0..len]), kind.bits) == kind.value
+}
+
+// The number of the kind's code n, counted from 0.
+fn number_of(kind: Kind, n: u32) -> u32
+    requires { ⌜ (kind .len ≤ 64) × (kind .bits ≤ 8) ⌝ }
+{
+    let mut left = n;
+    let mut i = 0;
+    while i < 65536 {
+        if is_of(kind, i) {
+            if left == 0 {
+                return i;
+            }
+            left -= 1;
+        }
+        i += 1;
+    }
+    i
+}
+
+// Puts the kind's row n.
+fn put(store: &mut [u8], kind: Kind, n: u32) -> u64
+    requires { ⌜ (kind .len ≤ 64) × (kind .bits ≤ 8) ⌝ }
+{
+    let mut code = [120u8; 64];
+    write_code(&mut code, number_of(kind, n));
+    let len = kind.len;
+    lots_c::lots_put(store, &code[0..len], 1, 2, 3)
+}
+
+// Removes it.
+fn remove(store: &mut [u8], kind: Kind, n: u32) -> u64
+    requires { ⌜ (kind .len ≤ 64) × (kind .bits ≤ 8) ⌝ }
+{
+    let mut code = [120u8; 64];
+    write_code(&mut code, number_of(kind, n));
+    let len = kind.len;
+    lots_c::lots_remove(store, &code[0..len])
+}
+
+// Whether a call was obeyed and the check accepts what it left.
+fn went_well(store: &[u8], word: u64) -> bool {
+    if 9223372036854775808 <= word {
+        return false;
+    }
+    lots_c::lots_check(store) == 0
+}
+
+// Puts the kind's first rows; how many of them went well.
+fn put_all(store: &mut [u8], kind: Kind, many: u32) -> u64
+    requires { ⌜ (kind .len ≤ 64) × (kind .bits ≤ 8) ⌝ }
+{
+    let mut n = 0;
+    while n < many {
+        let word = put(store, kind, n);
+        if !went_well(store, word) {
+            return n as u64;
+        }
+        n += 1;
+    }
+    n as u64
+}
+
+// Removes them.
+fn remove_all(store: &mut [u8], kind: Kind, many: u32) -> u64
+    requires { ⌜ (kind .len ≤ 64) × (kind .bits ≤ 8) ⌝ }
+{
+    let mut n = 0;
+    while n < many {
+        let word = remove(store, kind, n);
+        if !went_well(store, word) {
+            return n as u64;
+        }
+        n += 1;
+    }
+    n as u64
+}
+
+// The header of each page from 2 on, the rows, and what the check says.
+fn say(store: &[u8]) {
+    headers(store);
+    say_number(b"rows:", lots_c::lots_count(store));
+    say_number(b"check:", lots_c::lots_check(store));
+}
+
+fn headers(store: &[u8]) {
+    let n = store.len() / 1024;
+    let mut p = 2;
+    while p < n {
+        let a = p * 1024;
+        digits(&store[a..a + 8]);
+        p += 1;
+    }
+}
+
+// Case 11, where not all share 8 bits: in 3 pages 13 rows of 64-byte codes.
+pub fn full(store: &mut [u8]) {
+    io::write_all(STDOUT_FILENO, b"case 11, full store\n");
+    let any = Kind {
+        len: 64,
+        bits: 0,
+        value: 0,
+    };
+    say_number(b"format:", lots_c::lots_format(store));
+    say_number(b"rows put:", put_all(store, any, 13));
+    say_place(b"a 14th:", put(store, any, 13));
+    say_place(b"on one of the 13:", put(store, any, 5));
+    say(store);
+}
+
+// Case 11, where all share 8 bits.
+pub fn crowded(store: &mut [u8]) {
+    io::write_all(STDOUT_FILENO, b"case 11, crowded prefix\n");
+    let alike = Kind {
+        len: 64,
+        bits: 8,
+        value: 90,
+    };
+    say_number(b"format:", lots_c::lots_format(store));
+    say_number(b"rows put:", put_all(store, alike, 13));
+    say_place(b"a 14th:", put(store, alike, 13));
+    say_place(b"on one of the 13:", put(store, alike, 5));
+    say(store);
+}
+
+// A row at 1, one at 01 and so on to 000001; how many went well.
+fn put_ladder(store: &mut [u8]) -> u64 {
+    let mut bits = 0;
+    while bits < 6 {
+        bits += 1;
+        let rung = Kind {
+            len: 2,
+            bits,
+            value: 1,
+        };
+        let word = put(store, rung, 0);
+        if !went_well(store, word) {
+            return 0;
+        }
+    }
+    bits as u64
+}
+
+// In 9 pages rows as in case 9, with codes of 2 and 3 bytes: one long code more, and seven buckets take all pages.
+pub fn deep_split(store: &mut [u8]) {
+    io::write_all(STDOUT_FILENO, b"deep split\n");
+    let short = Kind {
+        len: 3,
+        bits: 6,
+        value: 0,
+    };
+    let long = Kind {
+        len: 64,
+        bits: 6,
+        value: 0,
+    };
+    say_number(b"format:", lots_c::lots_format(store));
+    say_number(b"rows put at 1, 01 to 000001:", put_ladder(store));
+    say_number(b"rows put at 000000:", put_all(store, short, 62));
+    say(store);
+    say_place(b"a long one there:", put(store, long, 0));
+    say(store);
+}
+
+// The seven buckets join over six levels when the long code goes.
+pub fn deep_join(store: &mut [u8]) {
+    io::write_all(STDOUT_FILENO, b"join over levels\n");
+    let first = Kind {
+        len: 64,
+        bits: 1,
+        value: 1,
+    };
+    let long = Kind {
+        len: 64,
+        bits: 6,
+        value: 0,
+    };
+    say_number(
+        b"long rows put at 1, as far as they go:",
+        put_all(store, first, 20),
+    );
+    say_place(b"the next:", put(store, first, 13));
+    say_number(b"removed:", remove_all(store, first, 13));
+    say(store);
+    say_place(b"the long one at 000000 removed:", remove(store, long, 0));
+    say(store);
+}
+
+// In 3 pages a hole before the frontier: the page is packed, not split.
+pub fn fragmented(store: &mut [u8]) {
+    io::write_all(STDOUT_FILENO, b"fragmented page\n");
+    let any = Kind {
+        len: 64,
+        bits: 0,
+        value: 0,
+    };
+    say_number(b"format:", lots_c::lots_format(store));
+    say_number(b"rows put:", put_all(store, any, 13));
+    say_place(b"the first removed:", remove(store, any, 0));
+    say(store);
+    say_place(b"a 14th:", put(store, any, 13));
+    say(store);
+}
+
+// In 5 pages a bucket of one row loses it and joins its sibling (case 8).
+pub fn joined(store: &mut [u8]) {
+    io::write_all(STDOUT_FILENO, b"emptied bucket, joined\n");
+    let left = Kind {
+        len: 64,
+        bits: 2,
+        value: 0,
+    };
+    let right = Kind {
+        len: 64,
+        bits: 2,
+        value: 1,
+    };
+    say_number(b"format:", lots_c::lots_format(store));
+    say_number(b"rows put at 00:", put_all(store, left, 13));
+    say_place(b"one at 01:", put(store, right, 0));
+    say(store);
+    say_place(b"removed:", remove(store, right, 0));
+    say(store);
+}
+
+// A bucket of one row loses it with nothing to join: its page is cleared, and taken again.
+pub fn cleared(store: &mut [u8]) {
+    io::write_all(STDOUT_FILENO, b"emptied bucket, cleared\n");
+    let right = Kind {
+        len: 64,
+        bits: 2,
+        value: 1,
+    };
+    let other = Kind {
+        len: 64,
+        bits: 1,
+        value: 1,
+    };
+    say_place(b"one at 1:", put(store, other, 0));
+    say_number(b"rows put at 01:", put_all(store, right, 13));
+    say(store);
+    say_place(b"the one at 1 removed:", remove(store, other, 0));
+    say(store);
+    say_place(b"and put again:", put(store, other, 0));
+    say(store);
+}
