@@ -1,52 +1,156 @@
--- The answer words are one-to-one: of two different answers of a call the words differ. Assumes nothing.
-use mathlib.Core.Path.{_≡_, refl, sym, ap, _∙_}
+-- One word tells one answer: of each call the answer is read off its word (of a row, with the code's length), whatever the call was given.
+-- Assumes nothing.
+use mathlib.Core.Path.{_≡_, refl, sym, ap, subst, _∙_}
+use mathlib.Core.Bool.{cond}
+use mathlib.Core.List.{List}
+use mathlib.Core.Logic.{_⊎_, inl, inr, ⊎-elim}
 use Prim.Native.Nat.{ℕ, _+_, _*_, _/_, _%_, _^_, _≤_, _<_}
 use native.Mathlib.Omega.{arith}
-use lib.IntN.{ℤ, pos}
+use borrow.Author.Tests.{lt-ltb, le-ltb, ne-eqb}
+use lib.Dec.{ltb, eqb}
+use lib.IntN.{pos}
+use Rattle.hash.specs.Fnv.{fnv, fnv-lt}
+use Rattle.page.specs.Places.{place, InRange}
 use Rattle.page.specs.declared.Place.{Place}
-use Rattle.store.specs.Tables.{Out, refused, refusedAt, formatted, accepted, new, replaced, found, counted, row}
-use Rattle.lots_c.specs.Words.{plain, placeWord, refusalWord, word, lengthAfter}
+use Rattle.store.specs.Pages.{S1024}
+use Rattle.store.specs.Tables.{Out, refused, refusedAt, formatted, accepted, new, replaced, found, counted, row, formatTable, checkTable, countTable, lookupTable, putTable, removeTable, rowTable, inspectTable}
+use Rattle.store.specs.Demands.{sized-1024}
+use Rattle.store.proofs.Said.{Refusal, Placed, Rowed, Counted, Kept, Said, format-said, check-said, count-said, lookup-said, put-said, remove-said, row-said, inspect-said}
+use Rattle.lots_c.specs.Words.{plain, placeWord, refusalWord, word, lengthAfter, Tells, TellsAnd, TellsRow}
 
--- a place as the calls answer it: no part negative, each in its range
-pub record Fit (p : Place) : Type 0 where
-  pub page : pos (plain (p .page)) ≡ p .page
-  pub slot : pos (plain (p .slot)) ≡ p .slot
-  pub volume : pos (plain (p .volume)) ≡ p .volume
-  pub page-small : plain (p .page) < 2 ^ 31
-  pub slot-small : plain (p .slot) < 2 ^ 15
-  pub volume-small : plain (p .volume) < 2 ^ 15
+-- ---- what a caller reads off a word
 
-pub refusal-one : (n m p q : ℕ) → n < 256 → m < 256 → p < 2 ^ 32 → q < 2 ^ 32 → refusalWord n p ≡ refusalWord m q → (n ≡ m) × (p ≡ q)
-refusal-one n m p q a b c d e = (omega arith, omega arith)
+abbrev placeIn : ℕ → Place
+placeIn w = record { page = pos (w % 2 ^ 32); slot = pos (w / 2 ^ 32 % 2 ^ 16); volume = pos (w / 2 ^ 48) }
 
-pub place-small : {p : Place} → Fit p → placeWord p < 2 ^ 63
-place-small f = omega (arith, f .page-small, f .slot-small, f .volume-small)
+abbrev refusalIn : ℕ → Out
+refusalIn w = cond (eqb (w % 256) 2) (refusedAt 2 (w / 256 % 2 ^ 32)) (refused (w % 256))
 
-pub refusal-large : (n p : ℕ) → 2 ^ 63 ≤ refusalWord n p
-refusal-large n p = omega arith
+abbrev putIn : ℕ → Out
+putIn w = cond (eqb w (2 ^ 31)) new (replaced (placeIn w))
 
--- the word for a new row is no place
-pub new-no-place : {p : Place} → Fit p → placeWord p ≡ 2 ^ 31 → ⊥
-new-no-place f e = omega (arith, f .page-small, f .slot-small, f .volume-small)
+-- bit 63 says whether it is a refusal
+abbrev readOff : (ℕ → Out) → ℕ → Out
+readOff value w = cond (ltb w (2 ^ 63)) (value w) (refusalIn w)
 
--- the parts of a place, read off its word
-module _ {p : Place} (f : Fit p) where
-  page-of : placeWord p % 4294967296 ≡ plain (p .page)
-  page-of = omega (arith, f .page-small, f .slot-small, f .volume-small)
+-- ---- it is the answer
 
-  slot-of : placeWord p / 4294967296 % 65536 ≡ plain (p .slot)
-  slot-of = omega (arith, f .page-small, f .slot-small, f .volume-small)
+large : (value : ℕ → Out) (w : ℕ) → 2 ^ 63 ≤ w → readOff value w ≡ refusalIn w
+large value w h = rw (le-ltb w (2 ^ 63) h) refl
 
-  volume-of : placeWord p / 281474976710656 ≡ plain (p .volume)
-  volume-of = omega (arith, f .page-small, f .slot-small, f .volume-small)
+low : (value : ℕ → Out) (w : ℕ) → w < 2 ^ 63 → readOff value w ≡ value w
+low value w h = rw (lt-ltb w (2 ^ 63) h) refl
 
-pub place-one : {p q : Place} → Fit p → Fit q → placeWord p ≡ placeWord q → p ≡ q
-place-one {p} {q} f g e =
-    let a : plain (p .page) ≡ plain (q .page) = sym (page-of f) ∙ ap (λ w. w % 4294967296) e ∙ page-of g in
-    let b : plain (p .slot) ≡ plain (q .slot) = sym (slot-of f) ∙ ap (λ w. w / 4294967296 % 65536) e ∙ slot-of g in
-    let c : plain (p .volume) ≡ plain (q .volume) = sym (volume-of f) ∙ ap (λ w. w / 281474976710656) e ∙ volume-of g in
-    λ i. record {
-      page = (sym (f .page) ∙ ap pos a ∙ g .page) i;
-      slot = (sym (f .slot) ∙ ap pos b ∙ g .slot) i;
-      volume = (sym (f .volume) ∙ ap pos c ∙ g .volume) i;
-    }
+numbered : (w n : ℕ) → w % 256 ≡ n → (n ≡ 2 → ⊥) → refusalIn w ≡ refused n
+numbered w n e d = rw (e, ne-eqb n 2 d) refl
+
+paged : (w p : ℕ) → w % 256 ≡ 2 → w / 256 % 2 ^ 32 ≡ p → refusalIn w ≡ refusedAt 2 p
+paged w p e f = rw (e, f) refl
+
+refusal-off : (value : ℕ → Out) (o : Out) {most : ℕ} → most ≤ 2 ^ 32 → Refusal most o → readOff value (word o) ≡ o
+refusal-off value o m (inl (n, (l, d, e))) =
+    subst (λ x. readOff value (word x) ≡ x) (sym e) (large value (refusalWord n 0) (omega arith) ∙ numbered (refusalWord n 0) n (omega arith) d)
+refusal-off value o m (inr (p, (l, e))) =
+    subst (λ x. readOff value (word x) ≡ x) (sym e) (large value (refusalWord 2 p) (omega arith) ∙ paged (refusalWord 2 p) p (omega arith) (omega arith))
+
+-- three numbers and their word
+module _ (x y z : ℕ) (hx : x < 2 ^ 31) (hy : y < 2 ^ 15) (hz : z < 2 ^ 15) where
+  page-of : (x + 4294967296 * y + 281474976710656 * z) % 4294967296 ≡ x
+  page-of = omega arith
+
+  slot-of : (x + 4294967296 * y + 281474976710656 * z) / 4294967296 % 65536 ≡ y
+  slot-of = omega arith
+
+  volume-of : (x + 4294967296 * y + 281474976710656 * z) / 281474976710656 ≡ z
+  volume-of = omega arith
+
+-- a place and its word
+module _ (b : List ℕ) (r : InRange (place b)) where
+  small : placeWord (place b) < 2 ^ 63
+  small = omega (arith, r .page, r .slot, r .volume)
+
+  back : placeIn (placeWord (place b)) ≡ place b
+  back =
+      let x : ℕ = plain (place b .page) in
+      let y : ℕ = plain (place b .slot) in
+      let z : ℕ = plain (place b .volume) in
+      λ i. record {
+        page = pos (page-of x y z (r .page) (r .slot) (r .volume) i);
+        slot = pos (slot-of x y z (r .page) (r .slot) (r .volume) i);
+        volume = pos (volume-of x y z (r .page) (r .slot) (r .volume) i);
+      }
+
+  not-new : placeWord (place b) ≡ 2 ^ 31 → ⊥
+  not-new e = omega (arith, r .page, r .slot, r .volume)
+
+place-off : (value : Place → Out) → ((p : Place) → word (value p) ≡ placeWord p) → (o : Out) → Placed value o → readOff (λ w. value (placeIn w)) (word o) ≡ o
+place-off value is o (b, (r, e)) =
+    let w : word o ≡ placeWord (place b) = ap word e ∙ is (place b) in
+    rw w (low (λ w. value (placeIn w)) (placeWord (place b)) (small b r) ∙ ap value (back b r) ∙ sym e)
+
+put-off : (o : Out) → Kept o → readOff putIn (word o) ≡ o
+put-off o (inl e) = subst (λ x. readOff putIn (word x) ≡ x) (sym e) refl
+put-off o (inr (b, (r, e))) =
+    let w : word o ≡ placeWord (place b) = ap word e in
+    let v : putIn (placeWord (place b)) ≡ replaced (place b) = rw (ne-eqb (placeWord (place b)) (2 ^ 31) (not-new b r)) (ap replaced (back b r)) in
+    rw w (low putIn (placeWord (place b)) (small b r) ∙ v ∙ sym e)
+
+count-off : (o : Out) {most : ℕ} → most < 2 ^ 63 → Counted most o → readOff counted (word o) ≡ o
+count-off o m (n, (l, e)) = subst (λ x. readOff counted (word x) ≡ x) (sym e) (low counted n (omega arith))
+
+-- ---- one word, one answer
+
+-- where every answer of a call is read off its word, the word tells one
+same : (value : ℕ → Out) {a b : Out} {r : ℕ} → r ≡ word a → r ≡ word b → readOff value (word a) ≡ a → readOff value (word b) ≡ b → a ≡ b
+same value e f x y = sym x ∙ ap (readOff value) (sym e ∙ f) ∙ y
+
+module _ (value : ℕ → Out) (Values : Out → Type 0) (most : ℕ) (m : most ≤ 2 ^ 32) (off : (o : Out) → Values o → readOff value (word o) ≡ o) where
+  one : {a b : Out} {r : ℕ} → r ≡ word a → r ≡ word b → Said most Values a → Said most Values b → a ≡ b
+  one {a} {b} e f s t = same value e f (read a s) (read b t)
+    where
+      read : (o : Out) → Said most Values o → readOff value (word o) ≡ o
+      read o s = ⊎-elim (refusal-off value o m) (off o) s
+
+pub format-one : (s t u v : List ℕ) (r : ℕ) (a : TellsAnd (formatTable S1024 s) u r) (b : TellsAnd (formatTable S1024 t) v r) → a .out ≡ b .out
+format-one s t u v r a b = one (λ _. formatted) (λ o. o ≡ formatted) 0 (omega arith) (λ o e. subst (λ x. readOff (λ _. formatted) (word x) ≡ x) (sym e) refl) (a .is) (b .is)
+    (format-said S1024 fnv s (a .out, u) (a .allowed)) (format-said S1024 fnv t (b .out, v) (b .allowed))
+
+pub check-one : (s t : List ℕ) (r : ℕ) (a : Tells (checkTable S1024 fnv s) r) (b : Tells (checkTable S1024 fnv t) r) → a .out ≡ b .out
+check-one s t r a b = one (λ _. accepted) (λ o. o ≡ accepted) 258 (omega arith) (λ o e. subst (λ x. readOff (λ _. accepted) (word x) ≡ x) (sym e) refl) (a .is) (b .is)
+    (check-said S1024 fnv s (a .out) (a .allowed)) (check-said S1024 fnv t (b .out) (b .allowed))
+
+pub count-one : (s t : List ℕ) (r : ℕ) (a : Tells (countTable S1024 fnv s) r) (b : Tells (countTable S1024 fnv t) r) → a .out ≡ b .out
+count-one s t r a b = one counted (Counted 4194304) 258 (omega arith) (λ o. count-off o (omega arith)) (a .is) (b .is)
+    (count-said S1024 fnv sized-1024 fnv-lt s (a .out) (a .allowed)) (count-said S1024 fnv sized-1024 fnv-lt t (b .out) (b .allowed))
+
+pub lookup-one : (s t c d : List ℕ) (r : ℕ) (a : Tells (lookupTable S1024 fnv s c) r) (b : Tells (lookupTable S1024 fnv t d) r) → a .out ≡ b .out
+lookup-one s t c d r a b = one (λ w. found (placeIn w)) (Placed found) 258 (omega arith) (place-off found (λ p. refl)) (a .is) (b .is)
+    (lookup-said S1024 fnv sized-1024 fnv-lt s c (a .out) (a .allowed)) (lookup-said S1024 fnv sized-1024 fnv-lt t d (b .out) (b .allowed))
+
+pub remove-one : (s t c d u v : List ℕ) (r : ℕ) (a : TellsAnd (removeTable S1024 fnv s c) u r) (b : TellsAnd (removeTable S1024 fnv t d) v r) → a .out ≡ b .out
+remove-one s t c d u v r a b = one (λ w. found (placeIn w)) (Placed found) 258 (omega arith) (place-off found (λ p. refl)) (a .is) (b .is)
+    (remove-said S1024 fnv sized-1024 fnv-lt s c (a .out, u) (a .allowed)) (remove-said S1024 fnv sized-1024 fnv-lt t d (b .out, v) (b .allowed))
+
+pub put-one : (s t c d u v : List ℕ) (p q : Place) (r : ℕ) (a : TellsAnd (putTable S1024 fnv s c p) u r) (b : TellsAnd (putTable S1024 fnv t d q) v r) → a .out ≡ b .out
+put-one s t c d u v p q r a b = one putIn Kept 258 (omega arith) put-off (a .is) (b .is)
+    (put-said S1024 fnv sized-1024 fnv-lt s c p (a .out, u) (a .allowed)) (put-said S1024 fnv sized-1024 fnv-lt t d q (b .out, v) (b .allowed))
+
+-- a row, with the code's length
+abbrev Sized : ℕ → Out → Type 0
+Sized len o = (old : ℕ) × ((len ≡ lengthAfter o old) × Rowed o)
+
+row-off : (len : ℕ) (o : Out) → Sized len o → readOff (λ w. row len (placeIn w)) (word o) ≡ o
+row-off len o (old, (z, (l, (h, (b, (r, e)))))) =
+    let n : len ≡ l = z ∙ ap (λ x. lengthAfter x old) e ∙ omega arith in
+    place-off (row len) (λ p. refl) o (b, (r, e ∙ ap (λ k. row k (place b)) (sym n)))
+
+sized : (len old : ℕ) {most : ℕ} (o : Out) → len ≡ lengthAfter o old → Said most Rowed o → Said most (Sized len) o
+sized len old o z s = ⊎-elim inl (λ r. inr (old, (z, r))) s
+
+pub row-one : (s t u v out out′ : List ℕ) (m n old old′ len r : ℕ) (a : TellsRow (rowTable S1024 fnv s m out) u old len r) (b : TellsRow (rowTable S1024 fnv t n out′) v old′ len r) → a .out ≡ b .out
+row-one s t u v out out′ m n old old′ len r a b = one (λ w. row len (placeIn w)) (Sized len) 258 (omega arith) (row-off len) (a .is) (b .is)
+    (sized len old (a .out) (a .size) (row-said S1024 fnv sized-1024 fnv-lt s m out (a .out, u) (a .allowed))) (sized len old′ (b .out) (b .size) (row-said S1024 fnv sized-1024 fnv-lt t n out′ (b .out, v) (b .allowed)))
+
+pub inspect-one : (g k u v out out′ : List ℕ) (m n old old′ len r : ℕ) (a : TellsRow (inspectTable S1024 fnv g m out) u old len r) (b : TellsRow (inspectTable S1024 fnv k n out′) v old′ len r) → a .out ≡ b .out
+inspect-one g k u v out out′ m n old old′ len r a b = one (λ w. row len (placeIn w)) (Sized len) 1 (omega arith) (row-off len) (a .is) (b .is)
+    (sized len old (a .out) (a .size) (inspect-said S1024 fnv g m out (a .out, u) (a .allowed))) (sized len old′ (b .out) (b .size) (inspect-said S1024 fnv k n out′ (b .out, v) (b .allowed)))

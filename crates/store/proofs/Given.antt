@@ -14,10 +14,10 @@ use Rattle.ground.proofs.Sides.{side}
 use Rattle.ground.proofs.Parts.{byte-part}
 use Rattle.ground.proofs.Ladders.{each}
 use Rattle.page.specs.Page.{Slotted, rows, code, place as bytesAt, off}
-use Rattle.page.specs.Places.{place, stored}
+use Rattle.page.specs.Places.{place, stored, InRange}
 use Rattle.page.specs.declared.Place.{Place}
 use Rattle.page.proofs.Sums.{len-of-code}
-use Rattle.page.proofs.Stored.{stored-place, place-stored}
+use Rattle.page.proofs.Stored.{stored-place, place-stored, natural-page, natural-slot, natural-volume}
 use Rattle.partition.specs.Partition.{Shape, Row}
 use Rattle.partition.specs.Listing.{listing}
 use Rattle.partition.proofs.Maps.{found}
@@ -44,7 +44,7 @@ at-start c out h = record {
       rw e at (getD-append-add c (drop (length c) out) (k - length c) 0 ∙ getD-drop (length c) out (k - length c) 0);
 }
 
-differ : {o : Option Row} {r : Row} → o ≡ none → o ≡ some r → ⊥
+pub differ : {o : Option Row} {r : Row} → o ≡ none → o ≡ some r → ⊥
 differ e f = let n : _≡_ {A = ℕ} 0 1 = cc in omega arith
 
 nth : (rs : List Row) (n : ℕ) (out : List ℕ) → ((r : Row) → getElem? rs n ≡ some r → length (r .code) ≤ length out)
@@ -71,21 +71,24 @@ part-bytes g k b l i = ⊎-elim
     (λ h. let e : byte (part g k 8) i ≡ 0 = List·getD-eq-default (part g k 8) 0 (omega arith) in omega arith)
     (side i 8)
 
--- a row as document 01 has it: a code of 1 to 64 bytes, and a place that comes back
-record Good (r : Row) : Type 0 where
-  good : GoodCode (r .code)
-  back : stored (place (r .place)) ≡ r .place
+-- a row as document 01 has it: a code of 1 to 64 bytes, and a place in its ranges that comes back
+pub record Good (r : Row) : Type 0 where
+  pub good : GoodCode (r .code)
+  pub back : stored (place (r .place)) ≡ r .place
+  pub range : InRange (place (r .place))
 
-slot-good : (g : List ℕ) → Slotted g → (r : Row) → List·Memᴰ r (map asRow (rows g)) → Good r
+pub slot-good : (g : List ℕ) → Slotted g → (r : Row) → List·Memᴰ r (map asRow (rows g)) → Good r
 unfolding bytesAt
 slot-good g b r m =
     let w = slot-of g b r m in
     let i : ℕ = w .0 in
     let l = len-of-code g i b (w .1) in
     let p = b .places i (w .1) in
+    let small = part-bytes g (off g i) (b .bytes) (p .long) in
     subst (λ (t : Row). Good t) (sym (w .2)) record {
       good = record { least = omega (arith, l, b .short i (w .1)); most = omega (arith, l, b .long i (w .1)) };
-      back = stored-place (bytesAt g i) p (part-bytes g (off g i) (b .bytes) (p .long));
+      back = stored-place (bytesAt g i) p small;
+      range = record { page = natural-page (bytesAt g i) p small; slot = natural-slot (bytesAt g i) p small; volume = natural-volume (bytesAt g i) p small };
     }
 
 -- ---- 8 exactly for a short output
@@ -107,7 +110,7 @@ row-eight rs n out = each (λ x. x .0 ≡ refused 8 → ⊥) (rowOf rs n out) (
 )
 
 module _ (S : Shape) (h : List ℕ → ℕ) (sized : Sized S) (hash : Hash h) where
-  held-good : (s : List ℕ) → Accepted S h s → (r : Row) → List·Memᴰ r (rowsHeld S s) → Good r
+  pub held-good : (s : List ℕ) → Accepted S h s → (r : Row) → List·Memᴰ r (rowsHeld S s) → Good r
   held-good s a r m =
       let p = some-page S h (rowsHeld S s) (contents S s) (accepted-shows S h sized hash s a) r m in
       let u = under S h sized hash s (opened S h s a) (p .0) (p .1) (p .2) (p .3) in

@@ -35,6 +35,7 @@ pub mod Accepting
 pub mod Reading
 pub mod Walked
 pub mod Given
+pub mod Said
 pub mod Meaning
 pub mod Whole
 pub mod Slotwise

@@ -1,7 +1,7 @@
 -- The rules of an accepted store, each by its name; and the page at which the check stops is one.
 use mathlib.Core.Path.{_≡_, sym, subst, _∙_}
 use mathlib.Core.List.{List, [], _∷_, _++_}
-use mathlib.Core.Logic.{inl, inr}
+use mathlib.Core.Logic.{_⊎_, inl, inr, ⊎-elim}
 use Prim.Native.Nat.{ℕ, zero, suc, _+_, _-_, _≤_, _<_}
 use native.Mathlib.Omega.{arith}
 use Rattle.ground.specs.Lists.{tab}
@@ -21,6 +21,24 @@ pub stops-not : (l : List Rule) (p : ℕ) → Every l → Stops l p → ⊥
 stops-not [] p e a = a
 stops-not (r ∷ l) p e (inl a) = a .0 (e .0)
 stops-not (r ∷ l) p e (inr a) = stops-not l p (e .1) (a .1)
+
+-- ---- the page is one of the store's
+
+stops-in : (l m : List Rule) (p : ℕ) → Stops (l ++ m) p → Stops l p ⊎ Stops m p
+stops-in [] m p a = inr a
+stops-in (r ∷ l) m p (inl a) = inl (inl a)
+stops-in (r ∷ l) m p (inr a) = ⊎-elim (λ b. inl (inr (a .0, b))) inr (stops-in l m p (a .1))
+
+stops-tab : (f : ℕ → Rule) (n p : ℕ) → Stops (tab f n) p → (i : ℕ) × (i < n) × (p ≡ f i .at)
+unfolding tab
+stops-tab f zero p a = absurd a
+stops-tab f (suc n) p (inl a) = (0, omega arith, a .1)
+stops-tab f (suc n) p (inr a) = let w = stops-tab (λ i. f (suc i)) n p (a .1) in (suc (w .0), omega (arith, w .1), w .2)
+
+stops-up : (n : ℕ) (P : ℕ → Type 0) (p : ℕ) → Stops (upward n P) p → p < n
+stops-up n P p a = let w = stops-tab (λ i. rule (i + 2) (P (i + 2))) (n - 2) p a in omega (arith, w .1, w .2)
+
+-- ---- every rule of an accepted store
 
 every-left : (l m : List Rule) → Every (l ++ m) → Every l
 every-left [] m e = tt
@@ -100,3 +118,18 @@ module _ (S : Shape) (h : List ℕ → ℕ) (s : List ℕ) where
   pub accepted-whole : Accepted S h s → (p : ℕ) → Broken S h s p → ⊥
   unfolding Broken
   accepted-whole a p b = stops-not (rules S h s) p (a .keeps) b
+
+  pub broken-below : 2 ≤ pages S s → (p : ℕ) → Broken S h s p → p < pages S s
+  unfolding Broken rules
+  broken-below two p b = ⊎-elim (λ a. omega (arith, a .1)) (λ a. ⊎-elim (λ c. omega (arith, c .1)) (λ c. upper (c .1)) (a .1)) b
+    where
+      again : List Rule
+      again = upward (pages S s) (Parted S h s)
+
+      last : Stops (rule 0 (Deepest S s) ∷ []) p → p < pages S s
+      last e = ⊎-elim (λ a. omega (arith, a .1)) (λ a. absurd (a .1)) e
+
+      upper : Stops (upward (pages S s) (Stands S h s) ++ (again ++ (rule 0 (Deepest S s) ∷ []))) p → p < pages S s
+      upper e = ⊎-elim (stops-up (pages S s) (Stands S h s) p)
+          (λ f. ⊎-elim (stops-up (pages S s) (Parted S h s) p) last (stops-in again (rule 0 (Deepest S s) ∷ []) p f))
+          (stops-in (upward (pages S s) (Stands S h s)) (again ++ (rule 0 (Deepest S s) ∷ [])) p e)
