@@ -78,7 +78,7 @@ fn two_to(k: u32) -> usize
 }
 
 // The number of entries of the page at offset a, in a directory of depth d.
-fn entries_of(s: &[u8], a: usize, d: u32) -> usize
+pub fn entries_of(s: &[u8], a: usize, d: u32) -> usize
     requires { ⌜ (a + 1024 ≤ length (now s)) × (byte (now s) (a + 1) ≤ d) × (d ≤ 12) ⌝ }
     ensures { λ r. ⌜ r ≡ 2 ^ (d - byte (now (s .entry)) (a + 1)) ⌝ }
 {
