@@ -1,6 +1,7 @@
 pub mod Formats
 pub mod Directories
 pub mod Prefixes
+pub mod Runs
 pub mod Gathers
 pub mod OnePage
 pub mod Puts

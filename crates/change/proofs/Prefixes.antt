@@ -1,27 +1,22 @@
 -- The pages of a prefix, as their bytes show them. Assumes nothing.
 use mathlib.Core.Path.{_≡_, refl, sym, ap, _∙_}
-use mathlib.Core.Bool.{true, false}
-use mathlib.Core.List.{List, map}
+use mathlib.Core.Bool.{true}
+use mathlib.Core.List.{List}
 use Prim.Native.Nat.{ℕ, zero, suc, _+_, _-_, _*_, _≤_, _<_}
 use native.Mathlib.Omega.{arith}
 use lib.Dec.{eqb}
 use lib.ListN.{length, getD, take, drop}
-use Rattle.ground.specs.Lists.{byte, tab, total}
+use Rattle.ground.specs.Lists.{byte, tab}
 use Rattle.ground.proofs.Tests.{untrue}
 use Rattle.ground.proofs.Parts.{length-part}
-use Rattle.page.specs.Page.{Record, BucketPage, count, code, depth, rows, rowAt}
-use Rattle.page.specs.Page as Page
-use Rattle.page.proofs.Sums.{total-more}
+use Rattle.page.specs.Page.{Record, BucketPage, count, code, depth, rowAt}
 use Rattle.partition.specs.Bits.{top}
-use Rattle.partition.specs.Partition.{needs}
-use Rattle.store.specs.Pages.{S1024, pages, page, free, bucket, read, reading, contents, asRow, rowsOn}
-use Rattle.store.specs.Moves.{pick, within}
+use Rattle.store.specs.Pages.{S1024, pages, page, free, bucket, read, reading, contents}
+use Rattle.store.specs.Moves.{within}
 use Rattle.store.proofs.Unique.{read-used, held}
 use Rattle.store.proofs.Views.{lent-page}
 use Rattle.store.proofs.Showing.{pages-held}
-use Rattle.store.proofs.PageTies.{page-needs}
 use Rattle.change.specs.Directory.{Sound, free as unused, used, Settling}
-use Rattle.change.specs.Prefix.{loadOn, loadIn}
 
 pub read-free : (g : List ℕ) → byte g 0 ≡ 0 → read g ≡ free
 unfolding read
@@ -44,16 +39,6 @@ pub within-page : (h : List ℕ → ℕ) (j v : ℕ) (g : List ℕ) → Sound g 
 within-page h j v g (unused z) e = untrue (sym (ap (within h j v) (read-free g (z 0))) ∙ e)
 within-page h j v g (used b d) e = b
 
--- what its rows need is what is not free
-pub load-used : (h : List ℕ → ℕ) (j v : ℕ) (g : List ℕ) → Sound g → length g ≡ 1024 → within h j v (read g) ≡ true → loadOn h j v (read g) + Page.free g ≡ 1016
-load-used h j v g s l e =
-    let b = within-page h j v g s e in
-    let w : loadOn h j v (read g) ≡ needs (map asRow (rows g)) = ap (λ t. pick t (needs (rowsOn (read g))) 0) e ∙ ap (λ x. needs (rowsOn x)) (read-used g b) in
-    omega (arith, page-needs g (b .rules))
-
-pub load-not : (h : List ℕ → ℕ) (j v : ℕ) (g : List ℕ) → within h j v (read g) ≡ false → loadOn h j v (read g) ≡ 0
-load-not h j v g e = ap (λ t. pick t (needs (rowsOn (read g))) 0) e
-
 -- page p, as s[p * 1024 .. p * 1024 + 1024]
 pub lent-whole : (s : List ℕ) (p : ℕ) → p * 1024 + 1024 ≤ length s → (take (p * 1024 + 1024 - p * 1024) (drop (p * 1024) s) ≡ page S1024 s p) × (length (page S1024 s p) ≡ 1024)
 unfolding page
@@ -73,17 +58,3 @@ module _ (s : List ℕ) (n : ℕ) (P : Settling s n) where
 
   pub lent-sound : (p : ℕ) → 2 ≤ p → p < n → (take (p * 1024 + 1024 - p * 1024) (drop (p * 1024) s) ≡ page S1024 s p) × Sound (page S1024 s p) × (length (page S1024 s p) ≡ 1024)
   lent-sound p a b = let w = lent-whole s p (omega (arith, P .size)) in (w .0, P .pages p a b, w .1)
-
-  module _ (h : List ℕ → ℕ) (j v : ℕ) where
-    abbrev pub loadTo : ℕ → ℕ
-    loadTo p = total (λ i. loadOn h j v (getD (contents S1024 s) i free)) (p - 2)
-
-    pub load-next : (p : ℕ) → 2 ≤ p → p < n → loadTo (p + 1) ≡ loadTo p + loadOn h j v (read (page S1024 s p))
-    load-next p a b =
-        let e : p + 1 - 2 ≡ p - 2 + 1 = omega arith in
-        ap (λ m. total (λ i. loadOn h j v (getD (contents S1024 s) i free)) m) e
-        ∙ total-more (λ i. loadOn h j v (getD (contents S1024 s) i free)) (p - 2)
-        ∙ ap (λ g. loadTo p + loadOn h j v g) (page-at p a b)
-
-    pub load-all : loadTo n ≡ loadIn h j v (contents S1024 s)
-    load-all = ap (λ m. total (λ i. loadOn h j v (getD (contents S1024 s) i free)) m) (sym listed)

@@ -44,7 +44,7 @@ use Rattle.store.proofs.Accepting.{Laid, accepted-laid, laid-becomes, tab-in}
 use Rattle.store.proofs.PageTies.{rows-tab, zeros, read-cleared, page-once, found-at, removed-rows}
 use Rattle.store.proofs.Views.{setPage, set-long, set-same, set-other, set-below, set-contents}
 use Rattle.change.specs.Directory.{Directed, Sound, free as vacant}
-use Rattle.change.specs.Prefix.{loadIn, Climbed}
+use Rattle.change.specs.Prefix.{Climbed}
 use Rattle.change.specs.Join.{othersIn, Joinable, Rejoined}
 use Rattle.change.specs.Remove.{Leaving, left, Fits}
 use Rattle.change.proofs.OnePage.{laid-set}
@@ -100,16 +100,19 @@ module _ (h : List ℕ → ℕ) (hash : Hash h) (s : List ℕ) (p i : ℕ) (c : 
 
   -- ---- going up
 
-  sum : (j : ℕ) → j ≤ k → loadIn h j (top j x) gs ≡ 12 + length c + needs (rowsOf h (left s c) j (top j x))
-  sum j l = Cases.sum-left S1024 h rs gs c old shows (L .known) j (subst (λ n. j ≤ n) (sym (same .0)) l)
+  sum : (j : ℕ) → needs (rowsOf h rs j (top j x)) ≡ 12 + length c + needs (rowsOf h (left s c) j (top j x))
+  sum = Cases.needs-left S1024 h rs gs c old shows (L .known)
 
-  pub climbed-fits : (need j : ℕ) → need ≡ 12 + length c → Climbed h gs x k need j → Fits h s c j
+  pub its-bucket : IsBucket S1024 h (rowsHeld S1024 s) (depth (page S1024 s p)) (top (depth (page S1024 s p)) (h c))
+  its-bucket = Holder.its-bucket S1024 h rs gs shows x (p - 2) k (rows g) holding begins
+
+  pub climbed-fits : (need j : ℕ) → need ≡ 12 + length c → Climbed h (rowsHeld S1024 s) (h c) (depth (page S1024 s p)) need j → Fits h s c j
   climbed-fits need j e C = record {
     fit = ⊎-elim
-        (λ l. omega (arith, C .fit l, sum j (C .most)))
+        (λ l. omega (arith, C .fit l, sum j))
         (λ l. let q : its .depth ≡ j = omega (arith, same .0, C .most) in subst (λ d. needs (rowsOf h (left s c) d (top d x)) ≤ 1016) q (Cases.fits-here S1024 h rs gs c old shows (L .known)))
         (side j k);
-    over = λ m q. omega (arith, C .over m q, sum m (omega (arith, C .most)));
+    over = λ m q. omega (arith, C .over m q, sum m);
   }
 
   -- ---- what is left on the page
@@ -127,7 +130,7 @@ module _ (h : List ℕ → ℕ) (hash : Hash h) (s : List ℕ) (p i : ℕ) (c : 
   rest-needs : needs (rowsOf h (left s c) k (top k x)) ≡ needs rest
   unfolding need needs
   rest-needs =
-      let w : needs (rowsOf h rs k (top k x)) ≡ 12 + length c + needs (rowsOf h (left s c) k (top k x)) = Cases.needs-left S1024 h rs gs c old shows (L .known) k in
+      let w = sum k in
       let y : needs (map asRow (rows g)) ≡ needs (rowsOf h rs k (top k x)) = needs-same (Holder.its-rows S1024 h rs gs shows x (p - 2) k (rows g) holding begins) in
       let z : needs (map asRow (rows g)) ≡ 12 + length c + needs rest = needs-same (cut-front c old (map asRow (rows g)) (page-once g slotted) found) in
       omega arith
@@ -235,9 +238,6 @@ module _ (h : List ℕ → ℕ) (hash : Hash h) (s : List ℕ) (p i : ℕ) (c : 
       abbrev v : ℕ
       v = top j x
 
-      its-bucket : IsBucket S1024 h rs k (top k x)
-      its-bucket = Holder.its-bucket S1024 h rs gs shows x (p - 2) k (rows g) holding begins
-
       -- the rows of the pages of the prefix, the code's left out, are the rows left of the prefix
       others : othersIn h j v c gs ≡ cut c (rowsOf h rs j v)
       others = ap (cut c) (sym (rows-within S1024 h rs gs shows x j (one-depth S1024 h rs x j k its-bucket (omega arith))))
@@ -258,7 +258,7 @@ module _ (h : List ℕ → ℕ) (hash : Hash h) (s : List ℕ) (p i : ℕ) (c : 
       positive = omega (
         arith,
         fit-above (λ m. top m x) (top-step x) 1016 (load h rs) (load-mono h rs) k j (bucket-shallowest S1024 h rs x k its-bucket) less,
-        Cases.needs-left S1024 h rs gs c old shows (L .known) j,
+        sum j,
         ap length (L .coded),
         len-of-code g i slotted (L .slot),
         slotted .long i (L .slot),

@@ -2,11 +2,15 @@
 ghost use mathlib.Core.Path.{_≡_};
 ghost use Prim.Native.Nat.{_≤_};
 ghost use lib.ListN.{length};
+ghost use Rattle.ground.specs.Says.{Says};
 ghost use Rattle.hash.specs.Fnv.{fnv};
-ghost use Rattle.store.specs.Pages.{S1024, contents, read};
+ghost use Rattle.partition.specs.Bits.{top};
+ghost use Rattle.partition.specs.Partition.{needs, rowsOf, IsBucket};
+ghost use Rattle.store.specs.Pages.{S1024, read, rowsHeld};
+ghost use Rattle.store.specs.Accepted.{Accepted};
 ghost use Rattle.store.specs.Moves.{within};
-ghost use Rattle.change.specs.Directory.{Sound, Settling};
-ghost use Rattle.change.specs.Prefix.{loadOn, loadIn, Climbed};
+ghost use Rattle.change.specs.Directory.{Sound};
+ghost use Rattle.change.specs.Prefix.{Above, Climbed};
 
 // Whether a page is a bucket whose hashes begin with the j bits of v.
 pub fn is_within(page: &[u8], j: u32, v: u64) -> bool
@@ -19,41 +23,41 @@ pub fn is_within(page: &[u8], j: u32, v: u64) -> bool
     partition::top_bits(audit::hash_slot(page, 0), j) == v
 }
 
-// What the rows of a page need, if it is within the prefix.
-fn load_on(page: &[u8], j: u32, v: u64) -> usize
-    requires { ⌜ Sound (now page) × (length (now page) ≡ 1024) × (j ≤ 8) ⌝ }
-    ensures { λ r. ⌜ (r ≡ loadOn fnv j v (read (now (page .entry)))) × (r ≤ 1016) ⌝ }
+// Whether the rows of the prefix of j bits of x need at most that much: bucket after bucket of its run of entries, each once.
+fn needs_at_most(s: &[u8], x: u32, j: u32, limit: usize) -> bool
+    requires { ⌜ Accepted S1024 fnv (now s) × Above fnv (now s) x j ⌝ }
+    ensures { λ r. ⌜ Says r (needs (rowsOf fnv (rowsHeld S1024 (now (s .entry))) j (top j x)) ≤ limit) ⌝ }
 {
-    if !is_within(page, j, v) {
-        return 0;
-    }
-    1016 - words::get16(page, 6)
-}
-
-// What the rows of the prefix need.
-fn load_of(s: &[u8], n: usize, j: u32, v: u64) -> usize
-    requires { ⌜ Settling (now s) n × (j ≤ 8) ⌝ }
-    ensures { λ r. ⌜ r ≡ loadIn fnv j v (contents S1024 (now (s .entry))) ⌝ }
-{
+    let d = words::get32(s, 16) as u32;
+    let run = partition::run_of(x, j, d);
+    let to = run.to;
+    let mut i = run.from;
     let mut sum = 0;
-    let mut p = 2;
-    while p < n {
-        let a = p * 1024;
-        let e = a + 1024;
-        sum += load_on(&s[a..e], j, v);
-        p += 1;
+    while i < to {
+        let p = words::get32(s, 1024 + 4 * i);
+        if p == 0 {
+            i += 1;
+        } else {
+            let a = p * 1024;
+            let width = rows::entries_of(s, a, d);
+            sum += 1016 - words::get16(s, a + 6);
+            if limit < sum {
+                return false;
+            }
+            i += width;
+        }
     }
-    sum
+    true
 }
 
-// From k bits of x up, as long as the rows of the prefix one bit shorter fit without a row of that need.
-pub fn climb(s: &[u8], n: usize, x: u32, k: u32, need: usize) -> u32
-    requires { ⌜ Settling (now s) n × (k ≤ 8) × (need ≤ 76) ⌝ }
-    ensures { λ r. ⌜ Climbed fnv (contents S1024 (now (s .entry))) x k need r ⌝ }
+// From the k bits of the bucket that holds x up, as long as the rows of the prefix one bit shorter fit without a row of that need.
+pub fn climb(s: &[u8], x: u32, k: u32, need: usize) -> u32
+    requires { ⌜ Accepted S1024 fnv (now s) × IsBucket S1024 fnv (rowsHeld S1024 (now s)) k (top k x) × (need ≤ 76) ⌝ }
+    ensures { λ r. ⌜ Climbed fnv (rowsHeld S1024 (now (s .entry))) x k need r ⌝ }
 {
     let mut j = k;
     while 0 < j {
-        if 1016 + need < load_of(s, n, j - 1, partition::top_bits(x, j - 1)) {
+        if !needs_at_most(s, x, j - 1, 1016 + need) {
             return j;
         }
         j -= 1;

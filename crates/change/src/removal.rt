@@ -22,7 +22,7 @@ fn take_out(s: &mut [u8], p: usize, i: usize, key: &[u8])
     let e = a + 1024;
     let k = s[a + 1] as u32;
     let x = hash::hash(key);
-    let j = climb(s, n, x, k, 12 + key.len());
+    let j = climb(s, x, k, 12 + key.len());
     if j < k {
         join(s, n, j, partition::top_bits(x, j), key);
         settle(s, n);

@@ -1,4 +1,4 @@
-// The partition worked out afresh, over any hash: definitions and laws; the top bits of a hash, and the bits that two hashes share.
+// The partition worked out afresh, over any hash: definitions and laws; the top bits of a hash, the bits that two hashes share, and a prefix's run of entries.
 ghost use mathlib.Core.Path.{_≡_};
 ghost use Prim.Native.Nat.{_≤_, _^_};
 ghost use Rattle.partition.specs.Bits.{top, shared};
@@ -19,6 +19,14 @@ pub fn top_bits(x: u32, k: u32) -> u64
     ((x as u64) << k) >> 32
 }
 
+// A power of two.
+pub fn two_to(k: u32) -> usize
+    requires { ⌜ k ≤ 12 ⌝ }
+    ensures { λ r. ⌜ r ≡ 2 ^ k ⌝ }
+{
+    1usize << k
+}
+
 // A run of directory entries: from the first up to the one after the last.
 pub struct Run {
     pub from: usize,
@@ -31,7 +39,7 @@ pub fn run_of(x: u32, k: u32, d: u32) -> Run
     ensures { λ r. ⌜ (r .from ≡ first d (record { bits = k; value = top k x })) × (r .to ≡ after d (record { bits = k; value = top k x })) × (r .from ≤ r .to) × (r .to ≤ 2 ^ d) ⌝ }
 {
     let v = top_bits(x, k) as usize;
-    let w = 1usize << (d - k);
+    let w = two_to(d - k);
     let from = v * w;
     Run { from, to: from + w }
 }

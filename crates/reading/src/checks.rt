@@ -5,7 +5,6 @@ ghost use Rattle.store.specs.Accepted.{GoodLength};
 ghost use Rattle.reading.specs.First.{Judged};
 use super::directory::entries;
 use super::directory::ranges;
-use super::directory::two_to;
 use super::head::page0_ok;
 use super::pages::first_unsound;
 use super::parted::first_joinable;
@@ -22,7 +21,7 @@ pub fn first_bad(s: &[u8]) -> usize
     let d = words::get32(s, 16) as u32;
     let mut dir = [0u32; 256];
     entries(s, &mut dir);
-    if !ranges(&dir, n as u32, two_to(d)) {
+    if !ranges(&dir, n as u32, partition::two_to(d)) {
         return 1;
     }
     let p = first_unsound(s, &dir, n, d);

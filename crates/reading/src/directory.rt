@@ -80,13 +80,6 @@ pub fn exactly(dir: &[u32], m: usize, a: usize, b: usize, x: u32) -> bool
     none_is(dir, b, m, x)
 }
 
-pub fn two_to(k: u32) -> usize
-    requires { ⌜ k ≤ 8 ⌝ }
-    ensures { λ r. ⌜ (r ≡ 2 ^ k) × (r ≤ 256) ⌝ }
-{
-    1 << k
-}
-
 // Whether the entries are in range for n pages, and zero from m on.
 pub fn ranges(dir: &[u32], n: u32, m: usize) -> bool
     requires { ⌜ (length (now dir) ≡ 256) × (m ≤ 256) ⌝ }
@@ -106,8 +99,6 @@ pub fn named(dir: &[u32], d: u32, k: u32, x: u32, p: u32) -> bool
     requires { ⌜ (length (now dir) ≡ 256) × (d ≤ 8) × (k ≤ d) × (2 ≤ p) × AllAre (now dir) (2 ^ d) 256 0 ⌝ }
     ensures { λ r. ⌜ Says r (Named (now (dir .entry)) d k (top k x) p) ⌝ }
 {
-    let m = two_to(d);
-    let w = two_to(d - k);
-    let a = (partition::top_bits(x, k) as usize) * w;
-    exactly(dir, m, a, a + w, p)
+    let run = partition::run_of(x, k, d);
+    exactly(dir, partition::two_to(d), run.from, run.to, p)
 }

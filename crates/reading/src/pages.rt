@@ -11,7 +11,6 @@ ghost use Rattle.reading.specs.Directory.{AllAre};
 ghost use Rattle.reading.specs.Begun.{Begun, Free, Own};
 use super::directory::named;
 use super::directory::none_is;
-use super::directory::two_to;
 
 // Whether a page is free and named by none.
 fn free_ok(pg: &[u8], dir: &[u32], d: u32, p: u32) -> bool
@@ -21,7 +20,7 @@ fn free_ok(pg: &[u8], dir: &[u32], d: u32, p: u32) -> bool
     if !words::all_zero(pg) {
         return false;
     }
-    none_is(dir, 0, two_to(d), p)
+    none_is(dir, 0, partition::two_to(d), p)
 }
 
 // Whether a page is a bucket of depth at most d, but for its hashes.

@@ -69,20 +69,12 @@ pub fn count_rows(s: &[u8], n: usize) -> usize
     sum
 }
 
-// A power of two.
-fn two_to(k: u32) -> usize
-    requires { ⌜ k ≤ 12 ⌝ }
-    ensures { λ r. ⌜ r ≡ 2 ^ k ⌝ }
-{
-    1usize << k
-}
-
 // The number of entries of the page at offset a, in a directory of depth d.
-fn entries_of(s: &[u8], a: usize, d: u32) -> usize
+pub fn entries_of(s: &[u8], a: usize, d: u32) -> usize
     requires { ⌜ (a + 1024 ≤ length (now s)) × (byte (now s) (a + 1) ≤ d) × (d ≤ 12) ⌝ }
     ensures { λ r. ⌜ r ≡ 2 ^ (d - byte (now (s .entry)) (a + 1)) ⌝ }
 {
-    two_to(d - s[a + 1] as u32)
+    partition::two_to(d - s[a + 1] as u32)
 }
 
 // Where the row at place n of the listing stands: bucket after bucket by first entry, each once.
@@ -91,7 +83,7 @@ pub fn nth_row(s: &[u8], n: usize) -> Spot
     ensures { λ r. ⌜ Listed (now (s .entry)) n r ⌝ }
 {
     let d = words::get32(s, 16) as u32;
-    let end = two_to(d);
+    let end = partition::two_to(d);
     let mut left = n;
     let mut i = 0;
     while i < end {

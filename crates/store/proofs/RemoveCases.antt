@@ -1,6 +1,6 @@
--- REMOVE as the code finds it: from the depth of the code's page up to the shallowest prefix whose other rows fit, by sums over pages; then one of three writes.
+-- REMOVE as the code finds it: from the depth of the code's page up to the shallowest prefix whose other rows fit; then one of three writes.
 -- Assumes nothing.
-use mathlib.Core.Path.{_≡_, refl, sym, ap, subst, _∙_}
+use mathlib.Core.Path.{_≡_, refl, ap, subst, _∙_}
 use mathlib.Core.List.{List, _∷_, map}
 use mathlib.Core.Logic.{_≢_}
 use mathlib.Core.Option.{some}
@@ -8,7 +8,6 @@ use Prim.Native.Nat.{ℕ, _+_, _^_, _≤_, _<_}
 use native.Mathlib.Omega.{arith}
 use lib.Dec.{T, eqb, eqb→eq, eqb-refl}
 use lib.ListN.{length, getD, set}
-use Rattle.ground.specs.Lists.{total}
 use Rattle.partition.specs.Bits.{top}
 use Rattle.partition.specs.Partition.{Shape, Row, need, needs, rowsOf, IsBucket, Fine, Reordered, buckets}
 use Rattle.partition.specs.Listing.{without, placeOf}
@@ -19,12 +18,11 @@ use Rattle.partition.proofs.Rows.{load-on, test, fails}
 use Rattle.partition.proofs.Sorted.{same-map, bucket-same}
 use Rattle.partition.proofs.Store.{fine-drop, fine-reordered}
 use Rattle.partition.proofs.Tree.{pfx}
-use Rattle.store.specs.Pages.{Page, free, bucket, depthOn, rowsOn, rowsIn}
+use Rattle.store.specs.Pages.{Page, free, bucket, depthOn, rowsIn}
 use Rattle.store.specs.Moves.{pick, find, within, holds, bucketOf, packFrom, packed, clearedOn, joined, removeOn, removed}
 use Rattle.store.proofs.Shows.{Shows}
 use Rattle.store.proofs.Known.{Known, known}
 use Rattle.store.proofs.BucketOf.{bucket-of-some, bucket-of-none}
-use Rattle.store.proofs.Within.{one-depth, needs-within}
 
 module _ (S : Shape) (h : List ℕ → ℕ) (rows : List Row) (gs : List Page) (c old : List ℕ) (s : Shows S h rows gs) (e : placeOf rows c ≡ some old) where
   abbrev x : ℕ
@@ -51,11 +49,6 @@ module _ (S : Shape) (h : List ℕ → ℕ) (rows : List Row) (gs : List Page) (
   -- at the page's depth they fit
   pub fits-here : needs (rowsOf h W (its .depth) (top (its .depth) x)) ≤ S .capacity
   fits-here = omega (arith, needs-left (its .depth), its-bucket .fit)
-
-  -- above it, the sum over the pages of the prefix
-  pub sum-left : (i : ℕ) → i ≤ its .depth
-      → total (λ n. pick (within h i (top i x) (getD gs n free)) (needs (rowsOn (getD gs n free))) 0) (length gs) ≡ 12 + length c + needs (rowsOf h W i (top i x))
-  sum-left i l = sym (needs-within S h rows gs s x i (one-depth S h rows x i (its .depth) its-bucket l)) ∙ needs-left i
 
   left-fine : Fine S h W
   left-fine = fine-drop S h (record { code = c; place = old }) W (fine-reordered S h front (s .fine))

@@ -1,22 +1,20 @@
--- The pages of a prefix that is no longer than that of the hash's bucket: those at or below it. They have its rows, and what they need adds up.
+-- The pages of a prefix that is no longer than that of the hash's bucket: those at or below it. They have its rows.
 -- Assumes nothing.
 use mathlib.Core.Path.{_≡_, refl, sym, ap, ap₂, subst, _∙_}
 use mathlib.Core.Bool.{Bool, true, false}
 use mathlib.Core.List.{List, [], _∷_, _++_, map, flatMap, List·Memᴰ·not-nil}
 use mathlib.Core.Logic.{_⊎_, inl, inr, _↔_}
-use Prim.Native.Nat.{ℕ, suc, _+_, _/_, _^_, _≤_, _<_}
+use Prim.Native.Nat.{ℕ, suc, _/_, _^_, _≤_, _<_}
 use native.Mathlib.Omega.{arith}
-use lib.ListN.{length, getD}
-use Rattle.ground.specs.Lists.{total}
+use lib.ListN.{getD}
 use Rattle.ground.proofs.Sides.{side}
 use Rattle.page.specs.Page.{Record}
 use Rattle.partition.specs.Bits.{top}
-use Rattle.partition.specs.Partition.{Shape, Row, needs, rowsOf, IsBucket}
+use Rattle.partition.specs.Partition.{Shape, Row, rowsOf, IsBucket}
 use Rattle.partition.proofs.Bits.{top-step}
 use Rattle.partition.proofs.Laws.{share-fewer, no-overlap}
 use Rattle.partition.proofs.Pages.{rows-append, rows-every, rows-none}
 use Rattle.partition.proofs.Path.{path-cut, path-under}
-use Rattle.partition.proofs.Reorders.{turned, needs-same, needs-append, rows-same}
 use Rattle.partition.proofs.Tree.{Under}
 use Rattle.store.specs.Pages.{Page, free, bucket, asRow, rowsOn, rowsIn}
 use Rattle.store.specs.Moves.{pick, within}
@@ -33,15 +31,6 @@ rows-only : (h : List ℕ → ℕ) (j v : ℕ) (f : Page → Bool) (gs : List Pa
 unfolding rowsIn flatMap rowsOf
 rows-only h j v f [] e = refl
 rows-only h j v f (g ∷ gs) e = rows-append h (rowsOn g) (rowsIn gs) j v ∙ ap₂ (λ a b. a ++ b) (e 0) (rows-only h j v f gs (λ i. e (suc i)))
-
-needs-only : (f : Page → Bool) (gs : List Page) → needs (rowsIn (only f gs)) ≡ total (λ i. pick (f (getD gs i free)) (needs (rowsOn (getD gs i free))) 0) (length gs)
-unfolding rowsIn flatMap total needs
-needs-only f [] = refl
-needs-only f (g ∷ gs) = needs-append (rowsOn (pick (f g) g free)) (rowsIn (only f gs)) ∙ ap₂ _+_ (one (f g)) (needs-only f gs)
-  where
-    one : (b : Bool) → needs (rowsOn (pick b g free)) ≡ pick b (needs (rowsOn g)) 0
-    one true = refl
-    one false = refl
 
 module _ (S : Shape) (h : List ℕ → ℕ) where
   -- no other bucket holds the hash of one
@@ -99,7 +88,3 @@ module _ (S : Shape) (h : List ℕ → ℕ) where
     -- the rows of the prefix, page by page
     pub rows-within : rowsOf h (rowsIn gs) j v ≡ rowsIn (only (within h j v) gs)
     rows-within = rows-only h j v (within h j v) gs page-within
-
-    -- what they need: the sum over the pages of the prefix
-    pub needs-within : needs (rowsOf h rows j v) ≡ total (λ i. pick (within h j v (getD gs i free)) (needs (rowsOn (getD gs i free))) 0) (length gs)
-    needs-within = needs-same (rows-same h j v (turned (s .same))) ∙ ap needs rows-within ∙ needs-only (within h j v) gs

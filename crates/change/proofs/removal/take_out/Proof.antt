@@ -12,18 +12,19 @@ use Rattle.page.proofs.Sums.{len-of-code}
 use Rattle.page.specs.Steps.{Removed}
 use Rattle.page.specs.Page.{depth, count}
 use Rattle.partition.specs.Bits.{top}
+use Rattle.partition.specs.Partition.{IsBucket}
 use Rattle.store.proofs.Unique.{page-long}
 use Rattle.store.proofs.Views.{setPage}
 use Rattle.store.specs.Tables.{Becomes}
 use Rattle.store.specs.Moves.{removed}
-use Rattle.store.specs.Pages.{S1024, Page, page, contents, deepestIn}
+use Rattle.store.specs.Pages.{S1024, Page, page, contents, rowsHeld, deepestIn}
 use Rattle.change.specs.Remove.{Fits}
 use Rattle.change.specs.Join.{Joinable, Rejoined}
 use Rattle.change.specs.Prefix.{Climbed}
 use Rattle.change.specs.Directory.{Sound, free, used, Settling, Directed}
 use Rattle.change.specs.Split.{Rewritten}
 use Rattle.change.proofs.Settles.{unwritten, settling}
-use Rattle.change.proofs.Removes.{climbed-fits, loses, settles, clear-written, clear-holds, joinable, join-written, join-holds}
+use Rattle.change.proofs.Removes.{its-bucket, climbed-fits, loses, settles, clear-written, clear-holds, joinable, join-written, join-holds}
 use Rattle.change.proofs.Directories.{page-byte}
 use Rattle.change.proofs.OnePage.{lent, back}
 use Rattle.change.proofs.removal.take_out.Statement.{statement}
@@ -73,8 +74,8 @@ module _ (b : tie.After-climb) where
   abbrev j : ℕ
   j = b .climb .result
 
-  climbed : Climbed fnv (contents S1024 (s z₁)) (fnv (key z₁)) (depth (g z₁)) (12 + length (key z₁)) j
-  climbed = subst₂ (λ x k. Climbed fnv (contents S1024 (s z₁)) x k (12 + length (key z₁)) j) (b .before .before .hash .ensures) (sym (deep z₁)) (b .climb .ensures)
+  climbed : Climbed fnv (rowsHeld S1024 (s z₁)) (fnv (key z₁)) (depth (g z₁)) (12 + length (key z₁)) j
+  climbed = subst₂ (λ x k. Climbed fnv (rowsHeld S1024 (s z₁)) x k (12 + length (key z₁)) j) (b .before .before .hash .ensures) (sym (deep z₁)) (b .climb .ensures)
 
   fits : Fits fnv (s z₁) (key z₁) j
   fits = climbed-fits fnv fnv-lt (s z₁) (p z₁) (z₁ .args .i) (key z₁) (z₁ .pre) (12 + length (key z₁)) j refl climbed
@@ -133,8 +134,11 @@ add-climb : tie.Need-add-climb
 add-climb c = search needs
 
 climb-requires : tie.Need-climb-requires
-climb-requires c κs = let z = c .before .before .before .before .before in
-    (sound z, omega (arith, deep z, shallow z), omega (arith, short z))
+climb-requires c κs = let z = c .before .before .before .before .before in (
+  z .pre .accepted,
+  subst₂ (λ x k. IsBucket S1024 fnv (rowsHeld S1024 (s z)) k (top k x)) (sym (c .before .hash .ensures)) (deep z) (its-bucket fnv fnv-lt (s z) (p z) (z .args .i) (key z) (z .pre)),
+  omega (arith, short z),
+)
 
 top-bits-requires : tie.Need-top-bits-requires
 top-bits-requires c κs = let b = c .before .before in omega (arith, climbed b .most, shallow (z₁ b))

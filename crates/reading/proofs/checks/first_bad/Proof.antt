@@ -11,6 +11,7 @@ use Rattle.store.specs.Pages.{S1024, pages, dirDepth}
 use Rattle.store.specs.Accepted.{Page0, Page1, Stands, Parted}
 use Rattle.reading.specs.Directory.{Ranges}
 use Rattle.reading.proofs.Heads.{to-page1, of-page1, begun, standing}
+use Rattle.reading.proofs.Naming.{entries-256}
 use Rattle.reading.proofs.Stops.{none-bad, bad-0, bad-1, bad-up, bad-again, bad-last, all-sound}
 use Rattle.reading.proofs.checks.first_bad.Statement.{statement}
 use Rattle.reading.proofs.checks.first_bad.Tie as tie
@@ -31,7 +32,7 @@ module _ (c : tie.After-ranges) where
   dir = c .before .before .before .before .entries .last .1 .0
 
   power : c .before .two-to .result ≡ 2 ^ dirDepth store
-  power = c .before .two-to .ensures .0 ∙ ap (λ k. 2 ^ k) (c .before .before .before .before .before .before .get32 .ensures .0)
+  power = c .before .two-to .ensures ∙ ap (λ k. 2 ^ k) (c .before .before .before .before .before .before .get32 .ensures .0)
 
   to-1 : Ranges dir (pages S1024 store) (c .before .two-to .result) → Page1 S1024 store
   to-1 = to-page1 store dir (pages S1024 store) (c .before .two-to .result) (c .before .before .before .before .entries .ensures) refl (at .before .before .before .pre .least) power
@@ -79,7 +80,9 @@ two-to-requires : tie.Need-two-to-requires
 two-to-requires c κs = omega (arith, zeroth (c .before .before .before .before .before) .depth, c .before .before .before .before .get32 .ensures .0)
 
 ranges-requires : tie.Need-ranges-requires
-ranges-requires c κs = search needs
+ranges-requires c κs = let at = c .before .before .before .before .before .before in
+    let g = c .before .before .before .before .before .get32 in
+    (c .before .before .before .entries .ensures .long, omega (arith, c .two-to .ensures, entries-256 (g .result) (omega (arith, g .ensures .0, zeroth at .depth))))
 
 returns-2 : tie.Need-returns-2
 returns-2 c =
@@ -95,7 +98,7 @@ first-unsound-requires c κs =
     let x = c .before .before in
     let y = x .before .before .before .before .before .before .get32 in
     begun (store x) (at x .before .before .before .pre) (zeroth (at x)) (dir x) (y .result) (y .ensures .0) (x .before .before .before .before .entries .ensures)
-    (λ i l. ranged (c .before) .beyond i (omega (arith, x .before .two-to .ensures .0)))
+    (λ i l. ranged (c .before) .beyond i (omega (arith, x .before .two-to .ensures)))
 
 returns-3 : tie.Need-returns-3
 returns-3 c =

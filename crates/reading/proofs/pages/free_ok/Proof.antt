@@ -4,7 +4,7 @@ use borrow.Author.Needs.{needs}
 use native.Mathlib.Omega.{arith}
 use Rattle.ground.proofs.Tests.{says-true, says-false, says-same}
 use Rattle.words.specs.Zeros.{Zero}
-use Rattle.reading.proofs.Naming.{unnamed}
+use Rattle.reading.proofs.Naming.{entries-256, unnamed}
 use Rattle.reading.specs.Directory.{NoneIs}
 use Rattle.reading.proofs.pages.free_ok.Statement.{statement}
 use Rattle.reading.proofs.pages.free_ok.Tie as tie
@@ -19,7 +19,7 @@ two-to-requires : tie.Need-two-to-requires
 two-to-requires c κs = search needs
 
 none-is-requires : tie.Need-none-is-requires
-none-is-requires c κs = search needs
+none-is-requires c κs = let a = c .before .before .before .before .before in omega (arith, a .pre .0, c .two-to .ensures, entries-256 (a .args .d) (a .pre .1))
 
 returns-2 : tie.Need-returns-2
 returns-2 c =
@@ -28,7 +28,7 @@ returns-2 c =
     let m : NoneIs (x .dir .now) 0 (c .before .two-to .result) (x .p) → NoneIs (x .dir .now) 0 256 (x .p) = λ n. unnamed (x .dir .now) (x .d) (x .p) (a .pre .2) (a .pre .3) (λ i l h. n i l (omega (arith, c .before .two-to .ensures))) in
     says-same {P = NoneIs (x .dir .now) 0 (c .before .two-to .result) (x .p)} (c .none-is .result) (c .none-is .ensures)
     (λ n. record { zero = says-true {P = Zero (x .pg .now)} (c .before .before .before .all-zero .result) (not-false _ (c .before .before .if1 .left)) (c .before .before .before .all-zero .ensures); unnamed = m n })
-    (λ e i l h. e .unnamed i l (omega (arith, c .before .two-to .ensures)))
+    (λ e i l h. e .unnamed i l (omega (arith, c .before .two-to .ensures, entries-256 (x .d) (a .pre .1))))
 
 pub free-ok-spec : {M : Type 1} → statement M
 free-ok-spec =

@@ -1,12 +1,12 @@
--- `rows::two_to` meets its contract. Assumes nothing.
+-- `partition::two_to` meets its contract. Assumes nothing.
 use borrow.Author.Needs.{needs}
 use mathlib.Core.Path.{_∙_}
 use Prim.Native.Nat.{_^_}
 use native.Mathlib.Nat.{one-mul}
 use native.Mathlib.Omega.{arith}
 use lib.Pow.{shl-exact}
-use Rattle.rows.proofs.two_to.Statement.{statement}
-use Rattle.rows.proofs.two_to.Tie as tie
+use Rattle.partition.proofs.two_to.Statement.{statement}
+use Rattle.partition.proofs.two_to.Tie as tie
 
 shl-result : tie.Need-shl-result
 shl-result c = search needs
