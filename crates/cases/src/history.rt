@@ -15,7 +15,7 @@ struct Kind {
     value: u64,
 }
 
-fn kind(len: usize, bits: u32, value: u64) -> Kind
+fn codes(len: usize, bits: u32, value: u64) -> Kind
     ensures { λ r. ⌜ (r .len ≡ len) × (r .bits ≡ bits) ⌝ }
 {
     Kind { len, bits, value }
@@ -135,7 +135,7 @@ fn headers(store: &[u8]) {
 // Case 11, where not all share 8 bits: in 3 pages 13 rows of 64-byte codes.
 pub fn full(store: &mut [u8]) {
     io::write_all(STDOUT_FILENO, b"case 11, full store\n");
-    let any = kind(64, 0, 0);
+    let any = codes(64, 0, 0);
     say_number(b"format:", lots_c::lots_format(store));
     say_number(b"rows put:", put_all(store, any, 13));
     say_place(b"a 14th:", put(store, any, 13));
@@ -146,7 +146,7 @@ pub fn full(store: &mut [u8]) {
 // Case 11, where all share 8 bits.
 pub fn crowded(store: &mut [u8]) {
     io::write_all(STDOUT_FILENO, b"case 11, crowded prefix\n");
-    let alike = kind(64, 8, 90);
+    let alike = codes(64, 8, 90);
     say_number(b"format:", lots_c::lots_format(store));
     say_number(b"rows put:", put_all(store, alike, 13));
     say_place(b"a 14th:", put(store, alike, 13));
@@ -159,7 +159,7 @@ fn put_ladder(store: &mut [u8]) -> u64 {
     let mut bits = 0;
     while bits < 6 {
         bits += 1;
-        let rung = kind(2, bits, 1);
+        let rung = codes(2, bits, 1);
         let word = put(store, rung, 0);
         if !went_well(store, word) {
             return 0;
@@ -171,8 +171,8 @@ fn put_ladder(store: &mut [u8]) -> u64 {
 // In 9 pages rows as in case 9, with codes of 2 and 3 bytes: one long code more, and seven buckets take all pages.
 pub fn deep_split(store: &mut [u8]) {
     io::write_all(STDOUT_FILENO, b"deep split\n");
-    let short = kind(3, 6, 0);
-    let long = kind(64, 6, 0);
+    let short = codes(3, 6, 0);
+    let long = codes(64, 6, 0);
     say_number(b"format:", lots_c::lots_format(store));
     say_number(b"rows put at 1, 01 to 000001:", put_ladder(store));
     say_number(b"rows put at 000000:", put_all(store, short, 62));
@@ -184,8 +184,8 @@ pub fn deep_split(store: &mut [u8]) {
 // The seven buckets join over six levels when the long code goes.
 pub fn deep_join(store: &mut [u8]) {
     io::write_all(STDOUT_FILENO, b"join over levels\n");
-    let first = kind(64, 1, 1);
-    let long = kind(64, 6, 0);
+    let first = codes(64, 1, 1);
+    let long = codes(64, 6, 0);
     say_number(
         b"long rows put at 1, as far as they go:",
         put_all(store, first, 20),
@@ -200,7 +200,7 @@ pub fn deep_join(store: &mut [u8]) {
 // In 3 pages a hole before the frontier: the page is packed, not split.
 pub fn fragmented(store: &mut [u8]) {
     io::write_all(STDOUT_FILENO, b"fragmented page\n");
-    let any = kind(64, 0, 0);
+    let any = codes(64, 0, 0);
     say_number(b"format:", lots_c::lots_format(store));
     say_number(b"rows put:", put_all(store, any, 13));
     say_place(b"the first removed:", remove(store, any, 0));
@@ -212,8 +212,8 @@ pub fn fragmented(store: &mut [u8]) {
 // In 5 pages a bucket of one row loses it and joins its sibling (case 8).
 pub fn joined(store: &mut [u8]) {
     io::write_all(STDOUT_FILENO, b"emptied bucket, joined\n");
-    let left = kind(64, 2, 0);
-    let right = kind(64, 2, 1);
+    let left = codes(64, 2, 0);
+    let right = codes(64, 2, 1);
     say_number(b"format:", lots_c::lots_format(store));
     say_number(b"rows put at 00:", put_all(store, left, 13));
     say_place(b"one at 01:", put(store, right, 0));
@@ -225,8 +225,8 @@ pub fn joined(store: &mut [u8]) {
 // A bucket of one row loses it with nothing to join: its page is cleared, and taken again.
 pub fn cleared(store: &mut [u8]) {
     io::write_all(STDOUT_FILENO, b"emptied bucket, cleared\n");
-    let right = kind(64, 2, 1);
-    let other = kind(64, 1, 1);
+    let right = codes(64, 2, 1);
+    let other = codes(64, 1, 1);
     say_place(b"one at 1:", put(store, other, 0));
     say_number(b"rows put at 01:", put_all(store, right, 13));
     say(store);

@@ -18,6 +18,9 @@ loop-holds c = search needs
 add-bits : tie.Need-add-bits Inv-loop μ-loop
 add-bits c = search needs
 
+codes-requires : tie.Need-codes-requires Inv-loop μ-loop
+codes-requires c κs = search needs
+
 put-requires : tie.Need-put-requires Inv-loop μ-loop
 put-requires c κs = search needs
 
@@ -53,6 +56,7 @@ put-ladder-spec =
     μ-loop
     loop-holds
     add-bits
+    codes-requires
     put-requires
     went-well-requires
     same-length
