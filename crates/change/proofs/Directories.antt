@@ -1,5 +1,5 @@
 -- Laws of the directory as it is written, entry by entry and page by page. Assumes nothing.
-use mathlib.Core.Path.{_≡_, refl, sym, ap, subst, _∙_}
+use mathlib.Core.Path.{_≡_, refl, sym, subst, _∙_}
 use mathlib.Core.List.{List}
 use mathlib.Core.Logic.{_⊎_, inl, inr, ⊎-elim}
 use Prim.Native.Nat.{ℕ, _+_, _*_, _-_, _^_, _≤_, _<_}
@@ -10,13 +10,13 @@ use Rattle.ground.specs.Lists.{byte}
 use Rattle.ground.proofs.Sides.{side}
 use Rattle.ground.proofs.Parts.{byte-part, part-same, lent-part}
 use Rattle.words.specs.Le.{le16, le32}
-use Rattle.words.specs.Moves.{Frame, Put32, Cleared}
+use Rattle.words.specs.Moves.{Put32, Cleared}
 use Rattle.words.proofs.Bytes.{frame-join, span-frame, le32-below, le32-above}
 use Rattle.page.specs.Page.{depth, code}
 use Rattle.partition.specs.Bits.{top}
 use Rattle.partition.specs.Partition.{Prefix, first, after}
 use Rattle.partition.proofs.Directory.{holds-range}
-use Rattle.store.specs.Pages.{S1024, page, dirDepth, entryAt}
+use Rattle.store.specs.Pages.{S1024, page, entryAt}
 use Rattle.store.specs.Accepted.{Calls}
 use Rattle.change.specs.Directory.{CallsFor, Entry, none, names, Directed, RunSet, PageNamed, Standing}
 

@@ -1,17 +1,16 @@
 -- Pages that are sound, and a directory written from them, are bytes laid out for the pages. Assumes nothing.
-use mathlib.Core.Path.{_≡_, refl, sym, ap, subst, subst₂, _∙_}
+use mathlib.Core.Path.{_≡_, sym, ap, subst, subst₂, _∙_}
 use mathlib.Core.List.{List}
 use mathlib.Core.Logic.{_⊎_, inl, inr, ⊎-elim}
-use Prim.Native.Nat.{ℕ, zero, suc, _+_, _*_, _-_, _/_, _≤_, _<_}
+use Prim.Native.Nat.{ℕ, _+_, _-_, _/_, _≤_, _<_}
 use native.Mathlib.Omega.{arith}
 use lib.ListN.{length, getD, List·getD-eq-default}
-use Rattle.ground.specs.Lists.{byte, tab}
+use Rattle.ground.specs.Lists.{byte}
 use Rattle.ground.proofs.Sides.{side}
 use Rattle.ground.proofs.Tables.{length-tab}
-use Rattle.page.specs.Page.{Record, BucketPage, depth, rows, code}
-use Rattle.partition.specs.Bits.{top}
-use Rattle.store.specs.Pages.{S1024, pages, page, dirDepth, entryAt, Page, bucket, read, contents, deepestIn}
-use Rattle.store.specs.Accepted.{GoodLength, Zero, Calls}
+use Rattle.page.specs.Page.{Record, BucketPage, depth, rows}
+use Rattle.store.specs.Pages.{S1024, pages, page, entryAt, Page, bucket, read, contents, deepestIn}
+use Rattle.store.specs.Accepted.{GoodLength, Calls}
 use Rattle.store.proofs.Shows.{prefixOn, Holding}
 use Rattle.store.proofs.Shown.{free-not}
 use Rattle.store.proofs.Rooms.{bucket-one}
@@ -20,7 +19,7 @@ use Rattle.store.proofs.Showing.{first-code}
 use Rattle.store.proofs.Named as Named
 use Rattle.store.proofs.Named.{deepest-le, deepest-bound}
 use Rattle.store.proofs.Accepting.{Head, Whole, Laid, head-kept, contents-kept, each-kept}
-use Rattle.change.specs.Directory.{CallsFor, Entry, none, names, Directed, Standing, Directable, Sound, free, used, Settling}
+use Rattle.change.specs.Directory.{Entry, none, names, Directed, Directable, Sound, free, used, Settling}
 
 module _ (s : List ℕ) (n : ℕ) (P : Settling s n) where
   many : pages S1024 s ≡ n

@@ -26,7 +26,7 @@ use Rattle.partition.proofs.Rows.{load, load-mono, rows-on, some-need}
 use Rattle.partition.proofs.Sorted.{by-code, order-same, some-none, some-once}
 use Rattle.store.specs.Pages.{S1024, pages, Page, free, bucket, page, contents, asRow, rowsHeld, deepestIn}
 use Rattle.store.specs.Accepted.{Bucket, Stands, unused, used}
-use Rattle.store.specs.Moves.{pick, find, holds, within, packFrom, packed, clearedOn, joined, removed}
+use Rattle.store.specs.Moves.{pick, find, holds, within, packFrom, packed, clearedOn, removed}
 use Rattle.store.specs.Tables.{Becomes}
 use Rattle.store.specs.Demands.{Hash, sized-1024}
 use Rattle.store.proofs.Rules.{opened}

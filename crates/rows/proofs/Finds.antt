@@ -1,22 +1,20 @@
 -- What a search finds on an accepted store, and how rows are counted. Assumes nothing.
 use mathlib.Core.Path.{_≡_, refl, sym, ap, subst, _∙_}
 use mathlib.Core.List.{List, map}
-use mathlib.Core.Option.{Option, some, none}
-use Prim.Native.Nat.{ℕ, zero, suc, _+_, _*_, _-_, _/_, _%_, _^_, _≤_, _<_, zero-le}
+use Prim.Native.Nat.{ℕ, zero, suc, _+_, _*_, _-_, _/_, _^_, _≤_, _<_, zero-le}
 use native.Mathlib.Omega.{arith}
 use native.Mathlib.Nat.{add-zero, le-refl, add-comm}
 use lib.ListN.{length, getElem?}
 use lib.Pow.{pow-mono}
-use Rattle.ground.specs.Lists.{byte, tab, total}
+use Rattle.ground.specs.Lists.{byte, total}
 use Rattle.ground.proofs.Tables.{length-tab, tab-map, total-insert}
 use Rattle.words.specs.Le.{le16}
-use Rattle.words.proofs.Bytes.{le16-same}
 use Rattle.hash.specs.Fnv.{fnv, fnv-lt}
-use Rattle.page.specs.Page.{Slotted, BucketPage, Belongs, count, rowAt, rows, place, code}
+use Rattle.page.specs.Page.{BucketPage, Belongs, count, rowAt, rows, code}
 use Rattle.partition.specs.Bits.{top}
 use Rattle.partition.specs.Listing.{listing, placeOf}
 use Rattle.partition.proofs.Bits.{top-lt}
-use Rattle.store.specs.Pages.{S1024, pages, page, read, reading, asRow, rowsOn, rowsHeld, dirDepth, entryAt}
+use Rattle.store.specs.Pages.{S1024, page, read, reading, asRow, rowsOn, rowsHeld, dirDepth, entryAt}
 use Rattle.store.specs.Accepted.{Accepted}
 use Rattle.store.specs.Demands.{sized-1024}
 use Rattle.store.proofs.Rules.{Opened, opened}
@@ -24,7 +22,7 @@ use Rattle.store.proofs.Unique.{read-used, within}
 use Rattle.store.proofs.Depths.{page-byte}
 use Rattle.store.proofs.Reading.{entryOf, Naming, naming, lookup-none, lookup-page, place-at, place-not, count-rows}
 use Rattle.store.proofs.Walked.{walkFrom, Start, behind, walk-start, walk-end, walk-none, walk-page, walk-here, walk-past}
-use Rattle.rows.specs.Spots.{OnPage, Stands, Listed}
+use Rattle.rows.specs.Spots.{Stands, Listed}
 use Rattle.rows.specs.declared.Spot.the-variants.{Here, Nowhere}
 
 module _ (s : List ℕ) (a : Accepted S1024 fnv s) where

@@ -1,15 +1,14 @@
 -- The rows after a put on a known code.
 use mathlib.Core.Path.{_≡_, refl, sym, ap, subst, _∙_}
 use mathlib.Core.List.{List, [], _∷_, _++_, map, flatMap}
-use mathlib.Core.Option.{Option, some, none}
+use mathlib.Core.Option.{some, none}
 use Prim.Native.Nat.{ℕ, Ordering, Ordering·lt, Ordering·eq, Ordering·gt}
 use native.Mathlib.Omega.{arith}
 use Rattle.page.specs.Page.{Record}
-use Rattle.partition.specs.Partition.{Shape, Row, Reordered, empty, front, swap, chain}
+use Rattle.partition.specs.Partition.{Shape, Row, Reordered, front, swap, chain}
 use Rattle.words.specs.Codes.{order}
 use Rattle.partition.specs.Listing.{by, without, placeOf}
 use Rattle.store.specs.Pages.{Page, free, bucket, asRow, rowsOn, contents, rowsIn, rowsHeld}
-use Rattle.store.specs.Accepted.{Accepted}
 use Rattle.store.specs.Moves.{placeOn, overwriteOn, overwritten}
 use Rattle.partition.specs.Listing.{Once}
 use Rattle.words.proofs.Orders.{order-eq}

@@ -1,15 +1,13 @@
 -- Each table settles its call: two results that satisfy it are equal.
-use mathlib.Core.Path.{_≡_, refl, sym, ap, _∙_}
+use mathlib.Core.Path.{_≡_, refl, sym, _∙_}
 use mathlib.Core.List.{List}
-use mathlib.Core.Logic.{_⊎_, inl, inr}
-use mathlib.Core.Option.{Option, some, none}
+use mathlib.Core.Option.{Option, some}
 use Prim.Native.Nat.{ℕ}
-use Rattle.partition.specs.Partition.{Shape, Row}
+use Rattle.partition.specs.Partition.{Shape}
 use Rattle.page.specs.declared.Place.{Place}
-use Rattle.ground.specs.Ladder.{Ladder, rung, given, ends, answer, Answers}
-use Rattle.store.specs.Pages.{Page, contents}
-use Rattle.store.specs.Accepted.{Accepted, Broken}
-use Rattle.store.specs.Tables.{Out, Becomes, writes, checked, rowOf, formatTable, checkTable, countTable, lookupTable, putTable, removeTable, rowTable, inspectTable}
+use Rattle.ground.specs.Ladder.{Answers}
+use Rattle.store.specs.Pages.{Page}
+use Rattle.store.specs.Tables.{Out, writes, formatTable, checkTable, countTable, lookupTable, putTable, removeTable, rowTable, inspectTable}
 use Rattle.store.specs.Demands.{Sized}
 use Rattle.ground.proofs.Ladders.{Sure, one}
 use Rattle.store.proofs.Rules.{broken-one}

@@ -4,11 +4,10 @@ use mathlib.Core.Path.{_≡_, refl, sym, ap, subst, _∙_}
 use mathlib.Core.List.{List}
 use native.Mathlib.Omega.{arith}
 use denote.Ref.{now}
-use lib.ListN.{length, take, drop}
+use lib.ListN.{length}
 use Rattle.hash.specs.Fnv.{fnv}
 use Rattle.page.specs.Page.{BucketPage, Belongs, count, code}
 use Rattle.page.specs.Found.{FoundIn}
-use Rattle.page.specs.declared.Found.{Found}
 use Rattle.page.specs.declared.Found.the-variants.{At, Absent}
 use Rattle.partition.specs.Bits.{top}
 use Rattle.store.specs.Pages.{S1024, page, dirDepth, entryAt}
@@ -16,7 +15,7 @@ use Rattle.store.proofs.Views.{lent-page}
 use Rattle.store.proofs.Reading.{entryOf}
 use Rattle.rows.specs.Spots.{Stands}
 use Rattle.rows.specs.declared.Spot.the-variants.{Here, Nowhere}
-use Rattle.rows.proofs.Finds.{long-enough, shallow, not-named, inside, from-two, keeps, here, nowhere}
+use Rattle.rows.proofs.Finds.{long-enough, shallow, not-named, inside, keeps, here, nowhere}
 use borrow.Author.Needs.{needs}
 use Rattle.rows.proofs.find_row.Statement.{statement}
 use Rattle.rows.proofs.find_row.Tie as tie

@@ -1,8 +1,7 @@
 -- `change::first_hash` meets its contract. Assumes nothing.
-use Prim.Native.Nat.{ℕ, _+_, _-_, _≤_, _<_}
-use mathlib.Core.Path.{_≡_, sym}
+use Prim.Native.Nat.{_-_}
 use native.Mathlib.Omega.{arith}
-use Rattle.page.proofs.Slots.{Lies, lies, code-part}
+use Rattle.page.proofs.Slots.{lies, code-part}
 use borrow.Author.Needs.{needs}
 use Rattle.change.proofs.directory.first_hash.Statement.{statement}
 use Rattle.change.proofs.directory.first_hash.Tie as tie

@@ -1,16 +1,15 @@
 -- `change::name_page` meets its contract: a bucket's run is set, another page's is not. Assumes nothing.
 use borrow.Author.Needs.{needs}
-use Prim.Native.Nat.{ℕ, _+_, _*_, _-_, _^_, _≤_, _<_}
-use mathlib.Core.Path.{_≡_, refl, sym, ap, subst, _∙_}
+use Prim.Native.Nat.{ℕ, _+_, _*_, _-_, _^_, _≤_}
+use mathlib.Core.Path.{_≡_, sym, ap, _∙_}
 use mathlib.Core.List.{List}
 use native.Mathlib.Omega.{arith}
 use native.Mathlib.Nat.{add-zero}
-use lib.ListN.{length, take, drop}
 use lib.Pow.{pow-mono}
 use denote.Ref.{now}
 use Rattle.ground.specs.Lists.{byte}
 use Rattle.hash.specs.Fnv.{fnv}
-use Rattle.page.specs.Page.{BucketPage, depth, code}
+use Rattle.page.specs.Page.{depth, code}
 use Rattle.partition.specs.Bits.{top}
 use Rattle.partition.specs.Partition.{first, after}
 use Rattle.store.specs.Pages.{S1024, page}

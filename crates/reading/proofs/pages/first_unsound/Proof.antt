@@ -13,7 +13,7 @@ use Rattle.hash.specs.Fnv.{fnv}
 use Rattle.partition.specs.Bits.{top}
 use Rattle.page.specs.Page.{depth, code, count}
 use Rattle.store.specs.Accepted.{Stands}
-use Rattle.store.specs.Pages.{S1024, page}
+use Rattle.store.specs.Pages.{S1024}
 use Rattle.reading.specs.Directory.{Named}
 use Rattle.reading.specs.Begun.{Free, Own}
 use Rattle.reading.proofs.Standing.{prefixOf, ends-bad, ends-fine, seen, Like, free-stands, used-stands, stands-free, stands-own, stands-like, stands-named}
