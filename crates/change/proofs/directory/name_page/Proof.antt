@@ -49,20 +49,21 @@ slice-read-k c = search needs
 cast-k : tie.Need-cast-k
 cast-k c = let a = c .before .before .before .before .args in omega (arith, c .slice-known3 .given (a .p * 1024 + 1))
 
-sub-first-hash : tie.Need-sub-first-hash
-sub-first-hash c = search needs
+sub-hash-slot : tie.Need-sub-hash-slot
+sub-hash-slot c = search needs
 
-part-first-hash-start : tie.Need-part-first-hash-start
-part-first-hash-start c = search needs
+part-hash-slot-start : tie.Need-part-hash-slot-start
+part-hash-slot-start c = search needs
 
-part-first-hash-end : tie.Need-part-first-hash-end
-part-first-hash-end c = search needs
+part-hash-slot-end : tie.Need-part-hash-slot-end
+part-hash-slot-end c = search needs
 
-first-hash-requires : tie.Need-first-hash-requires
-first-hash-requires c κs =
+hash-slot-requires : tie.Need-hash-slot-requires
+hash-slot-requires c κs =
     let z = c .before .before .before .before .before .before in
     let t = c .before .before .before .if1 .taken in
-    rw (lent-page (s z) (p z)) (z .pre .4 .rules (kind z ∙ t))
+    let b = z .pre .4 .rules (kind z ∙ t) in
+    rw (lent-page (s z) (p z)) (b, b .some)
 
 run-of-requires : tie.Need-run-of-requires
 run-of-requires c κs =
@@ -84,7 +85,7 @@ returns : tie.Need-returns
 returns c =
     let z = c .before .before .before .before .before .before .before .before .before .before .before .before in
     let t = c .before .before .before .before .before .before .before .before .before .if1 .taken in
-    let f = c .before .before .before .before .before .first-hash .ensures in
+    let f = c .before .before .before .before .before .hash-slot .ensures in
     let e = c .before .before .before .before .run-of .ensures in
     let x = f ∙ ap (λ g. fnv (code g 0)) (lent-page (s z) (p z)) in
     named-page fnv (s z) (z .args .d) (p z) (z .pre .3) (c .before .before .set-run .last .0) (c .before .before .before .before .run-of .result .from) (c .before .before .before .before .run-of .result .to)
@@ -108,10 +109,10 @@ name-page-spec =
     add-k
     slice-read-k
     cast-k
-    sub-first-hash
-    part-first-hash-start
-    part-first-hash-end
-    first-hash-requires
+    sub-hash-slot
+    part-hash-slot-start
+    part-hash-slot-end
+    hash-slot-requires
     run-of-requires
     set-run-requires
     same-length
