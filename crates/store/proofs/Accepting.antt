@@ -8,7 +8,7 @@ use native.Mathlib.Nat.{le-trans, mul-le-mul-right}
 use lib.ListN.{length, getD}
 use Rattle.ground.specs.Lists.{byte, tab}
 use Rattle.ground.proofs.Parts.{part-same}
-use Rattle.ground.proofs.Tables.{tab-same}
+use Rattle.ground.proofs.Tables.{tab-same, tab-map}
 use Rattle.words.specs.Le.{le32}
 use Rattle.words.proofs.Bytes.{le32-same}
 use Rattle.page.specs.Page.{Record, BucketPage, depth, count, code, rows, rowAt}
@@ -24,7 +24,7 @@ use Rattle.store.proofs.Rules.{Opened, opened, closed}
 use Rattle.store.proofs.Shows.{prefixOn, Holding, Shows}
 use Rattle.store.proofs.Shown.{free-not, page-row}
 use Rattle.store.proofs.Unique.{read-zero, read-used, held, within}
-use Rattle.store.proofs.Showing.{map-tab, first-code}
+use Rattle.store.proofs.Showing.{first-code}
 use Rattle.store.proofs.Named.{Entry, nothing, names, deep-small, deepest-bound, shown-shallow, one-called, accepted-entry}
 
 -- page 0 but for its depth
@@ -109,7 +109,7 @@ module _ (S : Shape) (h : List ℕ → ℕ) (sized : Sized S) (hash : Hash h) (t
   begins p a b u i l =
       let g = on p a b u in
       page-row S h rs (depth (pg p)) (rows (pg p)) (w .page (p - 2) (depth (pg p)) (rows (pg p)) g) (asRow (rowAt (pg p) i)) .0
-      (rw (map-tab asRow (rowAt (pg p)) (count (pg p))) (tab-in (λ j. asRow (rowAt (pg p) j)) (count (pg p)) i l)) .1
+      (rw (tab-map asRow (rowAt (pg p)) (count (pg p))) (tab-in (λ j. asRow (rowAt (pg p) j)) (count (pg p)) i l)) .1
 
   -- the entries that name a page are those that it calls for
   exactly : (p : ℕ) → 2 ≤ p → p < pages S t → BucketPage (pg p) → (e : ℕ) → e < S .entries

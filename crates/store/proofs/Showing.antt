@@ -9,7 +9,7 @@ use lib.Pow.{pow-pos, pow-add}
 use lib.ListN.{length, getD, length-map}
 use Rattle.ground.specs.Lists.{tab, total}
 use Rattle.ground.proofs.Sides.{side}
-use Rattle.ground.proofs.Tables.{length-tab, total-same}
+use Rattle.ground.proofs.Tables.{length-tab, tab-map, total-same}
 use Rattle.page.specs.Page.{Record, BucketPage, Slotted, depth, count, code, rows, rowAt}
 use Rattle.page.specs.Page.{need as slot-need, free as total-free}
 use Rattle.page.proofs.Sums.{len-of-code}
@@ -36,11 +36,6 @@ use Rattle.store.proofs.Unique.{read-zero, read-bucket, held, page-long
 
 -- ---- tables
 
-pub map-tab : {A B : Type 0} (g : A → B) (f : ℕ → A) (n : ℕ) → map g (tab f n) ≡ tab (λ i. g (f i)) n
-unfolding tab
-map-tab g f zero = refl
-map-tab g f (suc n) = ap (λ l. g (f zero) ∷ l) (map-tab g (λ i. f (suc i)) n)
-
 needs-tab : (f : ℕ → Row) (n : ℕ) → needs (tab f n) ≡ total (λ i. need (f i)) n
 unfolding tab needs total
 needs-tab f zero = refl
@@ -53,7 +48,7 @@ module _ (g : List ℕ) (b : Slotted g) where
   rowIn i = asRow (rowAt g i)
 
   rising : Rising by-code (map asRow (rows g))
-  rising = rw (map-tab asRow (rowAt g) (count g)) (rising-tab by-code rowIn (count g) (b .ascending))
+  rising = rw (tab-map asRow (rowAt g) (count g)) (rising-tab by-code rowIn (count g) (b .ascending))
 
   pub page-ordered : inOrder (map asRow (rows g)) ≡ map asRow (rows g)
   page-ordered = order-own (map asRow (rows g)) rising
@@ -65,13 +60,13 @@ module _ (g : List ℕ) (b : Slotted g) where
   unfolding need
   page-needs =
       let e : needs (map asRow (rows g)) ≡ total (slot-need g) (count g) =
-      ap needs (map-tab asRow (rowAt g) (count g)) ∙ needs-tab rowIn (count g)
+      ap needs (tab-map asRow (rowAt g) (count g)) ∙ needs-tab rowIn (count g)
       ∙ total-same (λ i. need (rowIn i)) (slot-need g) (count g) (λ i l. omega (arith, len-of-code g i b l)) in
       omega (arith, b .unused)
 
   -- a row of the page is that of a slot
   pub slot-of : (r : Row) → List·Memᴰ r (map asRow (rows g)) → (i : ℕ) × (i < count g) × (r ≡ rowIn i)
-  slot-of r m = tab-member rowIn (count g) r (rw (map-tab asRow (rowAt g) (count g)) at m)
+  slot-of r m = tab-member rowIn (count g) r (rw (tab-map asRow (rowAt g) (count g)) at m)
 
 -- ---- pages as the partition's pages
 
