@@ -1,20 +1,19 @@
--- The rows after a put on a known code.
+-- The rows after a put on a known code. Assumes nothing.
 use mathlib.Core.Path.{_≡_, refl, sym, ap, subst, _∙_}
 use mathlib.Core.List.{List, [], _∷_, _++_, map, flatMap}
 use mathlib.Core.Option.{some, none}
 use Prim.Native.Nat.{ℕ, Ordering, Ordering·lt, Ordering·eq, Ordering·gt}
 use native.Mathlib.Omega.{arith}
 use Rattle.page.specs.Page.{Record}
-use Rattle.partition.specs.Partition.{Shape, Row, Reordered, front, swap, chain}
+use Rattle.partition.specs.Partition.{Row, Reordered, front, swap, chain}
 use Rattle.words.specs.Codes.{order}
 use Rattle.partition.specs.Listing.{by, without, placeOf}
-use Rattle.store.specs.Pages.{Page, free, bucket, asRow, rowsOn, contents, rowsIn, rowsHeld}
+use Rattle.store.specs.Pages.{Page, free, bucket, asRow, rowsOn, rowsIn}
 use Rattle.store.specs.Moves.{placeOn, overwriteOn, overwritten}
 use Rattle.partition.specs.Listing.{Once}
 use Rattle.words.proofs.Orders.{order-eq}
 use Rattle.partition.proofs.Reorders.{same-order}
 use Rattle.partition.proofs.Maps.{cut, cut-none}
-use Rattle.store.proofs.Plan.{OverRows, AcceptedIsAfresh}
 
 abbrev pub over : Row → Row → Row
 over r q = by (order (r .code) (q .code)) q r q
@@ -68,6 +67,3 @@ known-over r (q ∷ rs) old o e = go (order (r .code) (q .code)) refl e (known-o
     go Ordering·eq f x i =
         let z : placeOf rs (r .code) ≡ none = subst (λ c. placeOf rs c ≡ none) (sym (order-eq (r .code) (q .code) f)) (o .0) in
         front r (subst (λ l. Reordered l (cut (r .code) rs)) (sym (none-over r rs z)) (subst (λ l. Reordered rs l) (sym (cut-none (r .code) rs z)) (same-order rs)))
-
-pub over-rows : (S : Shape) (h : List ℕ → ℕ) → AcceptedIsAfresh S h → OverRows S h
-over-rows S h fresh s r old a e = subst (λ l. Reordered l (r ∷ cut (r .code) (rowsHeld S s))) (sym (rows-over r (contents S s))) (known-over r (rowsHeld S s) old (fresh s a .0) e)
