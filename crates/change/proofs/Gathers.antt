@@ -17,8 +17,8 @@ use Rattle.page.proofs.Sums.{count-more, len-of-code}
 use Rattle.partition.specs.Partition.{Row, need, needs, Reordered, chain}
 use Rattle.partition.specs.Listing.{by, insert, without, inOrder, placeOf, Once}
 use Rattle.partition.proofs.Reorders.{same-order, turned, append-same, needs-same, needs-append, to-front}
-use Rattle.partition.proofs.Maps.{skip, passed}
-use Rattle.partition.proofs.Rising.{insert-map}
+use Rattle.partition.proofs.Maps.{passed}
+use Rattle.partition.proofs.Rising.{by-ne, insert-map}
 use Rattle.partition.proofs.Sorted.{by-code, same-map, in-order-reordered, order-put}
 use Rattle.store.specs.Pages.{Page, free, read, asRow, rowsOn, rowsIn}
 use Rattle.store.specs.Moves.{pick, within, record-at, frontierOf, atFrontier}
@@ -61,7 +61,7 @@ unfolding placeOf
 none-left [] b c e = refl
 none-left (q ∷ a) b c e =
     let t = passed (order c (q .code)) (placeOf (a ++ b) c) (q .place) e in
-    skip (order c (q .code)) (placeOf a c) (q .place) (t .0) ∙ none-left a b c (t .1)
+    by-ne (order c (q .code)) (placeOf a c) (some (q .place)) (t .0) ∙ none-left a b c (t .1)
 
 once-left : (a b : List Row) → Once (a ++ b) → Once a
 once-left [] b o = tt

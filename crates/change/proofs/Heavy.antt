@@ -26,8 +26,8 @@ use Rattle.store.proofs.Shown.{within-pages}
 use Rattle.store.proofs.Showing.{accepted-shows, pages-held}
 use Rattle.store.proofs.Unique.{page-long}
 use Rattle.store.proofs.Rooms.{frees}
-use Rattle.store.proofs.Reading.{Naming, place-on, place-not}
-use Rattle.store.proofs.PageTies.{fits-needs}
+use Rattle.store.proofs.Reading.{Naming, place-on}
+use Rattle.store.proofs.PageTies.{found-not, fits-needs}
 use Rattle.store.proofs.PutCases.{here-six, splits-seven, put-splits-is}
 use Rattle.store.proofs.PutShows.{put-found}
 use Rattle.store.proofs.PutRows.{put-shown}
@@ -76,7 +76,7 @@ module _ (h : List ℕ → ℕ) (hash : Hash h) (s c pl : List ℕ) (P : Puttabl
   starts = begins S1024 h sized-1024 hash s A c p U
 
   absent : placeOf (rowsHeld S1024 s) c ≡ none
-  absent = place-on S1024 h (rowsHeld S1024 s) gs shows c (p - 2) (depth g) (rows g) (U .holding) (sym starts) ∙ place-not g slotted c i B
+  absent = place-on S1024 h (rowsHeld S1024 s) gs shows c (p - 2) (depth g) (rows g) (U .holding) (sym starts) ∙ found-not g slotted c i B
 
   none-there : (x : List ℕ) → placeOf (rowsHeld S1024 s) c ≡ some x → ⊥
   none-there x e = let z : _≡_ {A = ℕ} 0 1 = cc absent in omega arith

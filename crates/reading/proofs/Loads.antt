@@ -2,7 +2,7 @@
 use mathlib.Core.Path.{_≡_, refl, sym, ap, _∙_}
 use mathlib.Core.Bool.{Bool, true, false}
 use mathlib.Core.List.{List, [], _∷_, _++_, map, flatMap}
-use mathlib.Core.Logic.{_⊎_, ⊎-elim}
+use mathlib.Core.Logic.{⊎-elim}
 use Prim.Native.Nat.{ℕ, zero, suc, _+_, _-_, _/_, _^_, _≤_, _<_}
 use native.Mathlib.Omega.{arith}
 use lib.Dec.{eqb}
@@ -22,7 +22,7 @@ use Rattle.store.specs.Moves.{pick}
 use Rattle.store.specs.Demands.{Sized, Hash}
 use Rattle.store.proofs.Unique.{read-zero, read-bucket}
 use Rattle.store.proofs.Owner.{called, shared}
-use Rattle.store.proofs.Showing.{slot-of}
+use Rattle.store.proofs.PageTies.{slot-of}
 
 needs-append : (s t : List Row) → needs (s ++ t) ≡ needs s + needs t
 unfolding needs
@@ -50,12 +50,12 @@ shorter a b j k l e = sym (cut-top a j k l) ∙ ap (λ n. n / 2 ^ (k - j)) e ∙
 module _ (h : List ℕ → ℕ) (g : List ℕ) (b : Slotted g) (j v : ℕ) where
   all-on : ((i : ℕ) → i < count g → top j (h (code g i)) ≡ v) → rowsOf h (map asRow (rows g)) j v ≡ map asRow (rows g)
   all-on f = rows-every h (map asRow (rows g)) j v (λ r m.
-      let y = slot-of g b r m in
+      let y = slot-of g r m in
       ap (λ q. top j (h (q .code))) (y .2) ∙ f (y .0) (y .1))
 
   all-off : ((i : ℕ) → i < count g → top j (h (code g i)) ≡ v → ⊥) → rowsOf h (map asRow (rows g)) j v ≡ []
   all-off f = rows-none h (map asRow (rows g)) j v (λ r m e.
-      let y = slot-of g b r m in
+      let y = slot-of g r m in
       f (y .0) (y .1) (sym (ap (λ q. top j (h (q .code))) (y .2)) ∙ e))
 
 pub pick-none : (b : Bool) → _≡_ {A = ℕ} (pick b 0 0) 0

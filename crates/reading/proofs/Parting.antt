@@ -21,7 +21,7 @@ use Rattle.store.specs.Moves.{pick}
 use Rattle.store.specs.Demands.{sized-1024}
 use Rattle.store.proofs.Unique.{read-zero, read-used, page-long}
 use Rattle.store.proofs.Depths.{page-byte}
-use Rattle.store.proofs.Showing.{page-needs}
+use Rattle.store.proofs.PageTies.{page-needs}
 use Rattle.reading.specs.Begun.{Standing}
 use Rattle.reading.specs.Digest.{Legible, LoadOf, Digest, loadOf}
 use Rattle.reading.proofs.Standing.{seen}

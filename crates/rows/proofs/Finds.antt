@@ -20,7 +20,8 @@ use Rattle.store.specs.Demands.{sized-1024}
 use Rattle.store.proofs.Rules.{Opened, opened}
 use Rattle.store.proofs.Unique.{read-used, within}
 use Rattle.store.proofs.Depths.{page-byte}
-use Rattle.store.proofs.Reading.{entryOf, Naming, naming, lookup-none, lookup-page, place-at, place-not, count-rows}
+use Rattle.store.proofs.Reading.{entryOf, Naming, naming, lookup-none, lookup-page, count-rows}
+use Rattle.store.proofs.PageTies.{found-at, found-not}
 use Rattle.store.proofs.Walked.{walkFrom, Start, behind, walk-start, walk-end, walk-none, walk-page, walk-here, walk-past}
 use Rattle.rows.specs.Spots.{Stands, Listed}
 use Rattle.rows.specs.declared.Spot.the-variants.{Here, Nowhere}
@@ -62,10 +63,10 @@ module _ (s : List ℕ) (a : Accepted S1024 fnv s) where
       on-it = lookup-page S1024 fnv sized-1024 fnv-lt s a c n .1 ∙ ap (λ x. placeOf (rowsOn x) c) (read-used g keeps)
 
       pub here : (i : ℕ) → i < count g → code g i ≡ c → Stands s c (Here p i)
-      here i l e = (record { from = from-two; within = inside; rules = keeps; slot = l }, e, on-it ∙ place-at g (keeps .rules) c i l e)
+      here i l e = (record { from = from-two; within = inside; rules = keeps; slot = l }, e, on-it ∙ found-at g (keeps .rules) c i l e)
 
       pub nowhere : (i : ℕ) → Belongs g i c → Stands s c Nowhere
-      nowhere i b = on-it ∙ place-not g (keeps .rules) c i b
+      nowhere i b = on-it ∙ found-not g (keeps .rules) c i b
 
 -- an entry of a directory lies in page 1
 pub entry-inside : (d x : ℕ) → d ≤ 8 → x < 2 ^ 32 → top d x < 256

@@ -2,7 +2,7 @@
 -- Assumes nothing.
 use mathlib.Core.Path.{_≡_, refl, sym, ap, subst, _∙_}
 use mathlib.Core.List.{List, [], _∷_, _++_, map, List·Memᴰ, List·Memᴰ·head, List·Memᴰ·tail}
-use mathlib.Core.Logic.{_⊎_, inl, inr, ⊎-elim, _↔_}
+use mathlib.Core.Logic.{inl, inr, ⊎-elim, _↔_}
 use mathlib.Core.Option.{Option, some, none}
 use Prim.Native.Nat.{ℕ, zero, suc, _+_, _-_, _≤_, _<_}
 use native.Mathlib.Omega.{arith}
@@ -28,7 +28,8 @@ use Rattle.store.specs.Tables.{Out, refused, refusedAt, row, counted, ro
 use Rattle.store.specs.Demands.{Sized, Hash, GoodCode, AtStart, Nth, CountIsSize, RowIsListed, InspectIsSlot, PlaceComesBack}
 use Rattle.store.proofs.Rules.{accepted-whole, opened}
 use Rattle.store.proofs.Shown.{some-page}
-use Rattle.store.proofs.Showing.{accepted-shows, under, slot-of}
+use Rattle.store.proofs.Showing.{accepted-shows, under}
+use Rattle.store.proofs.PageTies.{slot-of}
 use Rattle.store.proofs.Unique.{read-used}
 use Rattle.store.proofs.Reading.{row-none, row-free}
 use Rattle.store.proofs.Walked.{listed-once}
@@ -80,7 +81,7 @@ pub record Good (r : Row) : Type 0 where
 pub slot-good : (g : List ℕ) → Slotted g → (r : Row) → List·Memᴰ r (map asRow (rows g)) → Good r
 unfolding bytesAt
 slot-good g b r m =
-    let w = slot-of g b r m in
+    let w = slot-of g r m in
     let i : ℕ = w .0 in
     let l = len-of-code g i b (w .1) in
     let p = b .places i (w .1) in
