@@ -29,12 +29,12 @@ use Rattle.partition.proofs.Tree.{pfx}
 use Rattle.store.specs.Pages.{Page, free, bucket, asRow, depthOn, rowsIn}
 use Rattle.store.specs.Moves.{pick, find, within, holds, bucketOf, packFrom, packed, clearedOn, joined, removeOn, removed}
 use Rattle.store.proofs.Shows.{firstCode, prefixOn, OnPage, Holding, Shows}
-use Rattle.store.proofs.Shown.{within-on, within-pages, find-passes, find-least, shows-reordered}
+use Rattle.store.proofs.Shown.{page-of, within-on, within-pages, find-passes, find-least, shows-reordered}
 use Rattle.store.proofs.Records.{rows-packed}
 use Rattle.store.proofs.PutKept.{Kept}
 use Rattle.store.proofs.BucketOf.{shallowest-bucket, bucket-of-some, bucket-of-none}
 use Rattle.store.proofs.Known.{Known, known}
-use Rattle.store.proofs.Fewer.{makes-page, at-least, Left, cleared, filled, Fewer, fewer-shows, fewer-kept}
+use Rattle.store.proofs.Fewer.{at-least, Left, cleared, filled, Fewer, fewer-shows, fewer-kept}
 
 -- a row's own code goes
 cut-own : (r : Row) (l : List Row) → placeOf l (r .code) ≡ none → cut (r .code) (r ∷ l) ≡ l
@@ -123,7 +123,7 @@ module _ (S : Shape) (h : List ℕ → ℕ) (small : (c : List ℕ) → h c < 2 
     left-bucket = shallowest-bucket S h W x j f p
 
     fills : (rs : List Record) → map asRow rs ≡ inOrder (rowsOf h W j (top j x)) → Left S h small r W gs s j f (bucket j rs)
-    fills rs e = let m = makes-page S h W j (top j x) rs left-bucket e in filled rs (m .0) (m .1)
+    fills rs e = let m = page-of S h W j (top j x) rs left-bucket e in filled rs (m .0) (m .1)
 
     -- rows left in the page's own prefix: the record goes
     rows-left : j ≡ its .depth → map asRow (without (λ q. q .code) (r .code) (its .records)) ≡ inOrder (rowsOf h W j (top j x))

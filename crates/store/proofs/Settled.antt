@@ -1,4 +1,4 @@
--- Each table settles its call: two results that satisfy it are equal.
+-- Each table settles its call: two results that satisfy it are equal. Assumes nothing.
 use mathlib.Core.Path.{_≡_, refl, sym, _∙_}
 use mathlib.Core.List.{List}
 use mathlib.Core.Option.{Option, some}
@@ -17,10 +17,10 @@ use Rattle.store.proofs.Unique.{becomes-one}
 nothing : {P : Type 0} (x y : Unit {0}) → P → P → x ≡ y
 nothing x y p q = refl
 
-same : {A : Type 0} {a : A} (b c : A) → b ≡ a → c ≡ a → b ≡ c
+pub same : {A : Type 0} {a : A} (b c : A) → b ≡ a → c ≡ a → b ≡ c
 same b c e f = e ∙ sym f
 
-some-one : {A : Type 0} {o : Option A} (a b : A) → o ≡ some a → o ≡ some b → a ≡ b
+pub some-one : {A : Type 0} {o : Option A} (a b : A) → o ≡ some a → o ≡ some b → a ≡ b
 some-one a b e f = cc
 
 wrote : (S : Shape) (h : List ℕ → ℕ) (s : List ℕ) (o : Out) (gs : List Page) → Sized S → Sure (writes S h s o gs)

@@ -19,7 +19,7 @@ use Rattle.partition.proofs.Tree.{pfx}
 use Rattle.partition.proofs.Directory.{holds-top}
 use Rattle.partition.proofs.Path.{path-le}
 use Rattle.partition.proofs.Rows.{load, load-mono}
-use Rattle.partition.proofs.Sum.{of-prefix}
+use Rattle.partition.proofs.Sum.{prefix-row}
 use Rattle.partition.proofs.Pages as P
 use Rattle.partition.proofs.Members.{once-append}
 use Rattle.store.specs.Pages.{pages, page, dirDepth, entryAt, Page, free, bucket, read, contents, asRow, rowsIn, rowsHeld}
@@ -156,7 +156,7 @@ module _ (S : Shape) (h : List ℕ → ℕ) (gs : List Page) (s : Sound S h gs) 
       go : (l : List Row) → rowsOf h (rowsIn gs) (S .deepest) v ≡ l → needs (rowsOf h (rowsIn gs) (S .deepest) v) ≤ S .capacity
       go [] e = rw e zero-le
       go (r ∷ l) e =
-          let m = of-prefix S h (rowsIn gs) (S .deepest) v r (subst (λ t. List·Memᴰ r t) (sym e) (List·Memᴰ·head refl)) in
+          let m = prefix-row h (rowsIn gs) (S .deepest) v r (subst (λ t. List·Memᴰ r t) (sym e) (List·Memᴰ·head refl)) in
           let w = row-on gs r (m .0) in
           at r (m .1) (w .0) (w .1) (w .2) (w .3) (s .keeps (w .0) (w .1) (w .2) (w .3) r (w .4))
 

@@ -16,7 +16,7 @@ use Rattle.partition.specs.Listing.{inOrder, Once}
 use Rattle.partition.proofs.Tree.{pfx}
 use Rattle.partition.proofs.Rows.{test, same-bucket, listed}
 use Rattle.partition.proofs.Laws.{no-overlap, held, load-reordered}
-use Rattle.partition.proofs.Sum.{of-prefix, head-of}
+use Rattle.partition.proofs.Sum.{prefix-row, head-of}
 use Rattle.partition.proofs.Store.{every-row, fine-reordered, not-deeper}
 use Rattle.partition.proofs.Sorted.{some-once, same-map, bucket-same}
 use Rattle.partition.proofs.Pages.{turned}
@@ -115,7 +115,7 @@ module _ (S : Shape) (h : List ℕ → ℕ) where
   -- a page's rows are the rows of its prefix
   pub page-row : (rows : List Row) (k : ℕ) (rs : List Record) → OnPage S h rows k rs → (r : Row) → List·Memᴰ r (map asRow rs) ↔ (List·Memᴰ r rows × (top k (h (r .code)) ≡ prefixOn h k rs))
   page-row rows k rs o r = (
-    (λ m. of-prefix S h rows k (prefixOn h k rs) r (mem-reordered (in-order-reordered (rowsOf h rows k (prefixOn h k rs))) (subst (λ l. List·Memᴰ r l) (o .ordered) m))),
+    (λ m. prefix-row h rows k (prefixOn h k rs) r (mem-reordered (in-order-reordered (rowsOf h rows k (prefixOn h k rs))) (subst (λ l. List·Memᴰ r l) (o .ordered) m))),
     (λ m. subst (λ l. List·Memᴰ r l) (sym (o .ordered)) (mem-reordered (turned (in-order-reordered (rowsOf h rows k (prefixOn h k rs)))) (subst (λ v. List·Memᴰ r (rowsOf h rows k v)) (m .1) (held S h rows r (m .0) k)))),
   )
 
@@ -131,7 +131,7 @@ module _ (S : Shape) (h : List ℕ → ℕ) where
       absurd (List·Memᴰ·not-nil (subst (λ l. List·Memᴰ (r .0) l) (sym e) (mem-reordered (turned (in-order-reordered (rowsOf h rows k v))) (r .1))))
   page-of rows k v (q ∷ rs) b e =
       let m = mem-reordered (in-order-reordered (rowsOf h rows k v)) (subst (λ l. List·Memᴰ (asRow q) l) e (List·Memᴰ·head refl)) in
-      let p : prefixOn h k (q ∷ rs) ≡ v = of-prefix S h rows k v (asRow q) m .1 in
+      let p : prefixOn h k (q ∷ rs) ≡ v = prefix-row h rows k v (asRow q) m .1 in
       (record { some = omega arith; is = rw p b; ordered = rw p e }, p)
 
   -- pages that show those buckets of the rows of which P holds, each on one page, and nothing else
@@ -180,7 +180,7 @@ module _ (S : Shape) (h : List ℕ → ℕ) where
     pub paged : (k v : ℕ) → IsBucket S h rows k v → (i : ℕ) × (rs : List Record) × Holding gs i k rs × (prefixOn h k rs ≡ v)
     paged k v b =
         let r = head-of (rowsOf h rows k v) (b .has) in
-        let m = of-prefix S h rows k v (r .0) (r .1) in
+        let m = prefix-row h rows k v (r .0) (r .1) in
         let w = some-page (r .0) (m .0) in
         let o = s .page (w .0) (w .1) (w .2) (w .3) in
         let e = no-overlap S h rows (w .1) (prefixOn h (w .1) (w .2)) k v (h (r .0 .code)) (o .is) b (page-row rows (w .1) (w .2) o (r .0) .0 (w .4) .1) (m .1) in
