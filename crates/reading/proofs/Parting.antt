@@ -23,9 +23,9 @@ use Rattle.store.specs.Demands.{sized-1024}
 use Rattle.store.proofs.Unique.{read-zero, read-used, page-long}
 use Rattle.store.proofs.Depths.{page-byte}
 use Rattle.store.proofs.PageTies.{page-needs}
+use Rattle.store.proofs.Views.{page-lent}
 use Rattle.reading.specs.Begun.{Standing}
 use Rattle.reading.specs.Digest.{Legible, LoadOf, Digest, loadOf}
-use Rattle.reading.proofs.Standing.{seen}
 use Rattle.reading.proofs.Loads.{pick-none, load-shorter}
 
 depth-small : (s : List ℕ) (p : ℕ) → dirDepth s ≤ 8 → Stands S1024 fnv s p → depth (page S1024 s p) ≤ 8
@@ -41,7 +41,7 @@ stands-is s p (unused z _) = inl z
 stands-is s p (used b _ _) = inr (b .rules)
 
 pub legible : (s : List ℕ) (n p : ℕ) → Standing s n → 2 ≤ p → p < n → Legible (take (p * 1024 + 1024 - p * 1024) (drop (p * 1024) s))
-legible s n p T a b = subst Legible (sym (seen s p)) (record { long = page-long S1024 s p (omega (arith, T .number)); is = stands-is s p (T .each p a b) })
+legible s n p T a b = subst Legible (sym (page-lent s p)) (record { long = page-long S1024 s p (omega (arith, T .number)); is = stands-is s p (T .each p a b) })
 
 module _ (g : List ℕ) (L : Legible g) where
   pub used-page : (byte g 0 ≡ 0 → ⊥) → BucketPage g

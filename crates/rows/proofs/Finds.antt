@@ -3,7 +3,7 @@ use mathlib.Core.Path.{_≡_, refl, sym, ap, subst, _∙_}
 use mathlib.Core.List.{List, map}
 use Prim.Native.Nat.{ℕ, zero, suc, _+_, _*_, _-_, _/_, _^_, _≤_, _<_, zero-le}
 use native.Mathlib.Omega.{arith}
-use native.Mathlib.Nat.{add-zero, le-refl, add-comm}
+use native.Mathlib.Nat.{le-refl, add-comm}
 use lib.ListN.{length, getElem?}
 use lib.Pow.{pow-mono}
 use Rattle.ground.specs.Lists.{byte, total}
@@ -19,7 +19,7 @@ use Rattle.store.specs.Accepted.{Accepted}
 use Rattle.store.specs.Demands.{sized-1024}
 use Rattle.store.proofs.Rules.{Opened, opened}
 use Rattle.store.proofs.Unique.{read-used, within}
-use Rattle.store.proofs.Depths.{page-byte}
+use Rattle.store.proofs.Depths.{page-byte, kind-byte}
 use Rattle.store.proofs.Reading.{entryOf, Naming, naming, lookup-none, lookup-page, count-rows}
 use Rattle.store.proofs.PageTies.{found-at, found-not}
 use Rattle.store.proofs.Walked.{walkFrom, Start, behind, walk-start, walk-end, walk-none, walk-page, walk-here, walk-past}
@@ -77,9 +77,6 @@ entry-inside d x l h = let m : 2 ^ d ≤ 2 ^ 8 = pow-mono l in omega (arith, top
 count-by : (b : ℕ) (g : List ℕ) → (b ≡ 0 → length (rowsOn (reading b g)) ≡ 0) × ((b ≡ 0 → ⊥) → length (rowsOn (reading b g)) ≡ count g)
 count-by zero g = ((λ e. refl), (λ n. absurd (n refl)))
 count-by (suc b) g = ((λ e. absurd (omega arith)), (λ n. ap length (tab-map asRow (rowAt g) (count g)) ∙ length-tab (λ i. asRow (rowAt g i)) (count g)))
-
-kind-byte : (s : List ℕ) (p : ℕ) → byte (page S1024 s p) 0 ≡ byte s (p * 1024)
-kind-byte s p = page-byte s p 0 (omega arith) ∙ ap (byte s) (add-zero (p * 1024))
 
 pub rows-free : (s : List ℕ) (p : ℕ) → byte s (p * 1024) ≡ 0 → length (rowsOn (read (page S1024 s p))) ≡ 0
 unfolding read
