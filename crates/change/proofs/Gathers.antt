@@ -3,7 +3,7 @@ use mathlib.Core.Path.{_≡_, refl, sym, ap, subst, _∙_}
 use mathlib.Core.List.{List, [], _∷_, _++_, map, append-assoc, append-nil, flatMap}
 use mathlib.Core.Bool.{true, false}
 use mathlib.Core.Option.{some, none}
-use Prim.Native.Nat.{ℕ, suc, _+_, _-_, _*_, _≤_, _<_, max, Ordering, Ordering·lt, Ordering·eq, Ordering·gt}
+use Prim.Native.Nat.{ℕ, suc, _+_, _*_, _≤_, _<_, max, Ordering, Ordering·lt, Ordering·eq, Ordering·gt}
 use native.Mathlib.Omega.{arith}
 use native.Mathlib.Numerals.{add-one}
 use lib.ListN.{length, getD, drop, length-map}
@@ -17,7 +17,7 @@ use Rattle.page.proofs.Sums.{count-more, len-of-code}
 use Rattle.partition.specs.Partition.{Row, need, needs, Reordered, chain}
 use Rattle.partition.specs.Listing.{by, insert, without, inOrder, placeOf, Once}
 use Rattle.partition.proofs.Reorders.{same-order, turned, append-same, needs-same, needs-append, to-front}
-use Rattle.partition.proofs.Maps.{passed}
+use Rattle.partition.proofs.Maps.{cut, passed}
 use Rattle.partition.proofs.Rising.{by-ne, insert-map}
 use Rattle.partition.proofs.Sorted.{by-code, same-map, in-order-reordered, order-put}
 use Rattle.store.specs.Pages.{Page, free, read, asRow, rowsOn, rowsIn}
@@ -27,9 +27,6 @@ use Rattle.store.proofs.PageTies.{rows-tab, page-needs, page-order, page-fronti
 use Rattle.change.specs.Join.{Housed, Tight, Taking, Gathered, Storable, rowOf, rowsAt, othersOn, othersIn}
 
 -- ---- rows left out of lists
-
-abbrev cut : List ℕ → List Row → List Row
-cut c rs = without (λ q. q .code) c rs
 
 pub cut-append : (c : List ℕ) (a b : List Row) → cut c (a ++ b) ≡ cut c a ++ cut c b
 unfolding without

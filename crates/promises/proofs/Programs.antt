@@ -1,12 +1,13 @@
 -- THE WRONG PROGRAMS ARE TURNED AWAY: none of them keeps the tables.
+use borrow.Author.Tests.{le-leb}
 use mathlib.Core.Path.{_≡_, refl, sym, ap, subst, _∙_}
 use mathlib.Core.Bool.{Bool, true, false}
 use mathlib.Core.List.{List, [], _∷_}
-use mathlib.Core.Logic.{_⊎_, ⊎-elim}
+use mathlib.Core.Logic.{⊎-elim}
 use mathlib.Core.Option.{Option, some, none}
 use Prim.Native.Nat.{ℕ, zero, suc, _+_, _≤_, _<_}
 use native.Mathlib.Omega.{arith}
-use lib.Dec.{leb, eqb, le→leb}
+use lib.Dec.{eqb}
 use lib.Signed.{mag}
 use lib.ListN.{length, replicate, getElem?}
 use lib.Seq.{ext-getD}
@@ -19,7 +20,7 @@ use Rattle.partition.specs.Partition.{Shape, Row, keep, need, needs, rowsOf, gr
 use Rattle.partition.specs.Listing.{placeOf, listing, Once}
 use Rattle.partition.proofs.Maps.{absent}
 use Rattle.partition.proofs.Reorders.{length-same}
-use Rattle.partition.proofs.Rows.{test, rows-all}
+use Rattle.partition.proofs.Rows.{rows-all}
 use Rattle.partition.proofs.Splice.{walk-fits}
 use Rattle.page.specs.declared.Place.{Place}
 use Rattle.page.specs.Places.{place, stored}
@@ -115,7 +116,7 @@ module _ (h : List ℕ → ℕ) (hash : Hash h) where
       let e : buckets S1024 h (q ∷ qs) ≡ walk (λ k v. grade 1016 (rowsOf h (q ∷ qs) k v)) 8 (grade 1016 (q ∷ qs)) 0 0
       = ap (λ rs. walk (λ k v. grade 1016 (rowsOf h (q ∷ qs) k v)) 8 (grade 1016 rs) 0 0) (rows-all h hash (q ∷ qs)) in
       let f = walk-fits (λ k v. grade 1016 (rowsOf h (q ∷ qs) k v)) 8 0 0 in
-      let g : grade 1016 (q ∷ qs) ≡ fitting true = ap fitting (test (leb (needs (q ∷ qs)) 1016) (le→leb (needs (q ∷ qs)) 1016 l)) in
+      let g : grade 1016 (q ∷ qs) ≡ fitting true = ap fitting (le-leb (needs (q ∷ qs)) 1016 l) in
       omega (arith, ap length (e ∙ ap (λ g. walk (λ k v. grade 1016 (rowsOf h (q ∷ qs) k v)) 8 g 0 0) g ∙ f))
 
   module _ (P : Program) (meets : Meets h P) where

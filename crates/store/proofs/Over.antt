@@ -1,6 +1,6 @@
 -- The rows after a put on a known code. Assumes nothing.
 use mathlib.Core.Path.{_≡_, refl, sym, ap, subst, _∙_}
-use mathlib.Core.List.{List, [], _∷_, _++_, map, flatMap}
+use mathlib.Core.List.{List, [], _∷_, _++_, map, flatMap, map-append}
 use mathlib.Core.Option.{some, none}
 use Prim.Native.Nat.{ℕ, Ordering, Ordering·lt, Ordering·eq, Ordering·gt}
 use native.Mathlib.Omega.{arith}
@@ -31,10 +31,6 @@ many-over r (q ∷ rs) = ap (λ x. x ∷ map asRow (map (placeOn r) rs)) (one-ov
 page-over : (r : Row) (g : Page) → rowsOn (overwriteOn r g) ≡ map (over r) (rowsOn g)
 page-over r free = refl
 page-over r (bucket k rs) = many-over r rs
-
-map-append : (f : Row → Row) (l m : List Row) → map f (l ++ m) ≡ map f l ++ map f m
-map-append f [] m = refl
-map-append f (x ∷ l) m = ap (λ t. f x ∷ t) (map-append f l m)
 
 pub rows-over : (r : Row) (gs : List Page) → rowsIn (overwritten gs r) ≡ map (over r) (rowsIn gs)
 unfolding overwritten rowsIn flatMap

@@ -1,4 +1,5 @@
 -- A page's rows, and what the page functions leave, in the words of the map, the listing and the moves. Assumes nothing.
+use borrow.Author.Tests.{le-leb, lt-leb}
 use mathlib.Core.Path.{_≡_, sym, ap, subst, _∙_}
 use mathlib.Core.Bool.{true, false}
 use mathlib.Core.List.{List, [], _∷_, _++_, map, List·Memᴰ}
@@ -6,7 +7,7 @@ use mathlib.Core.Logic.{_↔_, ⊎-elim}
 use mathlib.Core.Option.{some, none}
 use Prim.Native.Nat.{ℕ, _+_, _-_, _*_, _≤_, _<_, Ordering·eq}
 use native.Mathlib.Omega.{arith}
-use lib.Dec.{leb, le→leb, leb→le}
+use lib.Dec.{leb}
 use lib.ListN.{length, set, replicate, length-replicate, getD-replicate, length-map, List·getD-eq-default}
 use lib.Seq.{take-length, drop-length}
 use Rattle.ground.specs.Lists.{tab, total, insertAt, removeAt}
@@ -16,7 +17,6 @@ use Rattle.words.specs.Codes.{order, Before}
 use Rattle.words.proofs.Orders.{order-refl, irrefl}
 use Rattle.partition.specs.Partition.{Shape, Row, need, needs}
 use Rattle.partition.specs.Listing.{by, insert, without, inOrder, placeOf, Once}
-use Rattle.partition.proofs.Rows.{test, fails}
 use Rattle.partition.proofs.Rising.{by-ne, unlike, unlike-after, tab-in, tab-member, Rising, rising-tab, insert-tab, without-tab}
 use Rattle.partition.proofs.Sorted.{by-code, rising-once, order-own}
 use Rattle.partition.proofs.Maps.{placed, missing}
@@ -166,12 +166,12 @@ added-rows S p s c pl t q t′ z F A =
     (λ l.
     let T = A .tight (omega arith) in
     let g : List ℕ = T .0 .0 in
-    let e : leb x (size S) ≡ false = fails (leb x (size S)) (λ h. let m : x ≤ size S = leb→le x (size S) h in omega arith) in
+    let e : leb x (size S) ≡ false = lt-leb x (size S) (omega arith) in
     inserted-rows g s c pl q (T .0 .1 .page) (once-packed F (T .0 .1) .belongs) (T .0 .2)
     ∙ ap (λ rs. atFrontier rs r) (packed-rows p (F .page) g (T .0 .1))
     ∙ sym (ap (λ b. pick b (atFrontier (rows p) r) (atFrontier (packFrom 8 (map asRow (rows p))) r)) e))
     (λ h.
-    let e : leb x (size S) ≡ true = test (leb x (size S)) (le→leb x (size S) h) in
+    let e : leb x (size S) ≡ true = le-leb x (size S) h in
     inserted-rows p s c pl q (F .page) (F .belongs) (A .roomy (omega arith) .0)
     ∙ sym (ap (λ b. pick b (atFrontier (rows p) r) (atFrontier (packFrom 8 (map asRow (rows p))) r)) e))
     (side (size S) x)

@@ -1,5 +1,6 @@
 -- REMOVE on pages: what is left of the code's prefix decides whether its page is cleared, loses the record, or is joined; the pages show the rows left.
 -- Assumes nothing.
+use borrow.Author.Tests.{eqb-true}
 use mathlib.Core.Path.{_≡_, refl, sym, ap, subst, _∙_}
 use mathlib.Core.Bool.{Bool, true, false}
 use mathlib.Core.List.{List, _∷_, map, List·Memᴰ·head}
@@ -7,7 +8,7 @@ use mathlib.Core.Logic.{_⊎_, inl, inr, _≢_}
 use mathlib.Core.Option.{some, none}
 use Prim.Native.Nat.{ℕ, _^_, _≤_, _<_}
 use native.Mathlib.Omega.{arith}
-use lib.Dec.{T, eqb, eqb→eq}
+use lib.Dec.{eqb}
 use lib.ListN.{length, getD, set, length-map, List·getD-map}
 use lib.Seq.{getD-set-same, getD-set-other}
 use Rattle.ground.proofs.Sides.{side}
@@ -170,7 +171,7 @@ module _ (S : Shape) (h : List ℕ → ℕ) (small : (c : List ℕ) → h c < 2 
       where
         go : (b : Bool) → eqb j (depthOn (getD gs here free)) ≡ b
             → Then (pick b (set gs here (clearedOn (r .code) (getD gs here free))) (joined h gs W (pfx j (top j x))))
-        go true e = loses (eqb→eq j (depthOn (getD gs here free)) (subst T (sym e) tt) ∙ ap depthOn (its .there))
+        go true e = loses (eqb-true j (depthOn (getD gs here free)) e ∙ ap depthOn (its .there))
         go false e = joins
 
   -- REMOVE, by what is left of the prefix

@@ -1,5 +1,6 @@
 -- Pages that show rows: where a row is, which page holds a hash, and that pages show rows as soon as each bucket is on one page and no other page is used.
 -- Assumes nothing.
+use borrow.Author.Tests.{eq-eqb, eqb-true}
 use mathlib.Core.Path.{_≡_, refl, sym, ap, ap₂, subst, _∙_}
 use mathlib.Core.Bool.{Bool, true, false}
 use mathlib.Core.List.{List, [], _∷_, map, flatMap, List·Memᴰ, List·Memᴰ·head, List·Memᴰ·tail, List·Memᴰ·not-nil, List·Memᴰ·cases-cons, List·Memᴰ·append-cases, Memᴰ·append-left, Memᴰ·append-right}
@@ -7,14 +8,14 @@ use mathlib.Core.Logic.{_⊎_, inl, inr, _↔_}
 use mathlib.Core.Option.{Option, some, none}
 use Prim.Native.Nat.{ℕ, zero, suc, _/_, _^_, _≤_, _<_}
 use native.Mathlib.Omega.{arith}
-use lib.Dec.{T, eqb, eqb→eq, eqb-refl}
+use lib.Dec.{eqb}
 use lib.ListN.{length, getD, List·getD-eq-default}
 use Rattle.page.specs.Page.{Record}
 use Rattle.partition.specs.Bits.{top}
 use Rattle.partition.specs.Partition.{Shape, Row, Prefix, IsBucket, Fine, Reordered, chain, rowsOf, buckets, orElse}
 use Rattle.partition.specs.Listing.{inOrder, Once}
 use Rattle.partition.proofs.Tree.{pfx}
-use Rattle.partition.proofs.Rows.{test, same-bucket, listed}
+use Rattle.partition.proofs.Rows.{same-bucket, listed}
 use Rattle.partition.proofs.Laws.{no-overlap, held, load-reordered}
 use Rattle.partition.proofs.Sum.{prefix-row, head-of}
 use Rattle.partition.proofs.Store.{every-row, fine-reordered, not-deeper}
@@ -94,8 +95,8 @@ find-least f (g ∷ gs) i l e = go (f g) refl i l e (find-least f gs)
 pub within-on : (h : List ℕ → ℕ) (j v k : ℕ) (rs : List Record) → 0 < length rs → (within h j v (bucket k rs) ≡ true) ↔ (prefixOn h j rs ≡ v)
 within-on h j v k [] l = absurd (omega arith)
 within-on h j v k (r ∷ rs) l = (
-  (λ e. eqb→eq (top j (h (r .code))) v (subst T (sym e) tt)),
-  (λ e. test (eqb (top j (h (r .code))) v) (subst (λ n. T (eqb (top j (h (r .code))) n)) e (eqb-refl (top j (h (r .code)))))),
+  eqb-true (top j (h (r .code))) v,
+  eq-eqb (top j (h (r .code))) v,
 )
 
 module _ (h : List ℕ → ℕ) where
@@ -244,13 +245,13 @@ module _ (x : ℕ) where
   bucket-of (q ∷ ps) = go (eqb (top (q .bits) x) (q .value)) refl (bucket-of ps)
     where
       go : (b : Bool) → eqb (top (q .bits) x) (q .value) ≡ b → Told ps (bucketOf x ps) → Told (q ∷ ps) (orElse b q (bucketOf x ps))
-      go true e rest = inl (q, List·Memᴰ·head refl, eqb→eq (top (q .bits) x) (q .value) (subst T (sym e) tt), refl)
+      go true e rest = inl (q, List·Memᴰ·head refl, eqb-true (top (q .bits) x) (q .value) e, refl)
       go false e (inl w) = inl (w .0, List·Memᴰ·tail (w .1), w .2, w .3)
       go false e (inr w) = inr ((λ p m y. other p (List·Memᴰ·cases-cons m) y), w .1)
         where
           other : (p : Prefix) → (p ≡ q) ⊎ List·Memᴰ p ps → Has p → ⊥
           other p (inl z) y =
-              let t : eqb (top (q .bits) x) (q .value) ≡ true = test (eqb (top (q .bits) x) (q .value)) (subst (λ n. T (eqb (top (q .bits) x) n)) (subst Has z y) (eqb-refl (top (q .bits) x))) in
+              let t : eqb (top (q .bits) x) (q .value) ≡ true = eq-eqb (top (q .bits) x) (q .value) (subst Has z y) in
               let c : true ≡ false = sym t ∙ e in
               let n : _≡_ {A = ℕ} 0 1 = cc in
               omega arith
