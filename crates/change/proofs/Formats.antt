@@ -1,4 +1,4 @@
--- What the writes of format make is the blank store.
+-- What the writes of format make is the blank store. Assumes nothing.
 use mathlib.Core.Path.{_≡_, sym, _∙_}
 use mathlib.Core.List.{List}
 use mathlib.Core.Logic.{_⊎_, ⊎-elim}

@@ -1,4 +1,4 @@
--- Two results of one ladder are equal, where each of its rungs and ends settles its own.
+-- Two results of one ladder are equal, where each of its rungs and ends settles its own. Assumes nothing.
 use mathlib.Core.Path.{_≡_, subst}
 use mathlib.Core.Logic.{inl, inr}
 use Rattle.ground.specs.Ladder.{Ladder, rung, given, ends, Answers}

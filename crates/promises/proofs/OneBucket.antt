@@ -1,5 +1,5 @@
 -- ONE BUCKET FOR EVERYTHING IS TURNED AWAY: rows that do not fit together have a directory of more than one entry. Under any hash, after any history;
--- and under the hash chosen for the worked cases a program that keeps the tables comes to such rows.
+-- and under the hash chosen for the worked cases a program that keeps the tables comes to such rows. Assumes nothing.
 use borrow.Author.Tests.{leb-true}
 use mathlib.Core.Path.{_≡_, refl, sym, ap, _∙_}
 use mathlib.Core.Bool.{Bool, true, false}

@@ -1,4 +1,4 @@
--- THE WRONG PROGRAMS ARE TURNED AWAY: none of them keeps the tables.
+-- THE WRONG PROGRAMS ARE TURNED AWAY: none of them keeps the tables. Assumes nothing.
 use borrow.Author.Tests.{le-leb}
 use mathlib.Core.Path.{_≡_, refl, sym, ap, subst, _∙_}
 use mathlib.Core.Bool.{Bool, true, false}

@@ -1,4 +1,4 @@
--- The way back: bytes laid out for pages that show rows are an accepted store. What format, put and remove have to promise of their bytes.
+-- The way back: bytes laid out for pages that show rows are an accepted store. What format, put and remove have to promise of their bytes. Assumes nothing.
 use mathlib.Core.Path.{_≡_, refl, sym, ap, subst, subst₂, _∙_}
 use mathlib.Core.List.{List}
 use mathlib.Core.Logic.{_⊎_, inl, inr, _↔_}

@@ -1,4 +1,4 @@
--- Demand 1 of the tables, and those of demand 2's statements that the tables alone give.
+-- Demand 1 of the tables, and those of demand 2's statements that the tables alone give. Assumes nothing.
 use mathlib.Core.Path.{_≡_, refl, sym, ap, _∙_}
 use mathlib.Core.Bool.{true, false}
 use mathlib.Core.List.{List}

@@ -1,4 +1,4 @@
--- The page that holds a code is the one that the directory's entry of the code's hash names; so no two pages hold one code.
+-- The page that holds a code is the one that the directory's entry of the code's hash names; so no two pages hold one code. Assumes nothing.
 use mathlib.Core.Path.{_≡_, sym, ap, _∙_}
 use mathlib.Core.List.{List}
 use Prim.Native.Nat.{ℕ, _-_, _^_, _≤_, _<_}

@@ -1,4 +1,4 @@
--- What is left of demand 3's first part: four statements on single stores. From them it follows for every history.
+-- Demand 3's first part, for every history, from four statements on single stores (proved in Afresh, MoveRows and PutRows). Assumes nothing.
 use mathlib.Core.Path.{_≡_, refl, sym, ap, subst, _∙_}
 use mathlib.Core.Bool.{Bool, true, false}
 use mathlib.Core.List.{List, [], _∷_}

@@ -1,4 +1,4 @@
--- What the reading calls need of an accepted store: a code is on the page that its hash's entry names, and the rows are counted page by page.
+-- What the reading calls need of an accepted store: a code is on the page that its hash's entry names, and the rows are counted page by page. Assumes nothing.
 use mathlib.Core.Path.{_≡_, refl, sym, ap, subst, subst₂, _∙_}
 use mathlib.Core.List.{List, [], _∷_, _++_, map, flatMap}
 use mathlib.Core.Option.{Option, some, none}

@@ -1,4 +1,4 @@
--- The next put on two stores of the same rows and length has the same answer.
+-- The next put on two stores of the same rows and length has the same answer. Assumes nothing.
 use mathlib.Core.Path.{_≡_, refl, sym, ap, subst, _∙_}
 use mathlib.Core.List.{List, _∷_}
 use mathlib.Core.Logic.{inl, inr}

@@ -1,4 +1,4 @@
--- Reordered rows have the same directory.
+-- Reordered rows have the same directory. Assumes nothing.
 use mathlib.Core.Path.{_≡_, refl, ap, _∙_}
 use mathlib.Core.List.{List}
 use mathlib.Core.Option.{Option, some, none}

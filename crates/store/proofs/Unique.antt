@@ -1,4 +1,4 @@
--- An accepted store is settled by its length and by what its pages from 2 on hold.
+-- An accepted store is settled by its length and by what its pages from 2 on hold. Assumes nothing.
 use mathlib.Core.Path.{_≡_, refl, sym, ap, subst, _∙_}
 use mathlib.Core.List.{List}
 use mathlib.Core.Logic.{_⊎_, inl, inr, ⊎-elim}

@@ -1,4 +1,4 @@
--- Each row is listed once; and the listing is a walk over the directory that takes each bucket at its first entry.
+-- Each row is listed once; and the listing is a walk over the directory that takes each bucket at its first entry. Assumes nothing.
 use borrow.Author.Tests.{le-leb, lt-leb}
 use mathlib.Core.Path.{_≡_, refl, sym, ap, subst, _∙_}
 use mathlib.Core.Bool.{Bool, true, false}

@@ -1,3 +1,4 @@
+-- `change::set_run` meets its contract: entry after entry. Assumes nothing.
 use Rattle.change.proofs.Directories.{run-none, run-more}
 use Rattle.change.specs.Directory.{RunSet}
 use lib.ListN.{length}
