@@ -8,6 +8,7 @@ use native.Mathlib.Omega.{arith}
 use native.Mathlib.Numerals.{add-one}
 use lib.ListN.{length, getD, drop, length-map}
 use lib.Seq.{drop-cons, drop-length}
+use Rattle.ground.proofs.Tests.{none-some}
 use Rattle.ground.proofs.Tables.{getD-tab, length-tab}
 use Rattle.words.specs.Codes.{order}
 use Rattle.words.proofs.Orders.{order-refl, order-eq}
@@ -163,10 +164,7 @@ module _ (p c pl : List ℕ) (K : Storable c pl) (T : Taking p (rowOf c pl ∷ [
           omega (arith, f, n, fits, count-more p i c pl q I (b .within), page-needs p P, page-needs q (I .page), I .long, T .tight .long, T .tight .full)
 
   pub row-known : (i : ℕ) → i < count p → code p i ≡ c → ⊥
-  row-known i l e =
-      let w : none ≡ some (place p i) = sym not-there ∙ found-at p P c i l e in
-      let z : _≡_ {A = ℕ} 0 1 = cc in
-      omega arith
+  row-known i l e = none-some not-there (found-at p P c i l e)
 
 -- ---- a page's rows
 

@@ -6,6 +6,7 @@ use mathlib.Core.Option.{some, none}
 use Prim.Native.Nat.{ℕ, _+_, _-_, _*_, _≤_, _<_}
 use native.Mathlib.Omega.{arith}
 use lib.ListN.{length, getD, set, length-set}
+use Rattle.ground.proofs.Tests.{none-some}
 use Rattle.ground.specs.Lists.{byte}
 use Rattle.ground.specs.Ladder.{Answers}
 use Rattle.ground.proofs.Sides.{side}
@@ -171,7 +172,7 @@ module _ (S : Shape) (h : List ℕ → ℕ) (sized : Sized S) (hash : Hash h) (s
         let L : Laid S h (setPage S s p q) (putNew S h gs new-row) = subst (Laid S h (setPage S s p q)) (sym is)
         (laid-set S h sized s gs (accepted-laid S h sized hash s A) p (depth g) (rows g) (U .from) (U .to) (U .holding) q Q (N .long ∙ long) (N .deep) begins-now) in
         inr (
-          (λ old e. let z : _≡_ {A = ℕ} 0 1 = cc absent in omega arith),
+          (λ _. none-some absent),
           inr (
             (λ _. six),
             inr (

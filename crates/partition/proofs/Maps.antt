@@ -7,6 +7,7 @@ use mathlib.Core.Option.{Option, some, none}
 use Prim.Native.Nat.{ℕ, suc, Ordering, Ordering·lt, Ordering·eq, Ordering·gt}
 use native.Mathlib.Omega.{arith}
 use lib.ListN.{length}
+use Rattle.ground.proofs.Tests.{none-some}
 use Rattle.words.specs.Codes.{order}
 use Rattle.words.proofs.Orders.{order-eq, order-refl}
 use Rattle.partition.specs.Partition.{Row, Reordered, empty, front, swap, chain}
@@ -16,12 +17,9 @@ use Rattle.partition.proofs.Rising.{by-ne}
 
 -- ---- one step of the map, by the outcome of a comparison
 
-unsome : {b : List ℕ} → some b ≡ none → ⊥
-unsome e = let n : _≡_ {A = ℕ} 0 1 = cc in omega arith
-
 pub passed : (o : Ordering) (m : Option (List ℕ)) (b : List ℕ) → by o m (some b) m ≡ none → (o ≡ Ordering·eq → ⊥) × (m ≡ none)
 passed Ordering·lt m b e = ((λ f. let n : _≡_ {A = ℕ} 0 1 = cc in omega arith), e)
-passed Ordering·eq m b e = absurd (unsome e)
+passed Ordering·eq m b e = absurd (none-some e refl)
 passed Ordering·gt m b e = ((λ f. let n : _≡_ {A = ℕ} 0 1 = cc in omega arith), e)
 
 both-none : (o : Ordering) → by {A = Option (List ℕ)} o none none none ≡ none
@@ -43,7 +41,7 @@ cut-none c (q ∷ rs) e = go (order c (q .code)) e (cut-none c rs)
     go : (o : Ordering) → by o (placeOf rs c) (some (q .place)) (placeOf rs c) ≡ none → (placeOf rs c ≡ none → cut c rs ≡ rs)
         → by o (q ∷ cut c rs) (cut c rs) (q ∷ cut c rs) ≡ q ∷ rs
     go Ordering·lt x f = ap (λ l. q ∷ l) (f x)
-    go Ordering·eq x f = absurd (unsome x)
+    go Ordering·eq x f = absurd (none-some x refl)
     go Ordering·gt x f = ap (λ l. q ∷ l) (f x)
 
 by-front : (o : Ordering) (q : Row) {m n : List Row} → Reordered m n → Reordered (by o (q ∷ m) m (q ∷ m)) (by o (q ∷ n) n (q ∷ n))
@@ -140,7 +138,7 @@ once-put r rs o = (cut-gone (r .code) rs, once-remove (r .code) rs o)
 -- a place that the map gives is that of a row
 pub found : (c b : List ℕ) (rs : List Row) → placeOf rs c ≡ some b → List·Memᴰ (record { code = c; place = b }) rs
 unfolding placeOf
-found c b [] e = absurd (unsome (sym e))
+found c b [] e = absurd (none-some refl e)
 found c b (q ∷ rs) e = go (order c (q .code)) refl e (found c b rs)
   where
     go : (o : Ordering) → order c (q .code) ≡ o → by o (placeOf rs c) (some (q .place)) (placeOf rs c) ≡ some b
@@ -187,7 +185,7 @@ placed-iff rs o c b = (found c b rs, placed rs o (record { code = c; place = b }
 -- a known row, and the others
 pub cut-front : (c b : List ℕ) (rs : List Row) → Once rs → placeOf rs c ≡ some b → Reordered rs (record { code = c; place = b } ∷ cut c rs)
 unfolding placeOf without
-cut-front c b [] o e = absurd (unsome (sym e))
+cut-front c b [] o e = absurd (none-some refl e)
 cut-front c b (q ∷ rs) o e = go (order c (q .code)) refl e (cut-front c b rs (o .1))
   where
     r : Row

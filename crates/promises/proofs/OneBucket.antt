@@ -2,7 +2,7 @@
 -- and under the hash chosen for the worked cases a program that keeps the tables comes to such rows. Assumes nothing.
 use borrow.Author.Tests.{leb-true}
 use mathlib.Core.Path.{_≡_, refl, sym, ap, _∙_}
-use mathlib.Core.Bool.{Bool, true, false}
+use mathlib.Core.Bool.{Bool, true, false, true≢false}
 use mathlib.Core.List.{List, [], _∷_, List·Memᴰ·head}
 use mathlib.Core.Logic.{⊎-elim}
 use mathlib.Core.Option.{Option, some, none}
@@ -25,7 +25,6 @@ use Rattle.partition.proofs.Store.{fine-reordered, every-row}
 use Rattle.partition.proofs.Tree.{pfx}
 use Rattle.store.specs.Pages.{S1024, dirDepth}
 use Rattle.store.specs.Demands.{Hash, GoodCode, History, sized-1024}
-use Rattle.store.proofs.Kept.{clash}
 use Rattle.store.proofs.Showing.{accepted-shows}
 use Rattle.store.proofs.Whole.{demand-3}
 use Rattle.promises.specs.Programs.{Program, Bytes, Meets, OneBucket}
@@ -79,7 +78,7 @@ also false t = false
 
 both : (p q : Bool) → also p q ≡ true → (p ≡ true) × (q ≡ true)
 both true q e = (refl, e)
-both false q e = absurd (clash (sym e))
+both false q e = absurd (true≢false (sym e))
 
 abbrev isNone : Option (List ℕ) → Bool
 isNone none = true
@@ -87,7 +86,7 @@ isNone (some p) = false
 
 none-of : (m : Option (List ℕ)) → isNone m ≡ true → m ≡ none
 none-of none e = refl
-none-of (some p) e = absurd (clash (sym e))
+none-of (some p) e = absurd (true≢false (sym e))
 
 may : ℕ → List ℕ → Bool
 may x xs =

@@ -2,11 +2,12 @@
 use mathlib.Core.Path.{_≡_, refl, sym, ap, _∙_}
 use mathlib.Core.Bool.{Bool, true, false}
 use mathlib.Core.List.{List}
-use mathlib.Core.Logic.{_⊎_, inl, inr, ⊎-elim}
+use mathlib.Core.Logic.{inl, inr, ⊎-elim}
 use mathlib.Core.Option.{some, none}
 use Prim.Native.Nat.{ℕ, _-_, _/_, _≤_, _<_}
 use native.Mathlib.Omega.{arith}
 use lib.ListN.{length}
+use Rattle.ground.proofs.Tests.{none-some}
 use Rattle.ground.specs.Ladder.{Answers}
 use Rattle.hash.specs.Fnv.{fnv, fnv-lt}
 use Rattle.partition.specs.Partition.{buckets}
@@ -55,9 +56,6 @@ module _ (s c : List ℕ) (p : Place) (o : Out) (t : List ℕ) (a : Accepted S10
   -- the table's answer is the only one
   only : (x : Out) (y : List ℕ) → Answers (putTable S1024 fnv s c p) (x, y) → o ≡ x
   only x y w = ap (λ q. q .0) (put-settled S1024 fnv sized-1024 s c p (o, t) (x, y) m w)
-
-  none-some : {b : List ℕ} → map-of S1024 s c ≡ none → map-of S1024 s c ≡ some b → ⊥
-  none-some e f = let n : _≡_ {A = ℕ} 0 1 = cc in omega arith
 
   says-three : (GoodCode c → ⊥) → o ≡ refused 3
   unfolding putTable

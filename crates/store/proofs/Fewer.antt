@@ -2,7 +2,7 @@
 -- takes the rows left, if there are any; the pages then show the rows without it.
 -- Assumes nothing.
 use mathlib.Core.Path.{_≡_, refl, sym, ap, subst, subst₂, _∙_}
-use mathlib.Core.Bool.{Bool, true, false}
+use mathlib.Core.Bool.{Bool, true, false, true≢false}
 use mathlib.Core.List.{List, [], _∷_, map, List·Memᴰ, List·Memᴰ·head}
 use mathlib.Core.Logic.{_⊎_, inl, inr, _≢_, _↔_}
 use Prim.Native.Nat.{ℕ, _^_, _≤_, _<_}
@@ -80,7 +80,7 @@ module _ (S : Shape) (h : List ℕ → ℕ) where
 
           other : (b : Bool) → within h j (top j x) (getD gs i free) ≡ b → pick b free (getD gs i free) ≡ bucket k rs → i ≢ m → Now i k rs
           other true t y n = absurd (free-not y)
-          other false t y n = same n y (λ u. let z : false ≡ true = sym t ∙ ap (within h j (top j x)) y ∙ below i k rs y .1 u in let c : _≡_ {A = ℕ} 0 1 = cc in omega arith)
+          other false t y n = same n y (λ u. true≢false (sym (sym t ∙ ap (within h j (top j x)) y ∙ below i k rs y .1 u)))
 
           go : Dec (i ≡ m) → Now i k rs
           go (yes q) = one (getD hs m free) (w .left) (subst (λ n. Holding hs n k rs) q e) q

@@ -3,7 +3,7 @@ use mathlib.Core.Path.{_≡_, refl, sym, ap, subst, _∙_}
 use mathlib.Core.List.{List, [], _∷_, _++_, map, flatMap, map-append}
 use mathlib.Core.Option.{some, none}
 use Prim.Native.Nat.{ℕ, Ordering, Ordering·lt, Ordering·eq, Ordering·gt}
-use native.Mathlib.Omega.{arith}
+use Rattle.ground.proofs.Tests.{none-some}
 use Rattle.page.specs.Page.{Record}
 use Rattle.partition.specs.Partition.{Row, Reordered, front, swap, chain}
 use Rattle.words.specs.Codes.{order}
@@ -47,12 +47,12 @@ none-over r (q ∷ rs) e = go (order (r .code) (q .code)) e (none-over r rs)
     go : (o : Ordering) → by o (placeOf rs (r .code)) (some (q .place)) (placeOf rs (r .code)) ≡ none → (placeOf rs (r .code) ≡ none → map (over r) rs ≡ rs)
         → by o q r q ∷ map (over r) rs ≡ q ∷ rs
     go Ordering·lt x f = ap (λ l. q ∷ l) (f x)
-    go Ordering·eq x f = absurd (let n : _≡_ {A = ℕ} 0 1 = cc in omega arith)
+    go Ordering·eq x f = absurd (none-some x refl)
     go Ordering·gt x f = ap (λ l. q ∷ l) (f x)
 
 pub known-over : (r : Row) (rs : List Row) (old : List ℕ) → Once rs → placeOf rs (r .code) ≡ some old → Reordered (map (over r) rs) (r ∷ cut (r .code) rs)
 unfolding placeOf without
-known-over r [] old o e = absurd (let n : _≡_ {A = ℕ} 0 1 = cc in omega arith)
+known-over r [] old o e = absurd (none-some refl e)
 known-over r (q ∷ rs) old o e = go (order (r .code) (q .code)) refl e (known-over r rs old (o .1))
   where
     go : (p : Ordering) → order (r .code) (q .code) ≡ p → by p (placeOf rs (r .code)) (some (q .place)) (placeOf rs (r .code)) ≡ some old

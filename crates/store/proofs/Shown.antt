@@ -2,7 +2,7 @@
 -- Assumes nothing.
 use borrow.Author.Tests.{eq-eqb, eqb-true}
 use mathlib.Core.Path.{_≡_, refl, sym, ap, ap₂, subst, _∙_}
-use mathlib.Core.Bool.{Bool, true, false}
+use mathlib.Core.Bool.{Bool, true, false, true≢false}
 use mathlib.Core.List.{List, [], _∷_, map, flatMap, List·Memᴰ, List·Memᴰ·head, List·Memᴰ·tail, List·Memᴰ·not-nil, List·Memᴰ·cases-cons, List·Memᴰ·append-cases, Memᴰ·append-left, Memᴰ·append-right}
 use mathlib.Core.Logic.{_⊎_, inl, inr, _↔_}
 use mathlib.Core.Option.{Option, some, none}
@@ -89,7 +89,7 @@ find-least f (g ∷ gs) i l e = go (f g) refl i l e (find-least f gs)
     go : (b : Bool) → f g ≡ b → (i : ℕ) → i < suc (length gs) → f (getD (g ∷ gs) i free) ≡ true → ((i : ℕ) → i < length gs → f (getD gs i free) ≡ true → find f gs ≤ i)
         → pick b 0 (suc (find f gs)) ≤ i
     go true p i l e rest = omega arith
-    go false p zero l e rest = absurd (let z : true ≡ false = sym e ∙ p in let n : _≡_ {A = ℕ} 0 1 = cc in omega arith)
+    go false p zero l e rest = absurd (true≢false (sym e ∙ p))
     go false p (suc i) l e rest = omega (arith, rest i (omega arith) e)
 
 pub within-on : (h : List ℕ → ℕ) (j v k : ℕ) (rs : List Record) → 0 < length rs → (within h j v (bucket k rs) ≡ true) ↔ (prefixOn h j rs ≡ v)
@@ -104,7 +104,7 @@ module _ (h : List ℕ → ℕ) where
   holds-on x k rs l = within-on h k (top k x) k rs l
 
   holds-free : (x : ℕ) (g : Page) → g ≡ free → holds h x g ≡ true → ⊥
-  holds-free x g e t = let z : false ≡ true = ap (λ p. holds h x p) (sym e) ∙ t in let n : _≡_ {A = ℕ} 0 1 = cc in omega arith
+  holds-free x g e t = true≢false (sym t ∙ ap (λ p. holds h x p) e)
 
 -- every bucket
 abbrev pub Any : ℕ → ℕ → Type 0
@@ -250,11 +250,7 @@ module _ (x : ℕ) where
       go false e (inr w) = inr ((λ p m y. other p (List·Memᴰ·cases-cons m) y), w .1)
         where
           other : (p : Prefix) → (p ≡ q) ⊎ List·Memᴰ p ps → Has p → ⊥
-          other p (inl z) y =
-              let t : eqb (top (q .bits) x) (q .value) ≡ true = eq-eqb (top (q .bits) x) (q .value) (subst Has z y) in
-              let c : true ≡ false = sym t ∙ e in
-              let n : _≡_ {A = ℕ} 0 1 = cc in
-              omega arith
+          other p (inl z) y = true≢false (sym (eq-eqb (top (q .bits) x) (q .value) (subst Has z y)) ∙ e)
           other p (inr m) y = w .0 p m y
 
 module _ (S : Shape) (h : List ℕ → ℕ) (small : (c : List ℕ) → h c < 2 ^ 32) (rows : List Row) (f : Fine S h rows) (x : ℕ) where

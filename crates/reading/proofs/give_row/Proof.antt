@@ -1,9 +1,10 @@
 -- `reading::give_row` meets its contract. Assumes nothing.
 use denote.Ref.{now}
+use Rattle.ground.proofs.Tests.{none-some}
 use Rattle.rows.specs.Spots.{Listed}
 use Rattle.rows.specs.declared.Spot.the-variants.{Here}
 use borrow.Author.Needs.{needs}
-use mathlib.Core.Path.{_≡_, refl, sym, ap, subst, _∙_}
+use mathlib.Core.Path.{_≡_, refl, ap, subst, _∙_}
 use mathlib.Core.List.{List}
 use mathlib.Core.Logic.{inl, inr}
 use Prim.Native.Nat.{ℕ}
@@ -14,7 +15,6 @@ use Rattle.page.specs.Places as Places
 use Rattle.store.specs.Pages.{S1024, page, asRow}
 use Rattle.store.specs.Tables.{row}
 use Rattle.store.proofs.Views.{page-lent}
-use Rattle.reading.proofs.Calls.{some-not}
 use Rattle.reading.proofs.give_row.Statement.{statement}
 use Rattle.reading.proofs.give_row.Tie as tie
 
@@ -94,7 +94,7 @@ returns c =
 returns-2 : tie.Need-returns-2
 returns-2 c = let f = c .before .before in
     let e = subst (Listed _ _) (c .enum-told .given .1) (f .nth-row .ensures) in
-    inr ((λ r q. some-not (sym e ∙ q)), refl)
+    inr ((λ r q. none-some e q), refl)
 
 pub give-row-spec : {M : Type 1} → statement M
 give-row-spec =

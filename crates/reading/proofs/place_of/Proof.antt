@@ -1,9 +1,10 @@
 -- `reading::place_of` meets its contract. Assumes nothing.
 use denote.Ref.{now}
+use Rattle.ground.proofs.Tests.{none-some}
 use Rattle.rows.specs.Spots.{Stands}
 use Rattle.rows.specs.declared.Spot.the-variants.{Here}
 use borrow.Author.Needs.{needs}
-use mathlib.Core.Path.{_≡_, refl, sym, ap, subst, _∙_}
+use mathlib.Core.Path.{_≡_, refl, ap, subst, _∙_}
 use mathlib.Core.List.{List}
 use mathlib.Core.Logic.{inl, inr}
 use mathlib.Core.Option.{none}
@@ -15,7 +16,6 @@ use Rattle.page.specs.Places as Places
 use Rattle.store.specs.Pages.{S1024, page}
 use Rattle.store.specs.Tables.{found}
 use Rattle.store.proofs.Views.{page-lent}
-use Rattle.reading.proofs.Calls.{some-not}
 use Rattle.reading.proofs.place_of.Statement.{statement}
 use Rattle.reading.proofs.place_of.Tie as tie
 
@@ -74,7 +74,7 @@ returns c = let b = c .before .before .before in
 returns-2 : tie.Need-returns-2
 returns-2 c = let f = c .before .before in
     let e : placeOf _ _ ≡ none = subst (Stands _ _) (c .enum-told .given .1) (f .find-row .ensures) in
-    inr ((λ b q. some-not (sym e ∙ q)), refl)
+    inr ((λ b q. none-some e q), refl)
 
 pub place-of-spec : {M : Type 1} → statement M
 place-of-spec =
