@@ -6,7 +6,7 @@ use native.Mathlib.Omega.{arith}
 use native.Mathlib.Numerals.{add-one}
 use borrow.Author.Count.{below-more}
 use lib.ListN.{length}
-use Rattle.ground.specs.Lists.{byte, part, total}
+use Rattle.ground.specs.Lists.{part, total}
 use Rattle.words.specs.Codes.{Before}
 use Rattle.words.specs.Le.{le32}
 use Rattle.words.specs.Moves.{Cleared}

@@ -3,7 +3,7 @@ use Prim.Native.Nat.{ℕ, zero, suc, _+_, _*_, _-_, _/_, _%_, _≤_, _<_}
 use mathlib.Core.Path.{_≡_}
 use mathlib.Core.List.{List, []}
 use lib.ListN.{length}
-use Rattle.ground.specs.Lists.{byte, part, total}
+use Rattle.ground.specs.Lists.{byte, total}
 use Rattle.words.specs.Codes.{Before}
 use Rattle.page.specs.Page.{In, count, frontier, free, code, word, need}
 

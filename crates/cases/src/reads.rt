@@ -2,8 +2,6 @@
 ghost use mathlib.Core.Path.{_≡_};
 ghost use Prim.Native.Nat.{_≤_};
 ghost use lib.ListN.{length};
-ghost use lib.IntN.{pos};
-ghost use lib.Signed.{_<ℤ_};
 ghost use Rattle.page.specs.Page.{Slotted};
 use super::show::digits;
 use libc::STDOUT_FILENO;

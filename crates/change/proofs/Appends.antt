@@ -15,16 +15,15 @@ use Rattle.page.specs.Packed.{Fresh}
 use Rattle.partition.specs.Bits.{top}
 use Rattle.partition.specs.Partition.{Row, need, needs, rowsOf}
 use Rattle.partition.specs.Listing.{insert, inOrder, Once}
-use Rattle.partition.proofs.Rising.{Rising}
+use Rattle.partition.proofs.Rising.{Rising, insert-tab}
 use Rattle.partition.proofs.Rows.{rows-on, rows-off, some-need}
 use Rattle.partition.proofs.Pages.{rows-append}
 use Rattle.partition.proofs.Reorders.{needs-same, needs-append, length-same}
 use Rattle.partition.proofs.Sorted.{by-code, in-order-reordered, order-rising, order-put, order-prefix, some-once}
 use Rattle.store.specs.Pages.{asRow}
 use Rattle.store.specs.Moves.{packFrom}
-use Rattle.store.proofs.Slotwise.{slot-insert, pack-rows}
-use Rattle.store.proofs.PageTies.{rows-tab, page-once, page-order, found-not, append-fits, appended-rows}
-use Rattle.store.proofs.Accepting.{tab-in}
+use Rattle.store.proofs.Slotwise.{pack-rows}
+use Rattle.store.proofs.PageTies.{rows-tab, row-in, page-once, page-order, found-not, append-fits, appended-rows}
 use Rattle.change.specs.Split.{slots, Behind, Appended, Source, Bucketed}
 
 -- ---- lists in order
@@ -87,7 +86,7 @@ module _ (p : List ℕ) where
     pub ready : Natural pl → 1 ≤ length c → length c ≤ 64 → Insertable p (count p) c pl
     unfolding needs need
     ready n a b = append-fits p rs c pl (B .page) (B .packed)
-        (λ i l. rising-before rs (record { code = c; place = pl }) [] (B .rising) (asRow (rowAt p i)) (rw (rows-tab p) (tab-in (λ j. asRow (rowAt p j)) (count p) i l)))
+        (λ i l. rising-before rs (record { code = c; place = pl }) [] (B .rising) (asRow (rowAt p i)) (row-in p i l))
         n a b (omega (arith, B .fits, B .size, needs-append rs (record { code = c; place = pl } ∷ [])))
 
     pub done : (q : List ℕ) → Inserted p (count p) c pl q → Appended p (record { code = c; place = pl } ∷ []) q
@@ -161,7 +160,7 @@ module _ (h : List ℕ → ℕ) (g : List ℕ) (i : ℕ) (c pl : List ℕ) (Z : 
   unfolding insertAt
   put-in =
       order-put r qs ∙ ap (insert by-code r) (page-order g (Z .page) ∙ rows-tab g)
-      ∙ sym (slot-insert by-code (λ j. asRow (rowAt g j)) (count g) i r (Z .belongs .within) (Z .belongs .left) (Z .belongs .right)) ∙ ap (insertAt i r) (sym (rows-tab g))
+      ∙ insert-tab by-code (λ j. asRow (rowAt g j)) (count g) i r (Z .belongs .within) (Z .belongs .left) (Z .belongs .right) ∙ ap (insertAt i r) (sym (rows-tab g))
       ∙ (λ x. sym (slots-first g i) x ++ (r ∷ sym (slots-last g i (Z .belongs .within)) x))
 
   pub ordered : inOrder (rowsOf h (r ∷ qs) k v) ≡ parts

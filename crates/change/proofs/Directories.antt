@@ -1,22 +1,22 @@
 -- Laws of the directory as it is written, entry by entry and page by page. Assumes nothing.
-use mathlib.Core.Path.{_≡_, refl, sym, ap, subst, _∙_}
+use mathlib.Core.Path.{_≡_, refl, sym, subst, _∙_}
 use mathlib.Core.List.{List}
 use mathlib.Core.Logic.{_⊎_, inl, inr, ⊎-elim}
 use Prim.Native.Nat.{ℕ, _+_, _*_, _-_, _^_, _≤_, _<_}
 use native.Mathlib.Omega.{arith}
-use lib.ListN.{length, take, drop}
+use lib.ListN.{length}
 use lib.Pow.{pow-mono}
 use Rattle.ground.specs.Lists.{byte}
 use Rattle.ground.proofs.Sides.{side}
-use Rattle.ground.proofs.Parts.{byte-part, part-same, lent-part}
+use Rattle.ground.proofs.Parts.{part-same}
 use Rattle.words.specs.Le.{le16, le32}
-use Rattle.words.specs.Moves.{Frame, Put32, Cleared}
+use Rattle.words.specs.Moves.{Put32, Cleared}
 use Rattle.words.proofs.Bytes.{frame-join, span-frame, le32-below, le32-above}
 use Rattle.page.specs.Page.{depth, code}
 use Rattle.partition.specs.Bits.{top}
 use Rattle.partition.specs.Partition.{Prefix, first, after}
 use Rattle.partition.proofs.Directory.{holds-range}
-use Rattle.store.specs.Pages.{S1024, page, dirDepth, entryAt}
+use Rattle.store.specs.Pages.{S1024, page, entryAt}
 use Rattle.store.specs.Accepted.{Calls}
 use Rattle.change.specs.Directory.{CallsFor, Entry, none, names, Directed, RunSet, PageNamed, Standing}
 
@@ -31,11 +31,6 @@ run-more {s} {t} {u} {a} {i} {p} r w h = record {
       (side j i);
   old = frame-join (1024 + 4 * a) (4 * (i + 1 - a)) (r .old) (w .old) (omega arith) (omega arith) (omega arith) (omega arith);
 }
-
--- a byte of a page, in the store
-pub page-byte : (s : List ℕ) (p k : ℕ) → k < 1024 → byte (page S1024 s p) k ≡ byte s (p * 1024 + k)
-unfolding page
-page-byte s p k h = byte-part s (p * 1024) 1024 k h
 
 -- a page that lies above what was written
 pub page-above : (s t : List ℕ) (p : ℕ) → 2 ≤ p → p * 1024 + 1024 ≤ length s → length t ≡ length s → ((k : ℕ) → 2048 ≤ k → byte t k ≡ byte s k) → page S1024 t p ≡ page S1024 s p
@@ -80,11 +75,6 @@ module _ (h : List ℕ → ℕ) (s : List ℕ) (d p : ℕ) (deep : d ≤ 8) wher
             (side i a);
         old = record { len = r .old .len; below = λ i l. r .old .below i (omega arith); above = λ i l. r .old .above i (omega arith) };
       }
-
--- the page that is lent, as s[p * 1024 .. p * 1024 + 1024]
-pub lent-page : (s : List ℕ) (p : ℕ) → take (p * 1024 + 1024 - p * 1024) (drop (p * 1024) s) ≡ page S1024 s p
-unfolding page
-lent-page s p = lent-part s (p * 1024) (p * 1024 + 1024) 1024 refl
 
 -- a page calls for the same entries in two stores in which it is the same
 calls-same : (h : List ℕ → ℕ) (s t : List ℕ) (d i p : ℕ) → page S1024 t p ≡ page S1024 s p → CallsFor h t d i p → CallsFor h s d i p

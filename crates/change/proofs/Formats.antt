@@ -1,13 +1,13 @@
--- What the writes of format make is the blank store.
-use mathlib.Core.Path.{_≡_, refl, sym, ap, _∙_}
+-- What the writes of format make is the blank store. Assumes nothing.
+use mathlib.Core.Path.{_≡_, sym, _∙_}
 use mathlib.Core.List.{List}
-use mathlib.Core.Logic.{_⊎_, inl, inr, ⊎-elim}
-use Prim.Native.Nat.{ℕ, zero, suc, _+_, _-_, _*_, _/_, _%_, _≤_, _<_}
+use mathlib.Core.Logic.{_⊎_, ⊎-elim}
+use Prim.Native.Nat.{ℕ, _+_, _-_, _≤_, _<_}
 use native.Mathlib.Omega.{arith}
 use lib.ListN.{length}
 use lib.Seq.{ext-getD}
 use Rattle.ground.specs.Lists.{byte}
-use Rattle.words.specs.Le.{le32, bytes}
+use Rattle.words.specs.Le.{le32}
 use Rattle.words.specs.Moves.{Cleared, Put32}
 use Rattle.ground.proofs.Sides.{side}
 use Rattle.words.proofs.Bytes.{le32-byte, le32-below, Small, small-append, small-bytes, small-zeros}

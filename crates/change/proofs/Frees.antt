@@ -4,7 +4,7 @@ use mathlib.Core.Bool.{Bool, true, false}
 use mathlib.Core.List.{List, [], _∷_}
 use Prim.Native.Nat.{ℕ, zero, suc, _+_, _-_, _*_, _≤_, _<_}
 use native.Mathlib.Omega.{arith}
-use native.Mathlib.Nat.{add-zero, zero-add}
+use native.Mathlib.Nat.{zero-add}
 use native.Mathlib.Numerals.{add-one}
 use lib.ListN.{length, getD, drop}
 use lib.Seq.{drop-cons, drop-length}
@@ -14,7 +14,7 @@ use Rattle.store.specs.Moves.{pick, find, isFree}
 use Rattle.store.proofs.Unique.{held}
 use Rattle.store.proofs.Showing.{pages-held}
 use Rattle.store.proofs.Rooms.{frees}
-use Rattle.change.proofs.Directories.{page-byte}
+use Rattle.store.proofs.Depths.{kind-byte}
 
 -- all before i fail the test, and i passes it or there is none
 pub find-at : (f : Page → Bool) (gs : List Page) (i : ℕ) → i ≤ length gs → ((j : ℕ) → j < i → f (getD gs j free) ≡ false) → (i < length gs → f (getD gs i free) ≡ true) → find f gs ≡ i
@@ -39,12 +39,9 @@ pub frees-end : (gs : List Page) (i : ℕ) → i ≡ length gs → frees (drop i
 frees-end gs i e = ap (λ n. frees (drop n gs)) e ∙ ap frees (drop-length gs)
 
 module _ (s : List ℕ) (p : ℕ) (two : 2 ≤ p) (to : p < pages S1024 s) where
-  kind : byte (page S1024 s p) 0 ≡ byte s (p * 1024)
-  kind = page-byte s p 0 (omega arith) ∙ ap (byte s) (add-zero (p * 1024))
-
   reads : getD (contents S1024 s) (p - 2) free ≡ reading (byte s (p * 1024)) (page S1024 s p)
   unfolding read
-  reads = held S1024 s p two to ∙ ap (λ b. reading b (page S1024 s p)) kind
+  reads = held S1024 s p two to ∙ ap (λ b. reading b (page S1024 s p)) (kind-byte s p)
 
   pub free-page : byte s (p * 1024) ≡ 0 → getD (contents S1024 s) (p - 2) free ≡ free
   free-page e = reads ∙ ap (λ b. reading b (page S1024 s p)) e

@@ -3,11 +3,12 @@ use mathlib.Core.Path.{_≡_, refl, sym, ap, subst, _∙_}
 use mathlib.Core.List.{List, [], _∷_, _++_, map, append-assoc, append-nil, flatMap}
 use mathlib.Core.Bool.{true, false}
 use mathlib.Core.Option.{some, none}
-use Prim.Native.Nat.{ℕ, suc, _+_, _-_, _*_, _≤_, _<_, max, Ordering, Ordering·lt, Ordering·eq, Ordering·gt}
+use Prim.Native.Nat.{ℕ, suc, _+_, _*_, _≤_, _<_, max, Ordering, Ordering·lt, Ordering·eq, Ordering·gt}
 use native.Mathlib.Omega.{arith}
 use native.Mathlib.Numerals.{add-one}
 use lib.ListN.{length, getD, drop, length-map}
 use lib.Seq.{drop-cons, drop-length}
+use Rattle.ground.proofs.Tests.{none-some}
 use Rattle.ground.proofs.Tables.{getD-tab, length-tab}
 use Rattle.words.specs.Codes.{order}
 use Rattle.words.proofs.Orders.{order-refl, order-eq}
@@ -17,8 +18,8 @@ use Rattle.page.proofs.Sums.{count-more, len-of-code}
 use Rattle.partition.specs.Partition.{Row, need, needs, Reordered, chain}
 use Rattle.partition.specs.Listing.{by, insert, without, inOrder, placeOf, Once}
 use Rattle.partition.proofs.Reorders.{same-order, turned, append-same, needs-same, needs-append, to-front}
-use Rattle.partition.proofs.Maps.{skip, passed}
-use Rattle.partition.proofs.Rising.{insert-map}
+use Rattle.partition.proofs.Maps.{cut, passed}
+use Rattle.partition.proofs.Rising.{by-ne, insert-map}
 use Rattle.partition.proofs.Sorted.{by-code, same-map, in-order-reordered, order-put}
 use Rattle.store.specs.Pages.{Page, free, read, asRow, rowsOn, rowsIn}
 use Rattle.store.specs.Moves.{pick, within, record-at, frontierOf, atFrontier}
@@ -27,9 +28,6 @@ use Rattle.store.proofs.PageTies.{rows-tab, page-needs, page-order, page-fronti
 use Rattle.change.specs.Join.{Housed, Tight, Taking, Gathered, Storable, rowOf, rowsAt, othersOn, othersIn}
 
 -- ---- rows left out of lists
-
-abbrev cut : List ℕ → List Row → List Row
-cut c rs = without (λ q. q .code) c rs
 
 pub cut-append : (c : List ℕ) (a b : List Row) → cut c (a ++ b) ≡ cut c a ++ cut c b
 unfolding without
@@ -61,7 +59,7 @@ unfolding placeOf
 none-left [] b c e = refl
 none-left (q ∷ a) b c e =
     let t = passed (order c (q .code)) (placeOf (a ++ b) c) (q .place) e in
-    skip (order c (q .code)) (placeOf a c) (q .place) (t .0) ∙ none-left a b c (t .1)
+    by-ne (order c (q .code)) (placeOf a c) (some (q .place)) (t .0) ∙ none-left a b c (t .1)
 
 once-left : (a b : List Row) → Once (a ++ b) → Once a
 once-left [] b o = tt
@@ -166,10 +164,7 @@ module _ (p c pl : List ℕ) (K : Storable c pl) (T : Taking p (rowOf c pl ∷ [
           omega (arith, f, n, fits, count-more p i c pl q I (b .within), page-needs p P, page-needs q (I .page), I .long, T .tight .long, T .tight .full)
 
   pub row-known : (i : ℕ) → i < count p → code p i ≡ c → ⊥
-  row-known i l e =
-      let w : none ≡ some (place p i) = sym not-there ∙ found-at p P c i l e in
-      let z : _≡_ {A = ℕ} 0 1 = cc in
-      omega arith
+  row-known i l e = none-some not-there (found-at p P c i l e)
 
 -- ---- a page's rows
 

@@ -7,6 +7,7 @@ use mathlib.Core.Option.{some, none}
 use Prim.Native.Nat.{ℕ, suc, _+_, _-_, _/_, _≤_, _<_}
 use native.Mathlib.Omega.{arith}
 use lib.ListN.{length, set}
+use Rattle.ground.proofs.Tests.{none-some}
 use Rattle.ground.specs.Lists.{byte}
 use Rattle.ground.specs.Ladder.{Answers}
 use Rattle.ground.proofs.Sides.{side}
@@ -26,8 +27,8 @@ use Rattle.store.proofs.Shown.{within-pages}
 use Rattle.store.proofs.Showing.{accepted-shows, pages-held}
 use Rattle.store.proofs.Unique.{page-long}
 use Rattle.store.proofs.Rooms.{frees}
-use Rattle.store.proofs.Reading.{Naming, place-on, place-not}
-use Rattle.store.proofs.PageTies.{fits-needs}
+use Rattle.store.proofs.Reading.{Naming, place-on}
+use Rattle.store.proofs.PageTies.{found-not, fits-needs}
 use Rattle.store.proofs.PutCases.{here-six, splits-seven, put-splits-is}
 use Rattle.store.proofs.PutShows.{put-found}
 use Rattle.store.proofs.PutRows.{put-shown}
@@ -76,10 +77,7 @@ module _ (h : List ℕ → ℕ) (hash : Hash h) (s c pl : List ℕ) (P : Puttabl
   starts = begins S1024 h sized-1024 hash s A c p U
 
   absent : placeOf (rowsHeld S1024 s) c ≡ none
-  absent = place-on S1024 h (rowsHeld S1024 s) gs shows c (p - 2) (depth g) (rows g) (U .holding) (sym starts) ∙ place-not g slotted c i B
-
-  none-there : (x : List ℕ) → placeOf (rowsHeld S1024 s) c ≡ some x → ⊥
-  none-there x e = let z : _≡_ {A = ℕ} 0 1 = cc absent in omega arith
+  absent = place-on S1024 h (rowsHeld S1024 s) gs shows c (p - 2) (depth g) (rows g) (U .holding) (sym starts) ∙ found-not g slotted c i B
 
   heavy : 1016 < needs rs
   unfolding need
@@ -92,7 +90,7 @@ module _ (h : List ℕ → ℕ) (hash : Hash h) (s c pl : List ℕ) (P : Puttabl
       ∙ load-any h r (keyed c) refl (map asRow (rows g)) (map asRow (rows g)) 8 (top 8 (h c)) refl
 
   pub heavy-six : 1016 < needs (rowsOf h (keyed c ∷ map asRow (rows (page S1024 s p))) 8 (top 8 (h c))) → Answers (putAccepted S1024 h s (record { code = c; place = pl })) (refused 6, s)
-  heavy-six o = inr (none-there, inl (tt, (omega (arith, deep, o), refl)))
+  heavy-six o = inr ((λ _. none-some absent), inl (tt, (omega (arith, deep, o), refl)))
 
   module _ (fine : needs (rowsOf h (keyed c ∷ map asRow (rows (page S1024 s p))) 8 (top 8 (h c))) ≤ 1016) where
     six : Refusal6 S1024 h (rowsHeld S1024 s) r → ⊥
@@ -113,7 +111,7 @@ module _ (h : List ℕ → ℕ) (hash : Hash h) (s c pl : List ℕ) (P : Puttabl
         (λ l. l)
         (λ l. absurd (omega (arith, many, o, seven-is .0 (omega (arith, l, pages-held S1024 s)))))
         (side (pages S1024 s - 2) (length (buckets S1024 h (r ∷ rowsHeld S1024 s)))) in
-        inr (none-there, inr ((λ _. six), inl (tt, (full, refl))))
+        inr ((λ _. none-some absent), inr ((λ _. six), inl (tt, (full, refl))))
 
     module _ (room : length (below h (keyed c ∷ map asRow (rows (page S1024 s p))) 0 0) ≤ frees (contents S1024 s) + 1) where
       fits : length (buckets S1024 h (r ∷ rowsHeld S1024 s)) ≤ length gs
@@ -150,7 +148,7 @@ module _ (h : List ℕ → ℕ) (hash : Hash h) (s c pl : List ℕ) (P : Puttabl
             → Answers (putAccepted S1024 h s (record { code = c; place = pl })) (new, u)
         heavy-new u D b =
             inr (
-              none-there,
+              (λ _. none-some absent),
               inr (
                 (λ _. six),
                 inr (

@@ -8,7 +8,7 @@ use native.Mathlib.Decide.{ℕ-discrete}
 use lib.ListN.{length, set}
 use Rattle.ground.specs.Lists.{tab}
 use Rattle.ground.proofs.Sides.{side}
-use Rattle.page.specs.Page.{BucketPage, rows, count, depth, rowAt}
+use Rattle.page.specs.Page.{BucketPage, count, depth, rowAt}
 use Rattle.page.specs.Packed.{Fresh, Packed}
 use Rattle.partition.specs.Partition.{Row, needs, Reordered}
 use Rattle.partition.specs.Listing.{inOrder}

@@ -1,26 +1,24 @@
 -- Pages that are sound, and a directory written from them, are bytes laid out for the pages. Assumes nothing.
-use mathlib.Core.Path.{_≡_, refl, sym, ap, subst, subst₂, _∙_}
+use mathlib.Core.Path.{_≡_, sym, ap, subst, subst₂, _∙_}
 use mathlib.Core.List.{List}
-use mathlib.Core.Logic.{_⊎_, inl, inr, ⊎-elim}
-use Prim.Native.Nat.{ℕ, zero, suc, _+_, _*_, _-_, _/_, _≤_, _<_}
+use mathlib.Core.Logic.{inl, inr, ⊎-elim}
+use Prim.Native.Nat.{ℕ, _+_, _-_, _/_, _≤_, _<_}
 use native.Mathlib.Omega.{arith}
 use lib.ListN.{length, getD, List·getD-eq-default}
-use Rattle.ground.specs.Lists.{byte, tab}
+use Rattle.ground.specs.Lists.{byte}
 use Rattle.ground.proofs.Sides.{side}
-use Rattle.ground.proofs.Tables.{length-tab}
-use Rattle.page.specs.Page.{Record, BucketPage, depth, rows, code}
-use Rattle.partition.specs.Bits.{top}
-use Rattle.store.specs.Pages.{S1024, pages, page, dirDepth, entryAt, Page, bucket, read, contents, deepestIn}
-use Rattle.store.specs.Accepted.{GoodLength, Zero, Calls}
+use Rattle.page.specs.Page.{Record, BucketPage, depth, rows}
+use Rattle.store.specs.Pages.{S1024, pages, page, entryAt, Page, bucket, read, contents, deepestIn}
+use Rattle.store.specs.Accepted.{GoodLength, Calls}
 use Rattle.store.proofs.Shows.{prefixOn, Holding}
 use Rattle.store.proofs.Shown.{free-not}
 use Rattle.store.proofs.Rooms.{bucket-one}
 use Rattle.store.proofs.Unique.{read-zero, read-used, held}
-use Rattle.store.proofs.Showing.{first-code}
+use Rattle.store.proofs.Showing.{first-code, pages-held}
 use Rattle.store.proofs.Named as Named
 use Rattle.store.proofs.Named.{deepest-le, deepest-bound}
 use Rattle.store.proofs.Accepting.{Head, Whole, Laid, head-kept, contents-kept, each-kept}
-use Rattle.change.specs.Directory.{CallsFor, Entry, none, names, Directed, Standing, Directable, Sound, free, used, Settling}
+use Rattle.change.specs.Directory.{Entry, none, names, Directed, Directable, Sound, free, used, Settling}
 
 module _ (s : List ℕ) (n : ℕ) (P : Settling s n) where
   many : pages S1024 s ≡ n
@@ -44,8 +42,7 @@ module _ (s : List ℕ) (n : ℕ) (P : Settling s n) where
   deep = deepestIn (contents S1024 s)
 
   length-held : length (contents S1024 s) ≡ n - 2
-  unfolding contents
-  length-held = length-tab (λ i. read (page S1024 s (i + 2))) (pages S1024 s - 2) ∙ ap (λ m. m - 2) many
+  length-held = pages-held S1024 s ∙ ap (λ m. m - 2) many
 
   inside : (i k : ℕ) (rs : List Record) → Holding (contents S1024 s) i k rs → i + 2 < n
   inside i k rs x = ⊎-elim (λ l. l) (λ g. absurd (free-not (sym (List·getD-eq-default (contents S1024 s) Page.free (omega (arith, length-held))) ∙ x))) (side (i + 2) n)

@@ -3,11 +3,12 @@ use mathlib.Core.Path.{_≡_, refl, sym, ap, subst, _∙_}
 use mathlib.Core.List.{List, [], _∷_}
 use mathlib.Core.Logic.{inl, inr, ⊎-elim, _↔_}
 use mathlib.Core.Bool.{true}
-use mathlib.Core.Option.{some, none}
+use mathlib.Core.Option.{none}
 use Prim.Native.Nat.{ℕ, zero, suc, _+_, _-_, _/_, _^_, _≤_, _<_}
 use native.Mathlib.Omega.{arith}
 use lib.Pow.{pow-mono}
 use lib.ListN.{length, getD, set}
+use Rattle.ground.proofs.Tests.{none-some}
 use Rattle.ground.specs.Lists.{byte}
 use Rattle.ground.specs.Ladder.{Answers}
 use Rattle.ground.proofs.Sides.{side}
@@ -94,14 +95,11 @@ module _ (h : List ℕ → ℕ) (hash : Hash h) (s c pl : List ℕ) (P : Puttabl
   seven : (length (buckets S1024 h (r ∷ rowsHeld S1024 s)) ≤ length gs) ↔ (0 < frees gs)
   seven = unheld-seven S1024 h hash (rowsHeld S1024 s) gs shows r (off S1024 h sized-1024 hash s A c unnamed) small
 
-  none-there : (x : List ℕ) → placeOf (rowsHeld S1024 s) c ≡ some x → ⊥
-  none-there x e = let z : _≡_ {A = ℕ} 0 1 = cc absent in omega arith
-
   -- no page is free
   pub unheld-full : find isFree gs ≡ length gs → Answers (putAccepted S1024 h s (record { code = c; place = pl })) (refused 7, s)
   unheld-full e =
       let n : ¬ (0 < frees gs) = λ l. let w = find-free gs l in omega (arith, w .0) in
-      inr (none-there, inr ((λ _. six), inl (tt, (⊎-elim (λ l. omega (arith, pages-held S1024 s)) (λ l. absurd (n (seven .0 (omega (arith, pages-held S1024 s, l))))) (side (pages S1024 s - 2) (length (buckets S1024 h (r ∷ rowsHeld S1024 s)))), refl))))
+      inr ((λ _. none-some absent), inr ((λ _. six), inl (tt, (⊎-elim (λ l. omega (arith, pages-held S1024 s)) (λ l. absurd (n (seven .0 (omega (arith, pages-held S1024 s, l))))) (side (pages S1024 s - 2) (length (buckets S1024 h (r ∷ rowsHeld S1024 s)))), refl))))
 
   -- one is
   module _ (k : ℕ) (K : Vacant s (dirDepth s) (h c) k) (f : ℕ) (e : f ≡ 2 + find isFree (contents S1024 s)) (to : f < pages S1024 s) (q : List ℕ) (Q : Started (page S1024 s f) k c pl q) where
@@ -140,7 +138,7 @@ module _ (h : List ℕ → ℕ) (hash : Hash h) (s c pl : List ℕ) (P : Puttabl
         → Answers (putAccepted S1024 h s (record { code = c; place = pl })) (new, u)
     unheld-new u D b =
         inr (
-          none-there,
+          (λ _. none-some absent),
           inr (
             (λ _. six),
             inr (

@@ -19,7 +19,7 @@ use Rattle.store.proofs.Rooms.{bucket-one, held-set, set-holds, set-other as ot
 use Rattle.store.proofs.Unique.{read-used}
 use Rattle.store.proofs.Named.{Entry, nothing, names}
 use Rattle.store.proofs.Accepting.{Whole, Laid, head-kept}
-use Rattle.store.proofs.Views.{setPage, lent-page, page-back, set-long, set-pages, set-same, set-other, set-below, set-depth, set-entry, set-contents}
+use Rattle.store.proofs.Views.{setPage, page-lent, page-back, set-long, set-pages, set-same, set-other, set-below, set-depth, set-entry, set-contents}
 
 -- a page of the same depth leaves the largest depth
 pub deepest-set : (gs : List Page) (i k : ℕ) (rs qs : List Record) → Holding gs i k rs → deepestIn (set gs i (bucket k qs)) ≡ deepestIn gs
@@ -97,7 +97,7 @@ module _ (S : Shape) (h : List ℕ → ℕ) (sized : Sized S) (s : List ℕ) (gs
 
 module _ (s : List ℕ) (p : ℕ) where
   pub lent : take (p * 1024 + 1024 - p * 1024) (drop (p * 1024) s) ≡ page S1024 s p
-  lent = lent-page S1024 s p (p * 1024) (p * 1024 + 1024) refl refl
+  lent = page-lent s p
 
   pub back : (q : List ℕ) → take (p * 1024) s ++ (q ++ drop (p * 1024 + 1024 - p * 1024) (drop (p * 1024) s)) ≡ setPage S1024 s p q
   back q = page-back S1024 s q p (p * 1024) (p * 1024 + 1024) refl refl

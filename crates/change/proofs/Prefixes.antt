@@ -14,7 +14,7 @@ use Rattle.partition.specs.Bits.{top}
 use Rattle.store.specs.Pages.{S1024, pages, page, free, bucket, read, reading, contents}
 use Rattle.store.specs.Moves.{within}
 use Rattle.store.proofs.Unique.{read-used, held}
-use Rattle.store.proofs.Views.{lent-page}
+use Rattle.store.proofs.Views.{page-lent}
 use Rattle.store.proofs.Showing.{pages-held}
 use Rattle.change.specs.Directory.{Sound, free as unused, used, Settling}
 
@@ -42,7 +42,7 @@ within-page h j v g (used b d) e = b
 -- page p, as s[p * 1024 .. p * 1024 + 1024]
 pub lent-whole : (s : List ℕ) (p : ℕ) → p * 1024 + 1024 ≤ length s → (take (p * 1024 + 1024 - p * 1024) (drop (p * 1024) s) ≡ page S1024 s p) × (length (page S1024 s p) ≡ 1024)
 unfolding page
-lent-whole s p l = (lent-page S1024 s p (p * 1024) (p * 1024 + 1024) refl refl, length-part s (p * 1024) 1024 l)
+lent-whole s p l = (page-lent s p, length-part s (p * 1024) 1024 l)
 
 -- ---- page after page
 

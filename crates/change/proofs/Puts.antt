@@ -6,6 +6,7 @@ use mathlib.Core.Option.{some, none}
 use Prim.Native.Nat.{ℕ, _+_, _-_, _*_, _≤_, _<_}
 use native.Mathlib.Omega.{arith}
 use lib.ListN.{length, getD, set, length-set}
+use Rattle.ground.proofs.Tests.{none-some}
 use Rattle.ground.specs.Lists.{byte}
 use Rattle.ground.specs.Ladder.{Answers}
 use Rattle.ground.proofs.Sides.{side}
@@ -29,11 +30,11 @@ use Rattle.store.specs.Demands.{Sized, Hash}
 use Rattle.store.proofs.Shows.{prefixOn, Holding, Shows}
 use Rattle.store.proofs.Shown.{within-pages, page-row, find-only}
 use Rattle.store.proofs.Unique.{page-long}
-use Rattle.store.proofs.Showing.{slot-of, accepted-shows, pages-held}
-use Rattle.store.proofs.Reading.{Naming, place-on, place-at, place-not}
+use Rattle.store.proofs.Showing.{accepted-shows, pages-held}
+use Rattle.store.proofs.Reading.{Naming, place-on}
 use Rattle.store.proofs.OverShows.{over-one, prefix-over}
 use Rattle.store.proofs.MoveRows.{over-shown}
-use Rattle.store.proofs.PageTies.{page-order, fits-needs, added-rows, overwritten-rows}
+use Rattle.store.proofs.PageTies.{slot-of, found-at, found-not, page-order, fits-needs, added-rows, overwritten-rows}
 use Rattle.store.proofs.Records.{rows-added}
 use Rattle.store.proofs.Rooms.{set-holds}
 use Rattle.store.proofs.PutCases.{fits-six, fits-seven, put-fits-is}
@@ -95,7 +96,7 @@ module _ (S : Shape) (h : List ℕ → ℕ) (sized : Sized S) (hash : Hash h) (s
 
     pub put-known : ((k : ℕ) → byte (setPage S s p q) k < 256) → Answers (putAccepted S h s (record { code = c; place = pl })) (replaced (Places.place (place g i)), setPage S s p q)
     put-known small =
-        let old : placeOf (rowsHeld S s) c ≡ some (place g i) = placed ∙ place-at g slotted c i b e in
+        let old : placeOf (rowsHeld S s) c ≡ some (place g i) = placed ∙ found-at g slotted c i b e in
         inl (
           place g i,
           (
@@ -127,7 +128,7 @@ module _ (S : Shape) (h : List ℕ → ℕ) (sized : Sized S) (hash : Hash h) (s
         (side (length g) (frontier g + 4 * count g + (12 + length c)))
 
     absent : placeOf (rowsHeld S s) c ≡ none
-    absent = placed ∙ place-not g slotted c i (F .belongs)
+    absent = placed ∙ found-not g slotted c i (F .belongs)
 
     fits : needs (new-row ∷ map asRow (rows g)) ≤ S .capacity
     unfolding need
@@ -167,11 +168,11 @@ module _ (S : Shape) (h : List ℕ → ℕ) (sized : Sized S) (hash : Hash h) (s
     pub put-fitted : ((k : ℕ) → byte (setPage S s p q) k < 256) → Answers (putAccepted S h s (record { code = c; place = pl })) (new, setPage S s p q)
     put-fitted small =
         let N = page-now in
-        let Q : BucketPage q = record { rules = N .page; some = let w = slot-of q (N .page) new-row there in omega (arith, w .1) } in
+        let Q : BucketPage q = record { rules = N .page; some = let w = slot-of q new-row there in omega (arith, w .1) } in
         let L : Laid S h (setPage S s p q) (putNew S h gs new-row) = subst (Laid S h (setPage S s p q)) (sym is)
         (laid-set S h sized s gs (accepted-laid S h sized hash s A) p (depth g) (rows g) (U .from) (U .to) (U .holding) q Q (N .long ∙ long) (N .deep) begins-now) in
         inr (
-          (λ old e. let z : _≡_ {A = ℕ} 0 1 = cc absent in omega arith),
+          (λ _. none-some absent),
           inr (
             (λ _. six),
             inr (

@@ -1,7 +1,7 @@
 -- REMOVE on an accepted store: where the code's row stands, what is left of its prefix, and the three writes. Over any hash. Assumes nothing.
 use mathlib.Core.Path.{_≡_, refl, sym, ap, subst, subst₂, _∙_}
 use mathlib.Core.List.{List, [], _∷_, _++_, map, List·Memᴰ}
-use mathlib.Core.Logic.{_⊎_, ⊎-elim}
+use mathlib.Core.Logic.{⊎-elim}
 use mathlib.Core.Option.{some}
 use Prim.Native.Nat.{ℕ, suc, _+_, _-_, _/_, _≤_, _<_}
 use native.Mathlib.Omega.{arith}
@@ -21,12 +21,12 @@ use Rattle.partition.proofs.Laws.{Shallowest, share-fewer, bucket-shallowest}
 use Rattle.partition.proofs.Maps.{cut, cut-none, cut-front, cut-length, cut-same, cut-gone, once-remove}
 use Rattle.partition.proofs.Path.{fit-above}
 use Rattle.partition.proofs.Reorders.{needs-same, rows-same}
-use Rattle.partition.proofs.Rising.{tab-member, without-member, without-map}
+use Rattle.partition.proofs.Rising.{tab-in, tab-member, without-member, without-map}
 use Rattle.partition.proofs.Rows.{load, load-mono, rows-on, some-need}
 use Rattle.partition.proofs.Sorted.{by-code, order-same, some-none, some-once}
 use Rattle.store.specs.Pages.{S1024, pages, Page, free, bucket, page, contents, asRow, rowsHeld, deepestIn}
 use Rattle.store.specs.Accepted.{Bucket, Stands, unused, used}
-use Rattle.store.specs.Moves.{pick, find, holds, within, packFrom, packed, clearedOn, joined, removed}
+use Rattle.store.specs.Moves.{pick, find, holds, within, packFrom, packed, clearedOn, removed}
 use Rattle.store.specs.Tables.{Becomes}
 use Rattle.store.specs.Demands.{Hash, sized-1024}
 use Rattle.store.proofs.Rules.{opened}
@@ -40,8 +40,8 @@ use Rattle.store.proofs.Rooms.{bucket-one}
 use Rattle.store.proofs.MoveRows.{remove-shown}
 use Rattle.store.proofs.RemoveCases as Cases
 use Rattle.store.proofs.Within.{one-depth, rows-within}
-use Rattle.store.proofs.Accepting.{Laid, accepted-laid, laid-becomes, tab-in}
-use Rattle.store.proofs.PageTies.{rows-tab, zeros, read-cleared, page-once, found-at, removed-rows}
+use Rattle.store.proofs.Accepting.{Laid, accepted-laid, laid-becomes}
+use Rattle.store.proofs.PageTies.{row-in, zeros, read-cleared, page-once, found-at, removed-rows}
 use Rattle.store.proofs.Views.{setPage, set-long, set-same, set-other, set-below, set-contents}
 use Rattle.change.specs.Directory.{Directed, Sound, free as vacant}
 use Rattle.change.specs.Prefix.{Climbed}
@@ -87,7 +87,7 @@ module _ (h : List ℕ → ℕ) (hash : Hash h) (s : List ℕ) (p i : ℕ) (c : 
   pub here : find (holds h x) gs ≡ p - 2
   here =
       ap (λ y. find (holds h (h y)) gs) (sym (L .coded))
-      ∙ only-page S1024 h rs gs shows (p - 2) k (rows g) holding (asRow (rowAt g i)) (subst (List·Memᴰ (asRow (rowAt g i))) (sym (rows-tab g)) (tab-in (λ j. asRow (rowAt g j)) (count g) i (L .slot)))
+      ∙ only-page S1024 h rs gs shows (p - 2) k (rows g) holding (asRow (rowAt g i)) (row-in g i (L .slot))
 
   abbrev its : Known S1024 h rs gs shows c old
   its = Cases.its S1024 h rs gs c old shows (L .known)

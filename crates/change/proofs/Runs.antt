@@ -38,7 +38,7 @@ use Rattle.store.proofs.Reading.{Naming}
 use Rattle.store.proofs.Walked.{Start, behind, walk-none, walk-page}
 use Rattle.change.specs.Prefix.{Above}
 use Rattle.change.proofs.Vacancy.{set-entry}
-use Rattle.change.proofs.Directories.{page-byte}
+use Rattle.store.proofs.Depths.{page-byte}
 
 -- ---- a load on prefixes that is the sum of its halves, over all prefixes m bits longer
 

@@ -15,14 +15,11 @@ use Rattle.page.specs.Page.{count, code, rows, rowAt}
 use Rattle.partition.specs.Bits.{top}
 use Rattle.partition.specs.Partition.{Row, Grade, bare, fits, over, keep, need, needs, rowsOf, grade, walk, buckets}
 use Rattle.partition.proofs.Tree.{pfx, Means}
-use Rattle.partition.proofs.Rows.{load-on, load-off, mean-of, mean-one}
+use Rattle.partition.proofs.Rows.{load, load-on, load-off, mean-of, mean-one}
 use Rattle.partition.proofs.Splice.{walk-bare, walk-fits}
 use Rattle.store.specs.Pages.{S1024, asRow}
 use Rattle.store.proofs.PageTies.{rows-tab}
 use Rattle.change.specs.Split.{keyed, below}
-
-abbrev load : (List ℕ → ℕ) → List Row → ℕ → ℕ → ℕ
-load h rs k v = needs (rowsOf h rs k v)
 
 module _ (h : List ℕ → ℕ) where
   -- a row's place does not weigh

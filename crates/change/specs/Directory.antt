@@ -5,7 +5,6 @@ use mathlib.Core.Logic.{_⊎_}
 use Prim.Native.Nat.{ℕ, _+_, _*_, _-_, _≤_, _<_}
 use lib.ListN.{length}
 use Rattle.ground.specs.Lists.{byte}
-use Rattle.words.specs.Le.{le32}
 use Rattle.words.specs.Moves.{Frame}
 use Rattle.page.specs.Page.{BucketPage, depth, code}
 use Rattle.partition.specs.Bits.{top}

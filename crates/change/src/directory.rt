@@ -1,9 +1,7 @@
 // Depth and directory, written from the pages.
-ghost use mathlib.Core.Path.{_≡_};
 ghost use Prim.Native.Nat.{_+_, _*_, _≤_, _<_};
 ghost use lib.ListN.{length};
 ghost use Rattle.hash.specs.Fnv.{fnv};
-ghost use Rattle.page.specs.Page.{BucketPage, code};
 ghost use Rattle.store.specs.Pages.{S1024, page, contents, deepestIn};
 ghost use Rattle.change.specs.Directory.{RunSet, PageNamed, Standing, Directable, Directed, Settling};
 
@@ -19,17 +17,6 @@ fn set_run(s: &mut [u8], a: usize, b: usize, p: usize)
     }
 }
 
-// The hash of a bucket page's first code.
-fn first_hash(page: &[u8]) -> u32
-    requires { ⌜ BucketPage (now page) ⌝ }
-    ensures { λ r. ⌜ r ≡ fnv (code (now (page .entry)) 0) ⌝ }
-{
-    let e = page::extent_of(page, 0);
-    let from = e.off + 8;
-    let to = e.off + e.len;
-    hash::hash(&page[from..to])
-}
-
 // The entries that page p calls for name it.
 fn name_page(s: &mut [u8], p: usize, d: u32)
     requires { ⌜ (2 ≤ p) × (p < 258) × (p * 1024 + 1024 ≤ length (now s)) × (d ≤ 8) × Standing d (page S1024 (now s) p) ⌝ }
@@ -39,7 +26,7 @@ fn name_page(s: &mut [u8], p: usize, d: u32)
     let e = a + 1024;
     if s[a] == 1 {
         let k = s[a + 1] as u32;
-        let x = first_hash(&s[a..e]);
+        let x = audit::hash_slot(&s[a..e], 0);
         let r = partition::run_of(x, k, d);
         set_run(s, r.from, r.to, p);
     }

@@ -1,5 +1,4 @@
 // The writing calls: format, put, remove.
-ghost use mathlib.Core.Path.{_≡_};
 ghost use Rattle.ground.specs.Ladder.{Answers};
 ghost use Rattle.store.specs.Pages.{S1024};
 ghost use Rattle.store.specs.Tables.{formatTable, meaning};

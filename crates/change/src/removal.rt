@@ -1,5 +1,4 @@
 // A row taken out of an accepted store.
-ghost use mathlib.Core.Path.{_≡_};
 ghost use Rattle.ground.specs.Ladder.{Answers};
 ghost use Rattle.hash.specs.Fnv.{fnv};
 ghost use Rattle.store.specs.Pages.{S1024, contents};

@@ -1,6 +1,6 @@
--- Two results of one ladder are equal, where each of its rungs and ends settles its own.
-use mathlib.Core.Path.{_≡_, refl, sym, subst, _∙_}
-use mathlib.Core.Logic.{_⊎_, inl, inr}
+-- Two results of one ladder are equal, where each of its rungs and ends settles its own. Assumes nothing.
+use mathlib.Core.Path.{_≡_, subst}
+use mathlib.Core.Logic.{inl, inr}
 use Rattle.ground.specs.Ladder.{Ladder, rung, given, ends, Answers}
 
 abbrev pub Sure : {A : Type 0} → Ladder A → Type 0

@@ -1,10 +1,9 @@
 -- Laws of parts and splices. Assumes nothing.
-use mathlib.Core.Path.{_≡_, refl, sym, ap, _∙_}
-use mathlib.Core.Logic.{⊎-elim}
+use mathlib.Core.Path.{_≡_, sym, _∙_}
 use mathlib.Core.List.{List, _++_}
 use Prim.Native.Nat.{ℕ, _+_, _-_, _≤_, _<_}
 use native.Mathlib.Omega.{arith}
-use lib.ListN.{length, take, drop, getD, length-append, length-take, length-drop, take-append-drop}
+use lib.ListN.{length, take, drop, length-append, length-take, length-drop, take-append-drop}
 use lib.Seq.{getD-take, getD-drop, ext-getD, take-at, take-append-le, drop-at, drop-append-le, drop-append-add, drop-drop, length-take-le}
 use Rattle.ground.specs.Lists.{byte, part, splice}
 

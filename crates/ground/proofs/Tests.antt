@@ -1,6 +1,7 @@
--- Laws of `Says`. Assumes nothing.
-use mathlib.Core.Path.{_≡_, refl, subst}
-use mathlib.Core.Bool.{Bool, true, false}
+-- Laws of `Says`; none is not some. Assumes nothing.
+use mathlib.Core.Path.{_≡_, refl, sym, subst}
+use mathlib.Core.Bool.{Bool, true, false, true≢false}
+use mathlib.Core.Option.{Option, some, none}
 use Prim.Native.Nat.{ℕ, _≤_, _<_}
 use lib.Dec.{eqb, ltb, leb}
 use native.Mathlib.Omega.{arith}
@@ -34,7 +35,7 @@ pub says-eqb : {P : Type 0} (a b : ℕ) → (a ≡ b → P) → (P → a ≡ b) 
 says-eqb a b f g = says-by a b (eqb a b) refl f g
 
 pub untrue : {P : Type 0} → false ≡ true → P
-untrue e = absurd (let z : _≡_ {A = ℕ} 0 1 = cc in omega arith)
+untrue e = absurd (true≢false (sym e))
 
 less-by : {P : Type 0} (a b : ℕ) (t : Bool) → ltb a b ≡ t → (a < b → P) → (P → a < b) → Says t P
 less-by a b true e f g = f (ltb-true a b e)
@@ -51,3 +52,6 @@ most-by a b false e f g = λ p. let h : b < a = leb-false a b e in omega (arith,
 -- where P is that the first is at most the second
 pub says-leb : {P : Type 0} (a b : ℕ) → (a ≤ b → P) → (P → a ≤ b) → Says (leb a b) P
 says-leb a b f g = most-by a b (leb a b) refl f g
+
+pub none-some : {A : Type 0} {o : Option A} {x : A} → o ≡ none → o ≡ some x → ⊥
+none-some e f = let n : _≡_ {A = ℕ} 0 1 = cc in omega arith

@@ -1,10 +1,10 @@
 -- The parts of a place as numbers. Assumes nothing.
-use mathlib.Core.Path.{_≡_, refl, sym, ap, _∙_}
-use mathlib.Core.Bool.{Bool, true, false}
-use Prim.Native.Nat.{ℕ, _<_, _^_}
+use mathlib.Core.Path.{_≡_, refl, sym, ap}
+use mathlib.Core.Bool.{true, false}
+use Prim.Native.Nat.{_<_, _^_}
 use lib.Dec.{T, ltb}
 use lib.IntN.{ℤ, pos, negsuc, natAbs}
-use lib.Signed.{ltZ, nonNeg, _<ℤ_, ltZ-yes}
+use lib.Signed.{ltZ, nonNeg, _<ℤ_}
 use mir.Syntax.{Width, w64}
 use mir.Val.{Fits, SFits, toZ, ofZ, bits, hbits}
 use Rattle.ground.proofs.Tests.{says-true, says-false}

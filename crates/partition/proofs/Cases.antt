@@ -1,4 +1,5 @@
 -- The worked cases hold for every hash that has the four values of cases 1 and 2; the chosen hash is of 32 bits. Assumes nothing.
+use borrow.Author.Tests.{leb-true, leb-false}
 use mathlib.Core.Path.{_≡_, refl, ap₂}
 use mathlib.Core.Bool.{Bool, true, false}
 use mathlib.Core.List.{List, [], _∷_}
@@ -7,7 +8,7 @@ use Prim.Native.Nat.{ℕ, _+_, _-_, _^_, _≤_, _<_}
 use native.Mathlib.Nat.{mod-lt}
 use native.Mathlib.Omega.{arith}
 use lib.Count.{leadingZeros}
-use lib.Dec.{leb, leb→le, nleb→lt}
+use lib.Dec.{leb}
 use lib.ListN.{length}
 use lib.Pow.{pow-pos}
 use Rattle.ground.specs.Says.{Says}
@@ -40,8 +41,8 @@ once-of (r ∷ rs) e = go (placeOf rs (r .code)) e (once-of rs)
     go (some p) x f = absurd (let n : _≡_ {A = ℕ} 0 1 = cc in omega arith)
 
 fit-of : (n m : ℕ) (t : Bool) → leb n m ≡ t → Says t (n ≤ m)
-fit-of n m true e = leb→le n m (rw e tt)
-fit-of n m false e = λ l. let k : m < n = nleb→lt n m (rw e tt) in omega arith
+fit-of n m true e = leb-true n m e
+fit-of n m false e = λ l. let k : m < n = leb-false n m e in omega arith
 
 -- what is left of each case once its rows' codes and their fit are computed
 module _ (f : List ℕ → ℕ) where

@@ -7,25 +7,19 @@ use mathlib.Core.Option.{Option, some, none}
 use Prim.Native.Nat.{ℕ, suc, Ordering, Ordering·lt, Ordering·eq, Ordering·gt}
 use native.Mathlib.Omega.{arith}
 use lib.ListN.{length}
+use Rattle.ground.proofs.Tests.{none-some}
 use Rattle.words.specs.Codes.{order}
 use Rattle.words.proofs.Orders.{order-eq, order-refl}
 use Rattle.partition.specs.Partition.{Row, Reordered, empty, front, swap, chain}
 use Rattle.partition.specs.Listing.{by, without, placeOf, Once}
 use Rattle.partition.proofs.Reorders.{same-order, length-same}
+use Rattle.partition.proofs.Rising.{by-ne}
 
 -- ---- one step of the map, by the outcome of a comparison
 
-unsome : {b : List ℕ} → some b ≡ none → ⊥
-unsome e = let n : _≡_ {A = ℕ} 0 1 = cc in omega arith
-
-pub skip : (o : Ordering) (m : Option (List ℕ)) (b : List ℕ) → (o ≡ Ordering·eq → ⊥) → by o m (some b) m ≡ m
-skip Ordering·lt m b f = refl
-skip Ordering·eq m b f = absurd (f refl)
-skip Ordering·gt m b f = refl
-
 pub passed : (o : Ordering) (m : Option (List ℕ)) (b : List ℕ) → by o m (some b) m ≡ none → (o ≡ Ordering·eq → ⊥) × (m ≡ none)
 passed Ordering·lt m b e = ((λ f. let n : _≡_ {A = ℕ} 0 1 = cc in omega arith), e)
-passed Ordering·eq m b e = absurd (unsome e)
+passed Ordering·eq m b e = absurd (none-some e refl)
 passed Ordering·gt m b e = ((λ f. let n : _≡_ {A = ℕ} 0 1 = cc in omega arith), e)
 
 both-none : (o : Ordering) → by {A = Option (List ℕ)} o none none none ≡ none
@@ -47,7 +41,7 @@ cut-none c (q ∷ rs) e = go (order c (q .code)) e (cut-none c rs)
     go : (o : Ordering) → by o (placeOf rs c) (some (q .place)) (placeOf rs c) ≡ none → (placeOf rs c ≡ none → cut c rs ≡ rs)
         → by o (q ∷ cut c rs) (cut c rs) (q ∷ cut c rs) ≡ q ∷ rs
     go Ordering·lt x f = ap (λ l. q ∷ l) (f x)
-    go Ordering·eq x f = absurd (unsome x)
+    go Ordering·eq x f = absurd (none-some x refl)
     go Ordering·gt x f = ap (λ l. q ∷ l) (f x)
 
 by-front : (o : Ordering) (q : Row) {m n : List Row} → Reordered m n → Reordered (by o (q ∷ m) m (q ∷ m)) (by o (q ∷ n) n (q ∷ n))
@@ -89,7 +83,7 @@ cut-other c x (q ∷ rs) n = go (order c (q .code)) refl (cut-other c x rs n)
   where
     go : (o : Ordering) → order c (q .code) ≡ o → placeOf (cut c rs) x ≡ placeOf rs x → placeOf (by o (q ∷ cut c rs) (cut c rs) (q ∷ cut c rs)) x ≡ placeOf (q ∷ rs) x
     go Ordering·lt e i = ap (λ m. by (order x (q .code)) m (some (q .place)) m) i
-    go Ordering·eq e i = i ∙ sym (skip (order x (q .code)) (placeOf rs x) (q .place) (same-code c x q e n))
+    go Ordering·eq e i = i ∙ sym (by-ne (order x (q .code)) (placeOf rs x) (some (q .place)) (same-code c x q e n))
     go Ordering·gt e i = ap (λ m. by (order x (q .code)) m (some (q .place)) m) i
 
 pub cut-gone : (c : List ℕ) (rs : List Row) → placeOf (cut c rs) c ≡ none
@@ -144,7 +138,7 @@ once-put r rs o = (cut-gone (r .code) rs, once-remove (r .code) rs o)
 -- a place that the map gives is that of a row
 pub found : (c b : List ℕ) (rs : List Row) → placeOf rs c ≡ some b → List·Memᴰ (record { code = c; place = b }) rs
 unfolding placeOf
-found c b [] e = absurd (unsome (sym e))
+found c b [] e = absurd (none-some refl e)
 found c b (q ∷ rs) e = go (order c (q .code)) refl e (found c b rs)
   where
     go : (o : Ordering) → order c (q .code) ≡ o → by o (placeOf rs c) (some (q .place)) (placeOf rs c) ≡ some b
@@ -170,7 +164,7 @@ pub missing : (rs : List Row) (c : List ℕ) → ((r : Row) → List·Memᴰ r r
 unfolding placeOf
 missing [] c f = refl
 missing (q ∷ rs) c f =
-    skip (order c (q .code)) (placeOf rs c) (q .place) (λ e. f q (List·Memᴰ·head refl) (order-eq c (q .code) e)) ∙ missing rs c (λ r m. f r (List·Memᴰ·tail m))
+    by-ne (order c (q .code)) (placeOf rs c) (some (q .place)) (λ e. f q (List·Memᴰ·head refl) (order-eq c (q .code) e)) ∙ missing rs c (λ r m. f r (List·Memᴰ·tail m))
 
 -- where no code is there twice, the map has exactly the rows
 pub placed : (rs : List Row) → Once rs → (r : Row) → List·Memᴰ r rs → placeOf rs (r .code) ≡ some (r .place)
@@ -183,7 +177,7 @@ placed (q ∷ rs) o r m = go (List·Memᴰ·cases-cons m) (placed rs (o .1) r)
         subst (λ (z : Row). placeOf (q ∷ rs) (z .code) ≡ some (z .place)) (sym e)
         (ap (λ p. by p (placeOf rs (q .code)) (some (q .place)) (placeOf rs (q .code))) (order-refl (q .code)))
     go (inr t) f =
-        skip (order (r .code) (q .code)) (placeOf rs (r .code)) (q .place) (λ e. absent rs (q .code) (o .0) r t (sym (order-eq (r .code) (q .code) e))) ∙ f t
+        by-ne (order (r .code) (q .code)) (placeOf rs (r .code)) (some (q .place)) (λ e. absent rs (q .code) (o .0) r t (sym (order-eq (r .code) (q .code) e))) ∙ f t
 
 pub placed-iff : (rs : List Row) → Once rs → (c b : List ℕ) → (placeOf rs c ≡ some b) ↔ List·Memᴰ (record { code = c; place = b }) rs
 placed-iff rs o c b = (found c b rs, placed rs o (record { code = c; place = b }))
@@ -191,7 +185,7 @@ placed-iff rs o c b = (found c b rs, placed rs o (record { code = c; place = b }
 -- a known row, and the others
 pub cut-front : (c b : List ℕ) (rs : List Row) → Once rs → placeOf rs c ≡ some b → Reordered rs (record { code = c; place = b } ∷ cut c rs)
 unfolding placeOf without
-cut-front c b [] o e = absurd (unsome (sym e))
+cut-front c b [] o e = absurd (none-some refl e)
 cut-front c b (q ∷ rs) o e = go (order c (q .code)) refl e (cut-front c b rs (o .1))
   where
     r : Row

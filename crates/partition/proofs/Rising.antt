@@ -19,7 +19,7 @@ by-le Ordering·lt a c n = refl
 by-le Ordering·eq a c n = refl
 by-le Ordering·gt a c n = absurd (n refl)
 
-by-ne : {A : Type 0} (o : Ordering) (a b : A) → (o ≡ Ordering·eq → ⊥) → by o a b a ≡ a
+pub by-ne : {A : Type 0} (o : Ordering) (a b : A) → (o ≡ Ordering·eq → ⊥) → by o a b a ≡ a
 by-ne Ordering·lt a b n = refl
 by-ne Ordering·eq a b n = absurd (n refl)
 by-ne Ordering·gt a b n = refl
@@ -27,13 +27,20 @@ by-ne Ordering·gt a b n = refl
 by-eq : {A : Type 0} (o : Ordering) (a b : A) → o ≡ Ordering·eq → by o a b a ≡ b
 by-eq o a b e = ap (λ p. by p a b a) e
 
-unlike : (s t : List ℕ) → Before s t → order s t ≡ Ordering·eq → ⊥
+-- of two codes, one before the other, neither is the other
+pub unlike : (s t : List ℕ) → Before s t → order s t ≡ Ordering·eq → ⊥
 unlike s t b e = irrefl t (subst (λ x. Before x t) (order-eq s t e) b)
 
-unlike-after : (s t : List ℕ) → Before t s → order s t ≡ Ordering·eq → ⊥
+pub unlike-after : (s t : List ℕ) → Before t s → order s t ≡ Ordering·eq → ⊥
 unlike-after s t b e = irrefl s (subst (λ x. Before x s) (sym (order-eq s t e)) b)
 
--- a member of a table
+-- the members of a table
+pub tab-in : {A : Type 0} (f : ℕ → A) (n i : ℕ) → i < n → List·Memᴰ (f i) (tab f n)
+unfolding tab
+tab-in f zero i l = absurd (omega arith)
+tab-in f (suc n) zero l = List·Memᴰ·head refl
+tab-in f (suc n) (suc i) l = List·Memᴰ·tail (tab-in (λ j. f (suc j)) n i (omega arith))
+
 pub tab-member : {A : Type 0} (f : ℕ → A) (n : ℕ) (a : A) → List·Memᴰ a (tab f n) → (i : ℕ) × (i < n) × (a ≡ f i)
 unfolding tab
 tab-member f zero a m = absurd (List·Memᴰ·not-nil m)

@@ -14,8 +14,8 @@ use Rattle.partition.specs.Listing.{by, insert, inOrder, listing, placeO
 use Rattle.partition.proofs.Laws.{reordered}
 use Rattle.partition.proofs.Sum.{prefix-row}
 use Rattle.partition.proofs.Reorders.{rows-same, same-order, turned, mem-reordered}
-use Rattle.partition.proofs.Maps.{skip, passed, cut, cut-same, absent, missing}
-use Rattle.partition.proofs.Rising.{Ahead, Rising, rising-ext, insert-ahead, insert-rising, without-rising}
+use Rattle.partition.proofs.Maps.{passed, cut, cut-same, absent, missing}
+use Rattle.partition.proofs.Rising.{by-ne, Ahead, Rising, rising-ext, insert-ahead, insert-rising, without-rising}
 
 crossed : (o p : Ordering) (m : Option (List ℕ)) (a b : List ℕ) → (o ≡ Ordering·eq → p ≡ Ordering·eq → ⊥)
     → by o (by p m (some b) m) (some a) (by p m (some b) m) ≡ by p (by o m (some a) m) (some b) (by o m (some a) m)
@@ -41,7 +41,7 @@ same-map (swap {rs = rs} {qs = qs} r q p) o =
     let apart : (c : List ℕ) → order c (r .code) ≡ Ordering·eq → order c (q .code) ≡ Ordering·eq → ⊥
     = λ c x y. t .0 (subst (λ d. order d (q .code) ≡ Ordering·eq) (order-eq c (r .code) x) y) in (
       (
-        (skip (order (q .code) (r .code)) (placeOf qs (q .code)) (r .place) (λ x. apart (q .code) x (order-refl (q .code))) ∙ sym (i .1 (q .code)) ∙ o .1 .0),
+        (by-ne (order (q .code) (r .code)) (placeOf qs (q .code)) (some (r .place)) (λ x. apart (q .code) x (order-refl (q .code))) ∙ sym (i .1 (q .code)) ∙ o .1 .0),
         (sym (i .1 (r .code)) ∙ t .1, i .0),
       ),
       (λ c. crossed (order c (r .code)) (order c (q .code)) (placeOf rs c) (r .place) (q .place) (apart c)

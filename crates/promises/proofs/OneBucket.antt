@@ -1,13 +1,14 @@
 -- ONE BUCKET FOR EVERYTHING IS TURNED AWAY: rows that do not fit together have a directory of more than one entry. Under any hash, after any history;
--- and under the hash chosen for the worked cases a program that keeps the tables comes to such rows.
+-- and under the hash chosen for the worked cases a program that keeps the tables comes to such rows. Assumes nothing.
+use borrow.Author.Tests.{leb-true}
 use mathlib.Core.Path.{_≡_, refl, sym, ap, _∙_}
-use mathlib.Core.Bool.{Bool, true, false}
+use mathlib.Core.Bool.{Bool, true, false, true≢false}
 use mathlib.Core.List.{List, [], _∷_, List·Memᴰ·head}
-use mathlib.Core.Logic.{_⊎_, ⊎-elim}
+use mathlib.Core.Logic.{⊎-elim}
 use mathlib.Core.Option.{Option, some, none}
 use Prim.Native.Nat.{ℕ, zero, suc, _^_, _≤_, _<_}
 use native.Mathlib.Omega.{arith}
-use lib.Dec.{leb, leb→le}
+use lib.Dec.{leb}
 use lib.ListN.{length, replicate}
 use Rattle.ground.proofs.Sides.{side}
 use Rattle.partition.specs.Bits.{top}
@@ -24,7 +25,6 @@ use Rattle.partition.proofs.Store.{fine-reordered, every-row}
 use Rattle.partition.proofs.Tree.{pfx}
 use Rattle.store.specs.Pages.{S1024, dirDepth}
 use Rattle.store.specs.Demands.{Hash, GoodCode, History, sized-1024}
-use Rattle.store.proofs.Kept.{clash}
 use Rattle.store.proofs.Showing.{accepted-shows}
 use Rattle.store.proofs.Whole.{demand-3}
 use Rattle.promises.specs.Programs.{Program, Bytes, Meets, OneBucket}
@@ -78,7 +78,7 @@ also false t = false
 
 both : (p q : Bool) → also p q ≡ true → (p ≡ true) × (q ≡ true)
 both true q e = (refl, e)
-both false q e = absurd (clash (sym e))
+both false q e = absurd (true≢false (sym e))
 
 abbrev isNone : Option (List ℕ) → Bool
 isNone none = true
@@ -86,10 +86,7 @@ isNone (some p) = false
 
 none-of : (m : Option (List ℕ)) → isNone m ≡ true → m ≡ none
 none-of none e = refl
-none-of (some p) e = absurd (clash (sym e))
-
-le-of : (n m : ℕ) → leb n m ≡ true → n ≤ m
-le-of n m e = leb→le n m (rw e tt)
+none-of (some p) e = absurd (true≢false (sym e))
 
 may : ℕ → List ℕ → Bool
 may x xs =
@@ -104,7 +101,7 @@ may-of x xs e =
     let p = both (leb x 255) _ e in
     let q = both (isNone (placeOf (rows-of xs) (coded x))) _ (p .1) in
     let r = both (leb (needs (rowsOf chosen (rows-of (x ∷ xs)) 8 (top 8 (chosen (coded x))))) 1016) _ (q .1) in
-    record { small = le-of _ _ (p .0); new = none-of _ (q .0); near = le-of _ _ (r .0); room = le-of _ _ (r .1) }
+    record { small = leb-true _ _ (p .0); new = none-of _ (q .0); near = leb-true _ _ (r .0); room = leb-true _ _ (r .1) }
 
 abbrev thirteen : List ℕ
 thirteen = 1 ∷ 2 ∷ 3 ∷ 4 ∷ 5 ∷ 6 ∷ 7 ∷ 8 ∷ 9 ∷ 10 ∷ 11 ∷ 12 ∷ 80 ∷ []

@@ -1,15 +1,17 @@
--- THE WRONG PROGRAMS ARE TURNED AWAY: none of them keeps the tables.
+-- THE WRONG PROGRAMS ARE TURNED AWAY: none of them keeps the tables. Assumes nothing.
+use borrow.Author.Tests.{le-leb}
 use mathlib.Core.Path.{_≡_, refl, sym, ap, subst, _∙_}
-use mathlib.Core.Bool.{Bool, true, false}
+use mathlib.Core.Bool.{Bool, true, false, true≢false}
 use mathlib.Core.List.{List, [], _∷_}
-use mathlib.Core.Logic.{_⊎_, inl, inr, ⊎-elim}
-use mathlib.Core.Option.{Option, some, none}
+use mathlib.Core.Logic.{⊎-elim}
+use mathlib.Core.Option.{some}
 use Prim.Native.Nat.{ℕ, zero, suc, _+_, _≤_, _<_}
 use native.Mathlib.Omega.{arith}
-use lib.Dec.{leb, eqb, le→leb}
+use lib.Dec.{eqb}
 use lib.Signed.{mag}
 use lib.ListN.{length, replicate, getElem?}
 use lib.Seq.{ext-getD}
+use Rattle.ground.proofs.Tests.{none-some}
 use Rattle.ground.specs.Ladder.{Answers}
 use Rattle.ground.proofs.Sides.{side}
 use Rattle.words.specs.Codes.{order}
@@ -19,7 +21,7 @@ use Rattle.partition.specs.Partition.{Shape, Row, keep, need, needs, rowsOf, gr
 use Rattle.partition.specs.Listing.{placeOf, listing, Once}
 use Rattle.partition.proofs.Maps.{absent}
 use Rattle.partition.proofs.Reorders.{length-same}
-use Rattle.partition.proofs.Rows.{test, rows-all}
+use Rattle.partition.proofs.Rows.{rows-all}
 use Rattle.partition.proofs.Splice.{walk-fits}
 use Rattle.page.specs.declared.Place.{Place}
 use Rattle.page.specs.Places.{place, stored}
@@ -27,7 +29,6 @@ use Rattle.store.specs.Pages.{S1024, rowsHeld}
 use Rattle.store.specs.Accepted.{GoodLength, Accepted}
 use Rattle.store.specs.Tables.{Out, refused, row, new, found, rowTable}
 use Rattle.store.specs.Demands.{Hash, lookup, remove, count, ok, GoodCode, AtStart, Nth, map-of, update, answerOf, sized-1024}
-use Rattle.store.proofs.Kept.{clash}
 use Rattle.store.proofs.Given.{member}
 use Rattle.store.proofs.Whole.{demand-2}
 use Rattle.promises.specs.Programs.{Program, Bytes, Meets, RefusesEveryPut, OneFixedPlace, RepeatsOneRow, OnlyAnswers, StoresOnlyTheFirst, Miscounts}
@@ -48,9 +49,6 @@ one-small : (x : ℕ) → x < 256 → Bytes (x ∷ [])
 one-small x l zero = l
 one-small x l (suc k) = omega arith
 
-differ : {A : Type 0} {o : Option A} {x : A} → o ≡ none → o ≡ some x → ⊥
-differ e f = let n : _≡_ {A = ℕ} 0 1 = cc in omega arith
-
 -- ---- each row is listed once
 
 here : (l : List Row) (n : ℕ) → n < length l → (r : Row) × (getElem? l n ≡ some r)
@@ -60,7 +58,7 @@ here (x ∷ l) (suc n) m = here l n (omega arith)
 
 -- where no code is twice, one code has one index
 once-index : (l : List Row) → Once l → (n m : ℕ) (r q : Row) → getElem? l n ≡ some r → getElem? l m ≡ some q → r .code ≡ q .code → n ≡ m
-once-index [] o n m r q e f g = absurd (differ refl e)
+once-index [] o n m r q e f g = absurd (none-some refl e)
 once-index (x ∷ l) o zero zero r q e f g = refl
 once-index (x ∷ l) o zero (suc m) r q e f g =
     let x-r : x ≡ r = cc in
@@ -75,7 +73,7 @@ row-there : (l : List Row) (n : ℕ) (out : List ℕ) (o : Out) (out′ : List �
     → (r : Row) × (getElem? l n ≡ some r) × (o ≡ row (length (r .code)) (place (r .place))) × AtStart (r .code) out out′
 row-there l n out o out′ w t = ⊎-elim
     (λ m. let r = here l n m in let x = w .is (r .0) (r .1) in (r .0, r .1, x .0, x .1))
-    (λ m. absurd (clash (sym t ∙ ap ok (w .past m .0))))
+    (λ m. absurd (true≢false (sym t ∙ ap ok (w .past m .0))))
     (side n (length l))
 
 -- one output, one code
@@ -115,7 +113,7 @@ module _ (h : List ℕ → ℕ) (hash : Hash h) where
       let e : buckets S1024 h (q ∷ qs) ≡ walk (λ k v. grade 1016 (rowsOf h (q ∷ qs) k v)) 8 (grade 1016 (q ∷ qs)) 0 0
       = ap (λ rs. walk (λ k v. grade 1016 (rowsOf h (q ∷ qs) k v)) 8 (grade 1016 rs) 0 0) (rows-all h hash (q ∷ qs)) in
       let f = walk-fits (λ k v. grade 1016 (rowsOf h (q ∷ qs) k v)) 8 0 0 in
-      let g : grade 1016 (q ∷ qs) ≡ fitting true = ap fitting (test (leb (needs (q ∷ qs)) 1016) (le→leb (needs (q ∷ qs)) 1016 l)) in
+      let g : grade 1016 (q ∷ qs) ≡ fitting true = ap fitting (le-leb (needs (q ∷ qs)) 1016 l) in
       omega (arith, ap length (e ∙ ap (λ g. walk (λ k v. grade 1016 (rowsOf h (q ∷ qs) k v)) 8 g 0 0) g ∙ f))
 
   module _ (P : Program) (meets : Meets h P) where
@@ -148,7 +146,7 @@ module _ (h : List ℕ → ℕ) (hash : Hash h) where
 
     -- ONE THAT REFUSES EVERY PUT
     pub refuses-every-put : RefusesEveryPut P → ⊥
-    refuses-every-put f = clash (sym (ap ok (said-a 0 (omega arith))) ∙ f (begun h hash P meets) a (at 0))
+    refuses-every-put f = true≢false (sym (ap ok (said-a 0 (omega arith))) ∙ f (begun h hash P meets) a (at 0))
 
     -- LOOKUP WITH ONE FIXED PLACE
     looks-up : (n : ℕ) (l : n < 2) → P .lookup (one n) a ≡ found (at n)
@@ -171,7 +169,7 @@ module _ (h : List ℕ → ℕ) (hash : Hash h) where
         let w = with-a 0 (omega arith) in
         let t : List ℕ = one 0 in
         let m = demand-2 S1024 h sized-1024 hash .3 t a (P .remove t a .0) (P .remove t a .1) (accepted-at h hash P meets w) (meets .removes t a (w .small) (one-small 97 (omega arith))) .0 (one-good 97) .1 a in
-        differ (ap (λ s. map-of S1024 s a) (sym (f t a)) ∙ m) (holds-a 0 (omega arith))
+        none-some (ap (λ s. map-of S1024 s a) (sym (f t a)) ∙ m) (holds-a 0 (omega arith))
 
     -- A COUNT THAT IS NOT THE MAP'S SIZE
     pub miscounts : Miscounts h P → ⊥
@@ -202,9 +200,9 @@ module _ (h : List ℕ → ℕ) (hash : Hash h) where
     pub stores-only-the-first : StoresOnlyTheFirst P → ⊥
     unfolding placeOf order
     stores-only-the-first f =
-        let some-row : rowsHeld S1024 (one 0) ≡ [] → ⊥ = λ e. differ (ap (λ rs. placeOf rs a) e) (holds-a 0 (omega arith)) in
+        let some-row : rowsHeld S1024 (one 0) ≡ [] → ⊥ = λ e. none-some (ap (λ rs. placeOf rs a) e) (holds-a 0 (omega arith)) in
         let e : two ≡ one 0 = f (one 0) b (at 1) some-row said-b in
-        differ (map-at h hash P meets (with-a 0 (omega arith)) b) (ap (λ s. map-of S1024 s b) (sym e) ∙ map-at h hash P meets with-b b)
+        none-some (map-at h hash P meets (with-a 0 (omega arith)) b) (ap (λ s. map-of S1024 s b) (sym e) ∙ map-at h hash P meets with-b b)
 
     -- A LISTING THAT REPEATS ONE ROW
     pub repeats-one-row : RepeatsOneRow P → ⊥

@@ -2,11 +2,12 @@
 use mathlib.Core.Path.{_≡_, refl, sym, ap, _∙_}
 use mathlib.Core.Bool.{Bool, true, false}
 use mathlib.Core.List.{List}
-use mathlib.Core.Logic.{_⊎_, inl, inr, ⊎-elim}
+use mathlib.Core.Logic.{inl, inr, ⊎-elim}
 use mathlib.Core.Option.{some, none}
 use Prim.Native.Nat.{ℕ, _-_, _/_, _≤_, _<_}
 use native.Mathlib.Omega.{arith}
 use lib.ListN.{length}
+use Rattle.ground.proofs.Tests.{none-some}
 use Rattle.ground.specs.Ladder.{Answers}
 use Rattle.hash.specs.Fnv.{fnv, fnv-lt}
 use Rattle.partition.specs.Partition.{buckets}
@@ -15,7 +16,7 @@ use Rattle.page.specs.Places.{place, stored, Negative}
 use Rattle.store.specs.Pages.{S1024}
 use Rattle.store.specs.Accepted.{Accepted}
 use Rattle.store.specs.Moves.{pick}
-use Rattle.store.specs.Tables.{Out, refused, new, replaced, putTable}
+use Rattle.store.specs.Tables.{Out, refused, new, replaced, putAccepted, putTable}
 use Rattle.store.specs.Demands.{Call, format, check, count, lookup, remove, put, rowAt, inspect, Made, ok, GoodCode, map-of, putAnswer, Refuses, after, sized-1024}
 use Rattle.store.proofs.Rules.{accepted-whole}
 use Rattle.store.proofs.Settled.{format-settled, check-settled, count-settled, lookup-settled, row-settled, inspect-settled, put-settled, remove-settled}
@@ -56,9 +57,6 @@ module _ (s c : List ℕ) (p : Place) (o : Out) (t : List ℕ) (a : Accepted S10
   only : (x : Out) (y : List ℕ) → Answers (putTable S1024 fnv s c p) (x, y) → o ≡ x
   only x y w = ap (λ q. q .0) (put-settled S1024 fnv sized-1024 s c p (o, t) (x, y) m w)
 
-  none-some : {b : List ℕ} → map-of S1024 s c ≡ none → map-of S1024 s c ≡ some b → ⊥
-  none-some e f = let n : _≡_ {A = ℕ} 0 1 = cc in omega arith
-
   says-three : (GoodCode c → ⊥) → o ≡ refused 3
   unfolding putTable
   says-three n = only (refused 3) s (inr ((λ _ r. r (a .long)), inl (tt, (three c n, refl))))
@@ -85,44 +83,17 @@ module _ (s c : List ℕ) (p : Place) (o : Out) (t : List ℕ) (a : Accepted S10
         refuses (inr (inr x)) = none-some (x .0) e
 
     module _ (e : map-of S1024 s c ≡ none) where
-      says-six : 1016 < near s c p → o ≡ refused 6
+      -- past the refusals before 6
+      past : (x : Out) → Answers (putAccepted S1024 fnv s (record { code = c; place = stored p })) (x, s) → o ≡ x
       unfolding putTable
-      says-six l = only (refused 6) s (inr (
-        (λ _ r. r (a .long)),
-        inr (
-          (λ _ r. no-three c g r),
-          inr (
-            (λ _ r. n r),
-            inr (
-              accepted-whole S1024 fnv s a,
-              (
-                a,
-                inr ((λ b f. none-some e f), inl (tt, (l, refl))),
-              ),
-            ),
-          ),
-        ),
-      ))
+      past x w = only x s (inr ((λ _ r. r (a .long)), inr ((λ _ r. no-three c g r), inr ((λ _ r. n r), inr (accepted-whole S1024 fnv s a, (a, w))))))
+
+      says-six : 1016 < near s c p → o ≡ refused 6
+      says-six l = past (refused 6) (inr ((λ b f. none-some e f), inl (tt, (l, refl))))
 
       module _ (l : near s c p ≤ 1016) where
         says-seven : length s / 1024 - 2 < length (buckets S1024 fnv (joining s c p)) → o ≡ refused 7
-        unfolding putTable
-        says-seven k = only (refused 7) s (inr (
-          (λ _ r. r (a .long)),
-          inr (
-            (λ _ r. no-three c g r),
-            inr (
-              (λ _ r. n r),
-              inr (
-                accepted-whole S1024 fnv s a,
-                (
-                  a,
-                  inr ((λ b f. none-some e f), inr ((λ _ r. omega arith), inl (tt, (k, refl)))),
-                ),
-              ),
-            ),
-          ),
-        ))
+        says-seven k = past (refused 7) (inr ((λ b f. none-some e f), inr ((λ _ r. omega arith), inl (tt, (k, refl)))))
 
         says-new : length (buckets S1024 fnv (joining s c p)) ≤ length s / 1024 - 2 → o ≡ new
         says-new k = answers refuses ∙ ap putAnswer e

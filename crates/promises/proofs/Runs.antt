@@ -1,4 +1,4 @@
--- A program that keeps the tables, run from a format of four pages: what it has stored so far, and that a put that need not be refused is not.
+-- A program that keeps the tables, run from a format of four pages: what it has stored so far, and that a put that need not be refused is not. Assumes nothing.
 use mathlib.Core.Path.{_≡_, refl, sym, ap, subst, _∙_}
 use mathlib.Core.Bool.{Bool, true, false}
 use mathlib.Core.List.{List, [], _∷_}

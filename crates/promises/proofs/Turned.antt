@@ -1,4 +1,4 @@
--- A program that keeps the tables is none of the wrong ones: under any hash, so under FNV-1a.
+-- A program that keeps the tables is none of the wrong ones: under any hash, so under FNV-1a. Assumes nothing.
 use mathlib.Core.List.{List}
 use Prim.Native.Nat.{ℕ}
 use Rattle.hash.specs.Fnv.{fnv, fnv-lt}

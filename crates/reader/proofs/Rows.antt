@@ -1,11 +1,11 @@
 -- Laws of what a reader reads, and of the table of one row. Assumes nothing.
-use mathlib.Core.Path.{_≡_, refl, sym, ap, _∙_}
+use mathlib.Core.Path.{_≡_, refl, ap, _∙_}
 use mathlib.Core.List.{List, [], _∷_, _++_}
 use mathlib.Core.Logic.{_⊎_, inl, inr, ⊎-elim}
-use mathlib.Core.Option.{some, none}
 use Prim.Native.Nat.{ℕ, _+_, _-_, _≤_, _<_, min}
 use native.Mathlib.Omega.{arith}
 use lib.ListN.{length, drop, length-append}
+use Rattle.ground.proofs.Tests.{none-some}
 use Rattle.ground.specs.Ladder.{Answers}
 use Rattle.ground.proofs.Sides.{side}
 use Rattle.words.specs.Le.{le16}
@@ -15,7 +15,6 @@ use Rattle.page.specs.Page.{Slotted, count, rowAt}
 use Rattle.page.specs.Page as Page
 use Rattle.page.specs.declared.Place.{Place}
 use Rattle.page.specs.Places.{place}
-use Rattle.partition.specs.Partition.{Row}
 use Rattle.store.specs.Pages.{S1024, read, asRow, rowsOn}
 use Rattle.store.specs.Tables.{Out, refused, refusedAt, row, rowOf, PageKeeps, inspectTable}
 use Rattle.store.proofs.Reading.{row-slot, row-past, row-free}
@@ -45,9 +44,6 @@ pub few : (q : List ℕ) → Readable q → count q ≤ 4096
 few [] r = omega (arith, count-none)
 few (x ∷ q) r = let b = slotted (x ∷ q) (r .sound (omega arith)) in omega (arith, b .room, b .most)
 
-not-both : {r : Row} → none ≡ some r → ⊥
-not-both e = let z : _≡_ {A = ℕ} 0 1 = cc in omega arith
-
 -- a row is no refusal
 unanswered : {m k : ℕ} {p : Place} → row m p ≡ refused k → ⊥
 unanswered e = let z : _≡_ {A = ℕ} 0 1 = cc in omega arith
@@ -62,7 +58,7 @@ module _ (g : List ℕ) (n : ℕ) (out : List ℕ) where
 
   pub nth-past : Sound g → count g ≤ n → Answers (nthTable g n out) (refused 9, out)
   unfolding nthTable
-  nth-past s h = inr ((λ _ f. f s), (s, inr ((λ r e. not-both (sym (row-past g (s .keeps .rules) n h) ∙ e)), refl)))
+  nth-past s h = inr ((λ _ f. f s), (s, inr ((λ r e. none-some (row-past g (s .keeps .rules) n h) e), refl)))
 
   pub nth-row : Sound g → n < count g → (c : List ℕ) → c ≡ Page.code g n → (p : Place) → p ≡ place (Page.place g n) → (out′ : List ℕ) → out′ ≡ c ++ drop (length c) out
       → Answers (nthTable g n out) (row (length c) p, out′)
@@ -89,8 +85,8 @@ module _ (g : List ℕ) (n : ℕ) (out : List ℕ) where
     where
       go : (n < count g) ⊎ (count g ≤ n) → Answers (rowOf (rowsOn (read g)) k out) r → Answers (rowOf (rowsOn (read g)) n out) r
       go (inl l) a = let q : k ≡ n = omega arith in rw q at a
-      go (inr l) (inl y) = let b : count g ≤ k = omega arith in absurd (not-both (sym (row-past g (x .1 .0 .keeps .rules) k b) ∙ y .1 .0))
-      go (inr l) (inr y) = inr ((λ s b. not-both (sym (row-past g (x .1 .0 .keeps .rules) n l) ∙ b)), y .1)
+      go (inr l) (inl y) = let b : count g ≤ k = omega arith in absurd (none-some (row-past g (x .1 .0 .keeps .rules) k b) (y .1 .0))
+      go (inr l) (inr y) = inr ((λ s b. none-some (row-past g (x .1 .0 .keeps .rules) n l) b), y .1)
 
 -- what is read of page g may be read, and its row n is g's
 pub reads-readable : {g q : List ℕ} → Reads g q → Readable q
@@ -132,7 +128,7 @@ module _ (g : List ℕ) (n : ℕ) (out : List ℕ) where
       -- a free page has no rows
       pub inspect-free : Zero g → Answers (inspectTable S1024 fnv g n out) (refused 9, out)
       unfolding inspectTable
-      inspect-free z = inr ((λ _ f. f long), inr ((λ _ l. omega arith), inr ((λ _ f. f (inl z)), (inl z, inr ((λ r e. not-both (sym (row-free g z n) ∙ e)), refl)))))
+      inspect-free z = inr ((λ _ f. f long), inr ((λ _ l. omega arith), inr ((λ _ f. f (inl z)), (inl z, inr ((λ r e. none-some (row-free g z n) e), refl)))))
 
       -- another is read
       pub inspect-read : (Zero g → ⊥) → (r : Out × List ℕ) → Answers (nthTable g n out) r → Answers (inspectTable S1024 fnv g n out) r

@@ -1,11 +1,11 @@
 -- Two results of one promise are equal: what is read of a page, and row n of it. Assumes nothing.
 use mathlib.Core.Path.{_≡_, refl, sym, _∙_}
 use mathlib.Core.List.{List}
-use mathlib.Core.Option.{Option, some}
 use Prim.Native.Nat.{ℕ}
 use Rattle.ground.specs.Ladder.{Answers}
 use Rattle.ground.proofs.Ladders.{one}
 use Rattle.store.specs.Tables.{Out}
+use Rattle.store.proofs.Settled.{same, some-one}
 use Rattle.reader.specs.Read.{Reads, whole, nothing, nthTable}
 
 pub reads-settled : {g q r : List ℕ} → Reads g q → Reads g r → q ≡ r
@@ -13,12 +13,6 @@ reads-settled (whole s e) (whole t f) = e ∙ sym f
 reads-settled (whole s e) (nothing u f) = absurd (u s)
 reads-settled (nothing u e) (whole s f) = absurd (u s)
 reads-settled (nothing u e) (nothing w f) = e ∙ sym f
-
-same : {A : Type 0} {a : A} (b c : A) → b ≡ a → c ≡ a → b ≡ c
-same b c e f = e ∙ sym f
-
-some-one : {A : Type 0} {o : Option A} (a b : A) → o ≡ some a → o ≡ some b → a ≡ b
-some-one a b e f = cc
 
 pub nth-settled : (g : List ℕ) (n : ℕ) (out : List ℕ) (a b : Out × List ℕ) → Answers (nthTable g n out) a → Answers (nthTable g n out) b → a ≡ b
 unfolding nthTable

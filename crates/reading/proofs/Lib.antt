@@ -7,5 +7,4 @@ pub mod Heads
 pub mod Sums
 pub mod Standing
 pub mod Parting
-pub mod Calls
 pub mod Settled

@@ -1,20 +1,20 @@
 -- What the rows of a prefix need, added up page by page. Assumes nothing.
 use mathlib.Core.Path.{_≡_, refl, sym, ap, _∙_}
 use mathlib.Core.Bool.{Bool, true, false}
-use mathlib.Core.List.{List, [], _∷_, _++_, map, flatMap}
-use mathlib.Core.Logic.{_⊎_, ⊎-elim}
-use Prim.Native.Nat.{ℕ, zero, suc, _+_, _-_, _/_, _^_, _≤_, _<_}
+use mathlib.Core.List.{List, [], map, flatMap}
+use mathlib.Core.Logic.{⊎-elim}
+use Prim.Native.Nat.{ℕ, zero, suc, _+_, _-_, _≤_, _<_}
 use native.Mathlib.Omega.{arith}
 use lib.Dec.{eqb}
 use borrow.Author.Tests.{eq-eqb, ne-eqb}
 use Rattle.ground.specs.Lists.{byte, tab, total}
 use Rattle.ground.proofs.Sides.{side, same}
 use Rattle.ground.proofs.Tables.{total-same}
-use Rattle.page.specs.Page.{Slotted, depth, count, code, rows}
+use Rattle.page.specs.Page.{depth, count, code, rows}
 use Rattle.partition.specs.Bits.{top}
-use Rattle.partition.specs.Partition.{Shape, Row, needs, rowsOf}
-use Rattle.partition.proofs.Bits.{top-step}
-use Rattle.partition.proofs.Path.{path-cut}
+use Rattle.partition.specs.Partition.{Shape, needs, rowsOf}
+use Rattle.partition.proofs.Laws.{share-fewer}
+use Rattle.partition.proofs.Reorders.{needs-append}
 use Rattle.partition.proofs.Pages.{rows-append, rows-every, rows-none}
 use Rattle.store.specs.Pages.{pages, page, dirDepth, entryAt, Page, read, asRow, rowsOn, rowsIn, contents, rowsHeld}
 use Rattle.store.specs.Accepted.{Stands, unused, used}
@@ -22,12 +22,7 @@ use Rattle.store.specs.Moves.{pick}
 use Rattle.store.specs.Demands.{Sized, Hash}
 use Rattle.store.proofs.Unique.{read-zero, read-bucket}
 use Rattle.store.proofs.Owner.{called, shared}
-use Rattle.store.proofs.Showing.{slot-of}
-
-needs-append : (s t : List Row) → needs (s ++ t) ≡ needs s + needs t
-unfolding needs
-needs-append [] t = omega arith
-needs-append (r ∷ s) t = let ih : needs (s ++ t) ≡ needs s + needs t = needs-append s t in omega arith
+use Rattle.store.proofs.PageTies.{slot-of}
 
 -- the pages' needs add up
 load-pages : (h : List ℕ → ℕ) (f : ℕ → Page) (n j v : ℕ) → needs (rowsOf h (rowsIn (tab f n)) j v) ≡ total (λ i. needs (rowsOf h (rowsOn (f i)) j v)) n
@@ -38,24 +33,16 @@ load-pages h f (suc n) j v =
     ∙ needs-append (rowsOf h (rowsOn (f zero)) j v) (rowsOf h (rowsIn (tab (λ i. f (suc i)) n)) j v)
     ∙ ap (λ m. needs (rowsOf h (rowsOn (f zero)) j v) + m) (load-pages h (λ i. f (suc i)) n j v)
 
--- the first j of the top k bits
-pub cut-top : (x j k : ℕ) → j ≤ k → top k x / 2 ^ (k - j) ≡ top j x
-cut-top x j k l = let q : k ≡ j + (k - j) = omega arith in ap (λ n. top n x / 2 ^ (k - j)) q ∙ path-cut (λ i. top i x) (top-step x) (k - j) j
-
--- shorter prefixes of hashes that have one prefix are one
-pub shorter : (a b j k : ℕ) → j ≤ k → top k a ≡ top k b → top j a ≡ top j b
-shorter a b j k l e = sym (cut-top a j k l) ∙ ap (λ n. n / 2 ^ (k - j)) e ∙ cut-top b j k l
-
 -- a bucket's rows, by its slots
-module _ (h : List ℕ → ℕ) (g : List ℕ) (b : Slotted g) (j v : ℕ) where
+module _ (h : List ℕ → ℕ) (g : List ℕ) (j v : ℕ) where
   all-on : ((i : ℕ) → i < count g → top j (h (code g i)) ≡ v) → rowsOf h (map asRow (rows g)) j v ≡ map asRow (rows g)
   all-on f = rows-every h (map asRow (rows g)) j v (λ r m.
-      let y = slot-of g b r m in
+      let y = slot-of g r m in
       ap (λ q. top j (h (q .code))) (y .2) ∙ f (y .0) (y .1))
 
   all-off : ((i : ℕ) → i < count g → top j (h (code g i)) ≡ v → ⊥) → rowsOf h (map asRow (rows g)) j v ≡ []
   all-off f = rows-none h (map asRow (rows g)) j v (λ r m e.
-      let y = slot-of g b r m in
+      let y = slot-of g r m in
       f (y .0) (y .1) (sym (ap (λ q. top j (h (q .code))) (y .2)) ∙ e))
 
 pub pick-none : (b : Bool) → _≡_ {A = ℕ} (pick b 0 0) 0
@@ -71,7 +58,7 @@ module _ (S : Shape) (h : List ℕ → ℕ) (sized : Sized S) (hash : Hash h) (s
     -- no row of a shallower page has the prefix: the page would be p
     apart : (q i : ℕ) → Stands S h s q → byte (page S s q) 0 ≡ 1 → depth (page S s q) < j → i < count (page S s q) → top j (h (code (page S s q) i)) ≡ top j (first p) → ⊥
     apart q i Q oq l m e =
-        let a : top (depth (page S s q)) (h (code (page S s q) i)) ≡ top (depth (page S s q)) (first p) = shorter (h (code (page S s q) i)) (first p) (depth (page S s q)) j (omega arith) e in
+        let a : top (depth (page S s q)) (h (code (page S s q) i)) ≡ top (depth (page S s q)) (first p) = share-fewer (h (code (page S s q) i)) (first p) (depth (page S s q)) j (omega arith) e in
         let b : top (depth (page S s q)) (first p) ≡ top (depth (page S s q)) (first q) = sym a ∙ shared S h sized hash s deep q i Q oq m in
         let x : entryAt S s (top (dirDepth s) (first p)) ≡ q = called S h sized hash s deep q Q oq (first p) (hash (code (page S s p) 0)) b in
         let y : entryAt S s (top (dirDepth s) (first p)) ≡ p = called S h sized hash s deep p P one (first p) (hash (code (page S s p) 0)) refl in
@@ -99,17 +86,17 @@ module _ (S : Shape) (h : List ℕ → ℕ) (sized : Sized S) (hash : Hash h) (s
         some = omega (arith, b .rules .some)
 
         gone : ((i : ℕ) → i < count g → top j (h (code g i)) ≡ w → ⊥) → Goal
-        gone off = ap needs (all-off h g (b .rules .rules) j w off) ∙ sym (ap (λ t. pick t (needs (map asRow (rows g))) 0) (ne-eqb (top j (first q)) w (off 0 some)))
+        gone off = ap needs (all-off h g j w off) ∙ sym (ap (λ t. pick t (needs (map asRow (rows g))) 0) (ne-eqb (top j (first q)) w (off 0 some)))
 
         lower : depth g < j → Goal
         lower l = gone (λ i m. apart q i Q (b .rules .rules .one) l m)
 
         like : j ≤ depth g → (i : ℕ) → i < count g → top j (h (code g i)) ≡ top j (first q)
-        like l i m = shorter (h (code g i)) (first q) j (depth g) l (b .share i 0 m some)
+        like l i m = share-fewer (h (code g i)) (first q) j (depth g) l (b .share i 0 m some)
 
         upper : j ≤ depth g → Goal
         upper l = ⊎-elim
-            (λ e. ap needs (all-on h g (b .rules .rules) j w (λ i m. like l i m ∙ e)) ∙ sym (ap (λ t. pick t (needs (map asRow (rows g))) 0) (eq-eqb (top j (first q)) w e)))
+            (λ e. ap needs (all-on h g j w (λ i m. like l i m ∙ e)) ∙ sym (ap (λ t. pick t (needs (map asRow (rows g))) 0) (eq-eqb (top j (first q)) w e)))
             (λ n. gone (λ i m e. n (sym (like l i m) ∙ e)))
             (same (top j (first q)) w)
 

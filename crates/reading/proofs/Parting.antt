@@ -14,18 +14,19 @@ use Rattle.page.specs.Page.{BucketPage, depth, code, rows}
 use Rattle.page.specs.Page.{free as total-free}
 use Rattle.partition.specs.Bits.{top}
 use Rattle.partition.specs.Partition.{needs, rowsOf}
-use Rattle.partition.proofs.Bits.{top-is}
+use Rattle.partition.proofs.Bits.{top-is, top-step}
+use Rattle.partition.proofs.Path.{path-short}
 use Rattle.store.specs.Pages.{S1024, page, dirDepth, read, asRow, rowsOn, rowsHeld}
 use Rattle.store.specs.Accepted.{Stands, unused, used, Parted}
 use Rattle.store.specs.Moves.{pick}
 use Rattle.store.specs.Demands.{sized-1024}
 use Rattle.store.proofs.Unique.{read-zero, read-used, page-long}
 use Rattle.store.proofs.Depths.{page-byte}
-use Rattle.store.proofs.Showing.{page-needs}
+use Rattle.store.proofs.PageTies.{page-needs}
+use Rattle.store.proofs.Views.{page-lent}
 use Rattle.reading.specs.Begun.{Standing}
 use Rattle.reading.specs.Digest.{Legible, LoadOf, Digest, loadOf}
-use Rattle.reading.proofs.Standing.{seen}
-use Rattle.reading.proofs.Loads.{cut-top, pick-none, load-shorter}
+use Rattle.reading.proofs.Loads.{pick-none, load-shorter}
 
 depth-small : (s : List ℕ) (p : ℕ) → dirDepth s ≤ 8 → Stands S1024 fnv s p → depth (page S1024 s p) ≤ 8
 depth-small s p d (unused z _) = omega (arith, z 1)
@@ -40,7 +41,7 @@ stands-is s p (unused z _) = inl z
 stands-is s p (used b _ _) = inr (b .rules)
 
 pub legible : (s : List ℕ) (n p : ℕ) → Standing s n → 2 ≤ p → p < n → Legible (take (p * 1024 + 1024 - p * 1024) (drop (p * 1024) s))
-legible s n p T a b = subst Legible (sym (seen s p)) (record { long = page-long S1024 s p (omega (arith, T .number)); is = stands-is s p (T .each p a b) })
+legible s n p T a b = subst Legible (sym (page-lent s p)) (record { long = page-long S1024 s p (omega (arith, T .number)); is = stands-is s p (T .each p a b) })
 
 module _ (g : List ℕ) (L : Legible g) where
   pub used-page : (byte g 0 ≡ 0 → ⊥) → BucketPage g
@@ -83,7 +84,7 @@ module _ (s tops loads : List ℕ) (n : ℕ) (T : Standing s n) (D : Digest s to
 
     -- the tops' first j bits
     bits : (q : ℕ) → 2 ≤ q → q < n → byte (page S1024 s q) 0 ≡ 1 → getD tops q 0 / 2 ^ (8 - j) ≡ top j (first q)
-    bits q a b e = ap (λ x. x / 2 ^ (8 - j)) (D .topped q a b e) ∙ cut-top (first q) j 8 small
+    bits q a b e = ap (λ x. x / 2 ^ (8 - j)) (D .topped q a b e) ∙ path-short (λ i. top i (first q)) (top-step (first q)) j 8 small
 
     -- page q's part of the sum
     same-part : (q v : ℕ) → 2 ≤ q → q < n → Stands S1024 fnv s q

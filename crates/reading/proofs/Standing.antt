@@ -1,25 +1,19 @@
 -- Whether a page stands, from the tests of pass 1. Assumes nothing.
-use mathlib.Core.Path.{_≡_, refl, sym, subst, _∙_}
+use mathlib.Core.Path.{_≡_, sym, subst, _∙_}
 use mathlib.Core.List.{List}
 use mathlib.Core.Logic.{_↔_}
-use Prim.Native.Nat.{ℕ, _+_, _-_, _*_, _≤_, _<_}
+use Prim.Native.Nat.{ℕ, _≤_, _<_}
 use native.Mathlib.Omega.{arith}
-use lib.ListN.{take, drop}
 use Rattle.ground.specs.Lists.{byte}
 use Rattle.hash.specs.Fnv.{fnv}
 use Rattle.page.specs.Page.{depth, count, code}
 use Rattle.partition.specs.Bits.{top}
 use Rattle.store.specs.Pages.{S1024, page, dirDepth, entryAt}
 use Rattle.store.specs.Accepted.{Bucket, Calls, Stands, unused, used}
-use Rattle.store.proofs.Views.{lent-page}
 use Rattle.reading.specs.Directory.{Named}
 use Rattle.words.specs.Zeros.{Zero}
 use Rattle.reading.specs.First.{FirstBad}
 use Rattle.reading.specs.Begun.{Begun, Free, Own}
-
--- the part of a store that is lent as page p
-pub seen : (s : List ℕ) (p : ℕ) → take (p * 1024 + 1024 - p * 1024) (drop (p * 1024) s) ≡ page S1024 s p
-seen s p = lent-page S1024 s p (p * 1024) (p * 1024 + 1024) refl refl
 
 -- the prefix of a bucket, by its first code
 abbrev pub prefixOf : List ℕ → ℕ

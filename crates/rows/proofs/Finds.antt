@@ -1,30 +1,29 @@
 -- What a search finds on an accepted store, and how rows are counted. Assumes nothing.
 use mathlib.Core.Path.{_≡_, refl, sym, ap, subst, _∙_}
 use mathlib.Core.List.{List, map}
-use mathlib.Core.Option.{Option, some, none}
-use Prim.Native.Nat.{ℕ, zero, suc, _+_, _*_, _-_, _/_, _%_, _^_, _≤_, _<_, zero-le}
+use Prim.Native.Nat.{ℕ, zero, suc, _+_, _*_, _-_, _/_, _^_, _≤_, _<_, zero-le}
 use native.Mathlib.Omega.{arith}
-use native.Mathlib.Nat.{add-zero, le-refl, add-comm}
+use native.Mathlib.Nat.{le-refl, add-comm}
 use lib.ListN.{length, getElem?}
 use lib.Pow.{pow-mono}
-use Rattle.ground.specs.Lists.{byte, tab, total}
+use Rattle.ground.specs.Lists.{byte, total}
 use Rattle.ground.proofs.Tables.{length-tab, tab-map, total-insert}
 use Rattle.words.specs.Le.{le16}
-use Rattle.words.proofs.Bytes.{le16-same}
 use Rattle.hash.specs.Fnv.{fnv, fnv-lt}
-use Rattle.page.specs.Page.{Slotted, BucketPage, Belongs, count, rowAt, rows, place, code}
+use Rattle.page.specs.Page.{BucketPage, Belongs, count, rowAt, rows, code}
 use Rattle.partition.specs.Bits.{top}
 use Rattle.partition.specs.Listing.{listing, placeOf}
 use Rattle.partition.proofs.Bits.{top-lt}
-use Rattle.store.specs.Pages.{S1024, pages, page, read, reading, asRow, rowsOn, rowsHeld, dirDepth, entryAt}
+use Rattle.store.specs.Pages.{S1024, page, read, reading, asRow, rowsOn, rowsHeld, dirDepth, entryAt}
 use Rattle.store.specs.Accepted.{Accepted}
 use Rattle.store.specs.Demands.{sized-1024}
 use Rattle.store.proofs.Rules.{Opened, opened}
 use Rattle.store.proofs.Unique.{read-used, within}
-use Rattle.store.proofs.Depths.{page-byte}
-use Rattle.store.proofs.Reading.{entryOf, Naming, naming, lookup-none, lookup-page, place-at, place-not, count-rows}
+use Rattle.store.proofs.Depths.{page-byte, kind-byte}
+use Rattle.store.proofs.Reading.{entryOf, Naming, naming, lookup-none, lookup-page, count-rows}
+use Rattle.store.proofs.PageTies.{found-at, found-not}
 use Rattle.store.proofs.Walked.{walkFrom, Start, behind, walk-start, walk-end, walk-none, walk-page, walk-here, walk-past}
-use Rattle.rows.specs.Spots.{OnPage, Stands, Listed}
+use Rattle.rows.specs.Spots.{Stands, Listed}
 use Rattle.rows.specs.declared.Spot.the-variants.{Here, Nowhere}
 
 module _ (s : List ℕ) (a : Accepted S1024 fnv s) where
@@ -64,10 +63,10 @@ module _ (s : List ℕ) (a : Accepted S1024 fnv s) where
       on-it = lookup-page S1024 fnv sized-1024 fnv-lt s a c n .1 ∙ ap (λ x. placeOf (rowsOn x) c) (read-used g keeps)
 
       pub here : (i : ℕ) → i < count g → code g i ≡ c → Stands s c (Here p i)
-      here i l e = (record { from = from-two; within = inside; rules = keeps; slot = l }, e, on-it ∙ place-at g (keeps .rules) c i l e)
+      here i l e = (record { from = from-two; within = inside; rules = keeps; slot = l }, e, on-it ∙ found-at g (keeps .rules) c i l e)
 
       pub nowhere : (i : ℕ) → Belongs g i c → Stands s c Nowhere
-      nowhere i b = on-it ∙ place-not g (keeps .rules) c i b
+      nowhere i b = on-it ∙ found-not g (keeps .rules) c i b
 
 -- an entry of a directory lies in page 1
 pub entry-inside : (d x : ℕ) → d ≤ 8 → x < 2 ^ 32 → top d x < 256
@@ -78,9 +77,6 @@ entry-inside d x l h = let m : 2 ^ d ≤ 2 ^ 8 = pow-mono l in omega (arith, top
 count-by : (b : ℕ) (g : List ℕ) → (b ≡ 0 → length (rowsOn (reading b g)) ≡ 0) × ((b ≡ 0 → ⊥) → length (rowsOn (reading b g)) ≡ count g)
 count-by zero g = ((λ e. refl), (λ n. absurd (n refl)))
 count-by (suc b) g = ((λ e. absurd (omega arith)), (λ n. ap length (tab-map asRow (rowAt g) (count g)) ∙ length-tab (λ i. asRow (rowAt g i)) (count g)))
-
-kind-byte : (s : List ℕ) (p : ℕ) → byte (page S1024 s p) 0 ≡ byte s (p * 1024)
-kind-byte s p = page-byte s p 0 (omega arith) ∙ ap (byte s) (add-zero (p * 1024))
 
 pub rows-free : (s : List ℕ) (p : ℕ) → byte s (p * 1024) ≡ 0 → length (rowsOn (read (page S1024 s p))) ≡ 0
 unfolding read

@@ -1,8 +1,8 @@
--- The way back: bytes laid out for pages that show rows are an accepted store. What format, put and remove have to promise of their bytes.
+-- The way back: bytes laid out for pages that show rows are an accepted store. What format, put and remove have to promise of their bytes. Assumes nothing.
 use mathlib.Core.Path.{_≡_, refl, sym, ap, subst, subst₂, _∙_}
-use mathlib.Core.List.{List, List·Memᴰ, List·Memᴰ·head, List·Memᴰ·tail}
+use mathlib.Core.List.{List}
 use mathlib.Core.Logic.{_⊎_, inl, inr, _↔_}
-use Prim.Native.Nat.{ℕ, zero, suc, _+_, _-_, _*_, _/_, _^_, _≤_, _<_}
+use Prim.Native.Nat.{ℕ, _+_, _-_, _*_, _/_, _^_, _≤_, _<_}
 use native.Mathlib.Omega.{arith}
 use native.Mathlib.Nat.{le-trans, mul-le-mul-right}
 use lib.ListN.{length, getD}
@@ -24,7 +24,8 @@ use Rattle.store.proofs.Rules.{Opened, opened, closed}
 use Rattle.store.proofs.Shows.{prefixOn, Holding, Shows}
 use Rattle.store.proofs.Shown.{free-not, page-row}
 use Rattle.store.proofs.Unique.{read-zero, read-used, held, within}
-use Rattle.store.proofs.Showing.{map-tab, first-code}
+use Rattle.store.proofs.PageTies.{row-in}
+use Rattle.store.proofs.Showing.{first-code}
 use Rattle.store.proofs.Named.{Entry, nothing, names, deep-small, deepest-bound, shown-shallow, one-called, accepted-entry}
 
 -- page 0 but for its depth
@@ -79,12 +80,6 @@ module _ (S : Shape) (s t : List ℕ) (l : length t ≡ length s) (same : (k : �
   pub each-kept : ((p : ℕ) → 2 ≤ p → p < pages S s → Whole (page S s p)) → (p : ℕ) → 2 ≤ p → p < pages S t → Whole (page S t p)
   each-kept f p a b = subst Whole (sym (page-kept p a b)) (f p a (subst (λ n. p < n / size S) l b))
 
-pub tab-in : {A : Type 0} (f : ℕ → A) (n i : ℕ) → i < n → List·Memᴰ (f i) (tab f n)
-unfolding tab
-tab-in f zero i l = absurd (omega arith)
-tab-in f (suc n) zero l = List·Memᴰ·head refl
-tab-in f (suc n) (suc i) l = List·Memᴰ·tail (tab-in (λ j. f (suc j)) n i (omega arith))
-
 module _ (S : Shape) (h : List ℕ → ℕ) (sized : Sized S) (hash : Hash h) (t : List ℕ) (rs : List Row) (gs : List Page) (L : Laid S h t gs) (w : Shows S h rs gs) where
   abbrev pg : ℕ → List ℕ
   pg p = page S t p
@@ -109,7 +104,7 @@ module _ (S : Shape) (h : List ℕ → ℕ) (sized : Sized S) (hash : Hash h) (t
   begins p a b u i l =
       let g = on p a b u in
       page-row S h rs (depth (pg p)) (rows (pg p)) (w .page (p - 2) (depth (pg p)) (rows (pg p)) g) (asRow (rowAt (pg p) i)) .0
-      (rw (map-tab asRow (rowAt (pg p)) (count (pg p))) (tab-in (λ j. asRow (rowAt (pg p) j)) (count (pg p)) i l)) .1
+      (row-in (pg p) i l) .1
 
   -- the entries that name a page are those that it calls for
   exactly : (p : ℕ) → 2 ≤ p → p < pages S t → BucketPage (pg p) → (e : ℕ) → e < S .entries

@@ -1,4 +1,4 @@
--- An accepted store is what is worked out afresh from its own rows; so the store after any history is, as soon as put and remove leave the right rows.
+-- An accepted store is what is worked out afresh from its own rows; so the store after any history is, as soon as put and remove leave the right rows. Assumes nothing.
 use mathlib.Core.Path.{_≡_, sym, ap, _∙_}
 use mathlib.Core.List.{List}
 use mathlib.Core.Option.{some}
@@ -18,7 +18,7 @@ use Rattle.store.proofs.Unique.{held}
 use Rattle.store.proofs.Showing.{pages-held, accepted-shows}
 use Rattle.store.proofs.Named.{Entry, nothing, names, deep-small, shown-depth, entry-page, entry-free, accepted-entry}
 use Rattle.store.proofs.Plan.{AcceptedIsAfresh, PutRows, OverRows, RemoveRows, afresh-always, put-is-map, remove-is-map}
-use Rattle.store.proofs.Over.{over-rows}
+use Rattle.store.proofs.MoveRows.{over-shown}
 use Rattle.store.proofs.Same.{same-refusals}
 
 module _ (S : Shape) (h : List ℕ → ℕ) (sized : Sized S) (hash : Hash h) (s : List ℕ) (T : Opened S h s) (w : Shows S h (rowsHeld S s) (contents S s)) where
@@ -62,7 +62,7 @@ module _ (S : Shape) (h : List ℕ → ℕ) (sized : Sized S) (hash : Hash h) wh
       (w .once, depth-afresh S h sized hash s T w, directory-afresh S h sized hash s T w)
 
   pub overwritten-rows : OverRows S h
-  overwritten-rows = over-rows S h accepted-afresh
+  overwritten-rows s r old a e = over-shown S h sized hash s r old a e .same
 
   -- what is left: the rows after a put of a new code, and after a remove
   module _ (puts : PutRows S h) (removes : RemoveRows S h) where

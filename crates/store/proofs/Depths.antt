@@ -30,6 +30,9 @@ pub page-byte : (s : List ℕ) (p k : ℕ) → k < 1024 → byte (page S1024 s p
 unfolding page
 page-byte s p k h = byte-part s (p * 1024) 1024 k h
 
+pub kind-byte : (s : List ℕ) (p : ℕ) → byte (page S1024 s p) 0 ≡ byte s (p * 1024)
+kind-byte s p = page-byte s p 0 (omega arith) ∙ ap (byte s) (add-zero (p * 1024))
+
 depth-by : (b : ℕ) (g : List ℕ) → (b ≡ 0 → depthOn (reading b g) ≡ 0) × ((b ≡ 0 → ⊥) → depthOn (reading b g) ≡ depth g)
 depth-by zero g = ((λ e. refl), (λ n. absurd (n refl)))
 depth-by (suc b) g = ((λ e. absurd (omega arith)), (λ n. refl))
@@ -37,12 +40,12 @@ depth-by (suc b) g = ((λ e. absurd (omega arith)), (λ n. refl))
 -- a page's depth is its byte 1, unless byte 0 is zero
 pub depth-free : (s : List ℕ) (p : ℕ) → byte s (p * 1024) ≡ 0 → depthOn (read (page S1024 s p)) ≡ 0
 unfolding read
-depth-free s p e = depth-by (byte (page S1024 s p) 0) (page S1024 s p) .0 (page-byte s p 0 (omega arith) ∙ ap (byte s) (add-zero (p * 1024)) ∙ e)
+depth-free s p e = depth-by (byte (page S1024 s p) 0) (page S1024 s p) .0 (kind-byte s p ∙ e)
 
 pub depth-used : (s : List ℕ) (p : ℕ) → (byte s (p * 1024) ≡ 0 → ⊥) → depthOn (read (page S1024 s p)) ≡ byte s (p * 1024 + 1)
 unfolding read
 depth-used s p n =
-    depth-by (byte (page S1024 s p) 0) (page S1024 s p) .1 (λ e. n (sym (page-byte s p 0 (omega arith) ∙ ap (byte s) (add-zero (p * 1024))) ∙ e)) ∙ page-byte s p 1 (omega arith)
+    depth-by (byte (page S1024 s p) 0) (page S1024 s p) .1 (λ e. n (sym (kind-byte s p) ∙ e)) ∙ page-byte s p 1 (omega arith)
 
 -- the pages from 2 below p
 pub deepestTo : List ℕ → ℕ → ℕ

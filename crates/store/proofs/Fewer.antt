@@ -2,14 +2,14 @@
 -- takes the rows left, if there are any; the pages then show the rows without it.
 -- Assumes nothing.
 use mathlib.Core.Path.{_≡_, refl, sym, ap, subst, subst₂, _∙_}
-use mathlib.Core.Bool.{Bool, true, false}
+use mathlib.Core.Bool.{Bool, true, false, true≢false}
 use mathlib.Core.List.{List, [], _∷_, map, List·Memᴰ, List·Memᴰ·head}
 use mathlib.Core.Logic.{_⊎_, inl, inr, _≢_, _↔_}
 use Prim.Native.Nat.{ℕ, _^_, _≤_, _<_}
 use native.Mathlib.Decide.{ℕ-discrete}
 use native.Mathlib.Nat.{add-zero, div-one}
 use native.Mathlib.Omega.{arith}
-use lib.ListN.{length, getD, length-map}
+use lib.ListN.{getD}
 use Rattle.ground.proofs.Sides.{side}
 use Rattle.page.specs.Page.{Record}
 use Rattle.partition.specs.Bits.{top}
@@ -18,12 +18,10 @@ use Rattle.partition.specs.Listing.{inOrder}
 use Rattle.partition.proofs.Bits.{top-step}
 use Rattle.partition.proofs.Frame.{dec-under}
 use Rattle.partition.proofs.Laws.{Shallowest, outside, inside}
-use Rattle.partition.proofs.Members.{mem-reordered, in-order-reordered, absent}
+use Rattle.partition.proofs.Members.{absent}
 use Rattle.partition.proofs.Path.{fit-above}
-use Rattle.partition.proofs.Reorders.{length-same}
 use Rattle.partition.proofs.Rows.{load, load-mono, load-on, to-load}
 use Rattle.partition.proofs.Store.{fine-drop, outside-rows}
-use Rattle.partition.proofs.Sum.{of-prefix}
 use Rattle.partition.proofs.Tree.{Under}
 use Rattle.store.specs.Pages.{Page, free, bucket, asRow}
 use Rattle.store.specs.Moves.{pick, within}
@@ -38,20 +36,6 @@ not-true true n = absurd (n refl)
 not-true false n = refl
 
 module _ (S : Shape) (h : List ℕ → ℕ) where
-  -- records that are the rows of a bucket in code order make its page
-  pub makes-page : (rows : List Row) (k v : ℕ) (rs : List Record) → IsBucket S h rows k v → map asRow rs ≡ inOrder (rowsOf h rows k v) → OnPage S h rows k rs × (prefixOn h k rs ≡ v)
-  makes-page rows k v rs b e = (record { some = long; is = subst (λ n. IsBucket S h rows k n) (sym p) b; ordered = e ∙ ap (λ n. inOrder (rowsOf h rows k n)) (sym p) }, p)
-    where
-      long : 0 < length rs
-      long = omega (arith, b .has, length-map rs asRow, ap length e, length-same (in-order-reordered (rowsOf h rows k v)))
-
-      first : (qs : List Record) → 0 < length qs → ((q : Row) → List·Memᴰ q (map asRow qs) → top k (h (q .code)) ≡ v) → prefixOn h k qs ≡ v
-      first [] l f = absurd (omega arith)
-      first (q ∷ qs) l f = f (asRow q) (List·Memᴰ·head refl)
-
-      p : prefixOn h k rs ≡ v
-      p = first rs long (λ q m. of-prefix S h rows k v q (mem-reordered (in-order-reordered (rowsOf h rows k v)) (subst (λ l. List·Memᴰ q l) e m)) .1)
-
   module _ (small : (c : List ℕ) → h c < 2 ^ 32) (r : Row) (W : List Row) (gs : List Page) (s : Shows S h (r ∷ W) gs) (j : ℕ) (f : Shallowest S h W (h (r .code)) j) where
     abbrev x : ℕ
     x = h (r .code)
@@ -96,7 +80,7 @@ module _ (S : Shape) (h : List ℕ → ℕ) where
 
           other : (b : Bool) → within h j (top j x) (getD gs i free) ≡ b → pick b free (getD gs i free) ≡ bucket k rs → i ≢ m → Now i k rs
           other true t y n = absurd (free-not y)
-          other false t y n = same n y (λ u. let z : false ≡ true = sym t ∙ ap (within h j (top j x)) y ∙ below i k rs y .1 u in let c : _≡_ {A = ℕ} 0 1 = cc in omega arith)
+          other false t y n = same n y (λ u. true≢false (sym (sym t ∙ ap (within h j (top j x)) y ∙ below i k rs y .1 u)))
 
           go : Dec (i ≡ m) → Now i k rs
           go (yes q) = one (getD hs m free) (w .left) (subst (λ n. Holding hs n k rs) q e) q

@@ -1,4 +1,4 @@
--- A formatted store is accepted, and holds no rows.
+-- A formatted store is accepted, and holds no rows. Assumes nothing.
 use mathlib.Core.Path.{_≡_, refl, sym, ap, _∙_}
 use mathlib.Core.List.{List, [], _++_, flatMap}
 use mathlib.Core.Logic.{_⊎_, inl, inr, ⊎-elim}

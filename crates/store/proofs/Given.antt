@@ -2,12 +2,13 @@
 -- Assumes nothing.
 use mathlib.Core.Path.{_≡_, refl, sym, ap, subst, _∙_}
 use mathlib.Core.List.{List, [], _∷_, _++_, map, List·Memᴰ, List·Memᴰ·head, List·Memᴰ·tail}
-use mathlib.Core.Logic.{_⊎_, inl, inr, ⊎-elim, _↔_}
-use mathlib.Core.Option.{Option, some, none}
+use mathlib.Core.Logic.{inl, inr, ⊎-elim, _↔_}
+use mathlib.Core.Option.{some}
 use Prim.Native.Nat.{ℕ, zero, suc, _+_, _-_, _≤_, _<_}
 use native.Mathlib.Omega.{arith}
 use lib.ListN.{length, drop, getElem?, length-append, length-drop, List·getD-append, List·getD-eq-default}
 use lib.Seq.{getD-append-add, getD-drop}
+use Rattle.ground.proofs.Tests.{none-some}
 use Rattle.ground.specs.Lists.{byte, part}
 use Rattle.ground.specs.Ladder.{Answers}
 use Rattle.ground.proofs.Sides.{side}
@@ -28,7 +29,8 @@ use Rattle.store.specs.Tables.{Out, refused, refusedAt, row, counted, ro
 use Rattle.store.specs.Demands.{Sized, Hash, GoodCode, AtStart, Nth, CountIsSize, RowIsListed, InspectIsSlot, PlaceComesBack}
 use Rattle.store.proofs.Rules.{accepted-whole, opened}
 use Rattle.store.proofs.Shown.{some-page}
-use Rattle.store.proofs.Showing.{accepted-shows, under, slot-of}
+use Rattle.store.proofs.Showing.{accepted-shows, under}
+use Rattle.store.proofs.PageTies.{slot-of}
 use Rattle.store.proofs.Unique.{read-used}
 use Rattle.store.proofs.Reading.{row-none, row-free}
 use Rattle.store.proofs.Walked.{listed-once}
@@ -44,22 +46,19 @@ at-start c out h = record {
       rw e at (getD-append-add c (drop (length c) out) (k - length c) 0 ∙ getD-drop (length c) out (k - length c) 0);
 }
 
-pub differ : {o : Option Row} {r : Row} → o ≡ none → o ≡ some r → ⊥
-differ e f = let n : _≡_ {A = ℕ} 0 1 = cc in omega arith
-
 nth : (rs : List Row) (n : ℕ) (out : List ℕ) → ((r : Row) → getElem? rs n ≡ some r → length (r .code) ≤ length out)
     → (x : Out × List ℕ) → Answers (rowOf rs n out) x → Nth rs n out (x .0) (x .1)
 nth rs n out fits = each (λ x. Nth rs n out (x .0) (x .1)) (rowOf rs n out) (
   (λ r e x q. subst (λ (y : Out × List ℕ). Nth rs n out (y .0) (y .1)) (sym q) record {
     is = λ r′ e′. let same : r ≡ r′ = cc in subst (λ (t : Row). (row (length (r .code)) (place (r .place)) ≡ row (length (t .code)) (place (t .place))) × AtStart (t .code) out (r .code ++ drop (length (r .code)) out)) same
         (refl, at-start (r .code) out (fits r e));
-    past = λ l. absurd (differ (row-none rs n l) e);
+    past = λ l. absurd (none-some (row-none rs n l) e);
   }),
   (λ un x q. record { is = λ r e. absurd (un r e); past = λ l. (ap (λ y. y .0) q, ap (λ y. y .1) q) }),
 )
 
 pub member : (rs : List Row) (n : ℕ) (r : Row) → getElem? rs n ≡ some r → List·Memᴰ r rs
-member [] n r e = absurd (differ refl e)
+member [] n r e = absurd (none-some refl e)
 member (q ∷ rs) zero r e = let f : r ≡ q = cc in List·Memᴰ·head f
 member (q ∷ rs) (suc n) r e = List·Memᴰ·tail (member rs n r e)
 
@@ -80,7 +79,7 @@ pub record Good (r : Row) : Type 0 where
 pub slot-good : (g : List ℕ) → Slotted g → (r : Row) → List·Memᴰ r (map asRow (rows g)) → Good r
 unfolding bytesAt
 slot-good g b r m =
-    let w = slot-of g b r m in
+    let w = slot-of g r m in
     let i : ℕ = w .0 in
     let l = len-of-code g i b (w .1) in
     let p = b .places i (w .1) in
@@ -210,7 +209,7 @@ module _ (S : Shape) (h : List ℕ → ℕ) where
   )
     where
       free : Zero g → Answers (rowOf (rowsOn (read g)) n out) (o, out′) → (o ≡ refused 9) × (out′ ≡ out)
-      free c (inl w) = absurd (differ (row-free g c n) (w .1 .0))
+      free c (inl w) = absurd (none-some (row-free g c n) (w .1 .0))
       free c (inr w) = (ap (λ y. y .0) (w .1), ap (λ y. y .1) (w .1))
 
       slots : Bucket h g → Answers (rowOf (rowsOn (read g)) n out) (o, out′) → 64 ≤ length out → Nth (map asRow (rows g)) n out o out′

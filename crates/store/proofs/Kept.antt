@@ -1,12 +1,13 @@
--- Demand 1 of the tables, and those of demand 2's statements that the tables alone give.
+-- Demand 1 of the tables, and those of demand 2's statements that the tables alone give. Assumes nothing.
 use mathlib.Core.Path.{_≡_, refl, sym, ap, _∙_}
-use mathlib.Core.Bool.{true, false}
+use mathlib.Core.Bool.{true, false, true≢false}
 use mathlib.Core.List.{List}
 use mathlib.Core.Logic.{_⊎_, inl, inr, ⊎-elim, _↔_}
 use mathlib.Core.Option.{Option, some, none}
 use Prim.Native.Nat.{ℕ, _≤_, _<_}
 use native.Mathlib.Omega.{arith}
 use lib.ListN.{length}
+use Rattle.ground.proofs.Tests.{none-some}
 use Rattle.partition.specs.Partition.{Shape}
 use Rattle.page.specs.declared.Place.{Place}
 use Rattle.ground.specs.Ladder.{Answers}
@@ -28,7 +29,7 @@ row-keeps : {x : List ℕ} {o : Out} (r : Out × List ℕ) → r ≡ (o, x) → 
 row-keeps r e f = ap (λ q. q .1) e
 
 free : {x : List ℕ} (o : Out) (r : Out × List ℕ) → ok o ≡ true → r .0 ≡ o → Keeps x r
-free o r y e f = let z : true ≡ false = sym y ∙ ap ok (sym e) ∙ f in let n : _≡_ {A = ℕ} 0 1 = cc in absurd (omega arith)
+free o r y e f = absurd (true≢false (sym y ∙ ap ok (sym e) ∙ f))
 
 module _ (S : Shape) (h : List ℕ → ℕ) where
   format-keeps : (s : List ℕ) (r : Out × List ℕ) → Answers (formatTable S s) r → Keeps s r
@@ -85,10 +86,6 @@ pub demand-1 : Demand1
 demand-1 S h = (refusal-keeps S h, output-kept S h)
 
 -- ---- demand 2
-
--- a test on the answer that comes out both ways
-pub clash : true ≡ false → ⊥
-clash e = let n : _≡_ {A = ℕ} 0 1 = cc in omega arith
 
 pub nothing-there : (o : Option (List ℕ)) → ((b : List ℕ) → o ≡ some b → ⊥) → o ≡ none
 nothing-there none f = refl
@@ -157,13 +154,13 @@ module _ (S : Shape) (h : List ℕ → ℕ) where
         (λ n4. (
           (λ q b. absurd (accepted-whole S h s a q b)),
           (λ _ _. (
-            (λ old k x e. ((λ f. absurd (clash (sym (ap ok (e .0)) ∙ f))), (λ d. absurd (known old k d (λ _ g. g (good-code c (n3 tt))) n4)))),
+            (λ old k x e. ((λ f. absurd (true≢false (sym (ap ok (e .0)) ∙ f))), (λ d. absurd (known old k d (λ _ g. g (good-code c (n3 tt))) n4)))),
             (λ un. (
               (λ _ r x e. ((λ _. inr (inr (nothing-there (map-of S s c) un, inl r))), (λ _. ap (λ q. ok (q .0)) e))),
               (λ n6. (
                 (λ _ r x e. ((λ _. inr (inr (nothing-there (map-of S s c) un, inr r))), (λ _. ap (λ q. ok (q .0)) e))),
                 (λ n7 x e.
-                    ((λ f. absurd (clash (sym (ap ok (e .0)) ∙ f))), (λ d. absurd (none-left d (λ _ g. g (good-code c (n3 tt))) n4 n6 n7)))),
+                    ((λ f. absurd (true≢false (sym (ap ok (e .0)) ∙ f))), (λ d. absurd (none-left d (λ _ g. g (good-code c (n3 tt))) n4 n6 n7)))),
               )),
             )),
           )),
@@ -175,7 +172,7 @@ module _ (S : Shape) (h : List ℕ → ℕ) where
       known : {A B C : Type 0} (old : List ℕ) → map-of S s c ≡ some old → A ⊎ (B ⊎ ((map-of S s c ≡ none) × C)) → (Unit {0} → A → ⊥) → (Unit {0} → B → ⊥) → ⊥
       known old k (inl x) f g = f tt x
       known old k (inr (inl x)) f g = g tt x
-      known old k (inr (inr x)) f g = let e : none ≡ some old = sym (x .0) ∙ k in let n : _≡_ {A = ℕ} 0 1 = cc in omega arith
+      known old k (inr (inr x)) f g = none-some (x .0) k
 
       none-left : {A B C D E : Type 0} → A ⊎ (B ⊎ (C × (D ⊎ E))) → (Unit {0} → A → ⊥) → (Unit {0} → B → ⊥) → (Unit {0} → D → ⊥) → (Unit {0} → E → ⊥) → ⊥
       none-left (inl x) f g i j = f tt x

@@ -1,4 +1,4 @@
--- What a directory entry says of pages that show rows: it is the number of the page that calls for it, or 0 where no page does. So it is in an accepted store.
+-- What a directory entry says of pages that show rows: it is the number of the page that calls for it, or 0 where no page does. So it is in an accepted store. Assumes nothing.
 use mathlib.Core.Path.{_≡_, refl, sym, ap, subst, subst₂, _∙_}
 use mathlib.Core.List.{List, [], _∷_, List·Memᴰ}
 use mathlib.Core.Logic.{_⊎_, inl, inr, _↔_}

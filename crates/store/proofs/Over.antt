@@ -1,21 +1,19 @@
--- The rows after a put on a known code.
+-- The rows after a put on a known code. Assumes nothing.
 use mathlib.Core.Path.{_≡_, refl, sym, ap, subst, _∙_}
-use mathlib.Core.List.{List, [], _∷_, _++_, map, flatMap}
-use mathlib.Core.Option.{Option, some, none}
+use mathlib.Core.List.{List, [], _∷_, _++_, map, flatMap, map-append}
+use mathlib.Core.Option.{some, none}
 use Prim.Native.Nat.{ℕ, Ordering, Ordering·lt, Ordering·eq, Ordering·gt}
-use native.Mathlib.Omega.{arith}
+use Rattle.ground.proofs.Tests.{none-some}
 use Rattle.page.specs.Page.{Record}
-use Rattle.partition.specs.Partition.{Shape, Row, Reordered, empty, front, swap, chain}
+use Rattle.partition.specs.Partition.{Row, Reordered, front, swap, chain}
 use Rattle.words.specs.Codes.{order}
 use Rattle.partition.specs.Listing.{by, without, placeOf}
-use Rattle.store.specs.Pages.{Page, free, bucket, asRow, rowsOn, contents, rowsIn, rowsHeld}
-use Rattle.store.specs.Accepted.{Accepted}
+use Rattle.store.specs.Pages.{Page, free, bucket, asRow, rowsOn, rowsIn}
 use Rattle.store.specs.Moves.{placeOn, overwriteOn, overwritten}
 use Rattle.partition.specs.Listing.{Once}
 use Rattle.words.proofs.Orders.{order-eq}
 use Rattle.partition.proofs.Reorders.{same-order}
 use Rattle.partition.proofs.Maps.{cut, cut-none}
-use Rattle.store.proofs.Plan.{OverRows, AcceptedIsAfresh}
 
 abbrev pub over : Row → Row → Row
 over r q = by (order (r .code) (q .code)) q r q
@@ -34,10 +32,6 @@ page-over : (r : Row) (g : Page) → rowsOn (overwriteOn r g) ≡ map (over r) (
 page-over r free = refl
 page-over r (bucket k rs) = many-over r rs
 
-map-append : (f : Row → Row) (l m : List Row) → map f (l ++ m) ≡ map f l ++ map f m
-map-append f [] m = refl
-map-append f (x ∷ l) m = ap (λ t. f x ∷ t) (map-append f l m)
-
 pub rows-over : (r : Row) (gs : List Page) → rowsIn (overwritten gs r) ≡ map (over r) (rowsIn gs)
 unfolding overwritten rowsIn flatMap
 rows-over r [] = refl
@@ -53,12 +47,12 @@ none-over r (q ∷ rs) e = go (order (r .code) (q .code)) e (none-over r rs)
     go : (o : Ordering) → by o (placeOf rs (r .code)) (some (q .place)) (placeOf rs (r .code)) ≡ none → (placeOf rs (r .code) ≡ none → map (over r) rs ≡ rs)
         → by o q r q ∷ map (over r) rs ≡ q ∷ rs
     go Ordering·lt x f = ap (λ l. q ∷ l) (f x)
-    go Ordering·eq x f = absurd (let n : _≡_ {A = ℕ} 0 1 = cc in omega arith)
+    go Ordering·eq x f = absurd (none-some x refl)
     go Ordering·gt x f = ap (λ l. q ∷ l) (f x)
 
 pub known-over : (r : Row) (rs : List Row) (old : List ℕ) → Once rs → placeOf rs (r .code) ≡ some old → Reordered (map (over r) rs) (r ∷ cut (r .code) rs)
 unfolding placeOf without
-known-over r [] old o e = absurd (let n : _≡_ {A = ℕ} 0 1 = cc in omega arith)
+known-over r [] old o e = absurd (none-some refl e)
 known-over r (q ∷ rs) old o e = go (order (r .code) (q .code)) refl e (known-over r rs old (o .1))
   where
     go : (p : Ordering) → order (r .code) (q .code) ≡ p → by p (placeOf rs (r .code)) (some (q .place)) (placeOf rs (r .code)) ≡ some old
@@ -69,6 +63,3 @@ known-over r (q ∷ rs) old o e = go (order (r .code) (q .code)) refl e (known-o
     go Ordering·eq f x i =
         let z : placeOf rs (r .code) ≡ none = subst (λ c. placeOf rs c ≡ none) (sym (order-eq (r .code) (q .code) f)) (o .0) in
         front r (subst (λ l. Reordered l (cut (r .code) rs)) (sym (none-over r rs z)) (subst (λ l. Reordered rs l) (sym (cut-none (r .code) rs z)) (same-order rs)))
-
-pub over-rows : (S : Shape) (h : List ℕ → ℕ) → AcceptedIsAfresh S h → OverRows S h
-over-rows S h fresh s r old a e = subst (λ l. Reordered l (r ∷ cut (r .code) (rowsHeld S s))) (sym (rows-over r (contents S s))) (known-over r (rowsHeld S s) old (fresh s a .0) e)

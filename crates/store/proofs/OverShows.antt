@@ -10,6 +10,7 @@ use native.Mathlib.Omega.{arith}
 use lib.Dec.{eqb}
 use lib.ListN.{length, getD, set, length-map, length-set, List·getD-map}
 use lib.Seq.{ext-getD, getD-set-same, getD-set-other}
+use Rattle.ground.proofs.Tests.{none-some}
 use Rattle.words.specs.Codes.{order}
 use Rattle.words.proofs.Orders.{order-eq}
 use Rattle.page.specs.Page.{Record}
@@ -65,7 +66,7 @@ module _ (f : Row → Row) (same : (r : Row) → f r .code ≡ r .code) where
       go : (o : Ordering) → by o (placeOf l c) (some (q .place)) (placeOf l c) ≡ none → (placeOf l c ≡ none → placeOf (map f l) c ≡ none)
           → by o (placeOf (map f l) c) (some (f q .place)) (placeOf (map f l) c) ≡ none
       go Ordering·lt x i = i x
-      go Ordering·eq x i = absurd (let n : _≡_ {A = ℕ} 0 1 = cc in omega arith)
+      go Ordering·eq x i = absurd (none-some x refl)
       go Ordering·gt x i = i x
 
   map-once : (l : List Row) → Once l → Once (map f l)

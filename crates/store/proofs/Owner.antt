@@ -1,17 +1,17 @@
--- The page that holds a code is the one that the directory's entry of the code's hash names; so no two pages hold one code.
-use mathlib.Core.Path.{_≡_, refl, sym, ap, subst, _∙_}
+-- The page that holds a code is the one that the directory's entry of the code's hash names; so no two pages hold one code. Assumes nothing.
+use mathlib.Core.Path.{_≡_, sym, ap, _∙_}
 use mathlib.Core.List.{List}
-use Prim.Native.Nat.{ℕ, zero, suc, _+_, _-_, _*_, _/_, _^_, _≤_, _<_}
+use Prim.Native.Nat.{ℕ, _-_, _^_, _≤_, _<_}
 use native.Mathlib.Omega.{arith}
 use native.Mathlib.Nat.{pow-le-pow-right}
 use Rattle.ground.specs.Lists.{byte}
 use Rattle.page.specs.Page.{depth, count, code}
 use Rattle.partition.specs.Bits.{top}
-use Rattle.partition.specs.Partition.{Shape, Prefix}
+use Rattle.partition.specs.Partition.{Shape}
 use Rattle.partition.proofs.Bits.{top-lt}
 use Rattle.partition.proofs.Directory.{holds-top}
-use Rattle.store.specs.Pages.{size, pages, page, dirDepth, entryAt}
-use Rattle.store.specs.Accepted.{Stands, unused, used, Calls}
+use Rattle.store.specs.Pages.{pages, page, dirDepth, entryAt}
+use Rattle.store.specs.Accepted.{Stands, unused, used}
 use Rattle.store.specs.Demands.{Sized, Hash}
 use Rattle.store.proofs.Rules.{Opened}
 

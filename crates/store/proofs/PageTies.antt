@@ -1,22 +1,25 @@
 -- A page's rows, and what the page functions leave, in the words of the map, the listing and the moves. Assumes nothing.
-use mathlib.Core.Path.{_≡_, refl, sym, ap, _∙_}
+use borrow.Author.Tests.{le-leb, lt-leb}
+use mathlib.Core.Path.{_≡_, sym, ap, subst, _∙_}
 use mathlib.Core.Bool.{true, false}
-use mathlib.Core.List.{List, [], _∷_, _++_, map}
-use mathlib.Core.Logic.{_⊎_, _↔_, ⊎-elim}
+use mathlib.Core.List.{List, [], _∷_, _++_, map, List·Memᴰ}
+use mathlib.Core.Logic.{_↔_, ⊎-elim}
 use mathlib.Core.Option.{some, none}
-use Prim.Native.Nat.{ℕ, _+_, _-_, _*_, _≤_, _<_, Ordering, Ordering·eq}
+use Prim.Native.Nat.{ℕ, _+_, _-_, _*_, _≤_, _<_, Ordering·eq}
 use native.Mathlib.Omega.{arith}
-use lib.Dec.{leb, le→leb, leb→le}
+use lib.Dec.{leb}
 use lib.ListN.{length, set, replicate, length-replicate, getD-replicate, length-map, List·getD-eq-default}
 use lib.Seq.{take-length, drop-length}
 use Rattle.ground.specs.Lists.{tab, total, insertAt, removeAt}
 use Rattle.ground.proofs.Sides.{side}
 use Rattle.ground.proofs.Tables.{length-tab, tab-same, tab-set, tab-map, total-same}
 use Rattle.words.specs.Codes.{order, Before}
-use Rattle.words.proofs.Orders.{order-refl}
+use Rattle.words.proofs.Orders.{order-refl, irrefl}
 use Rattle.partition.specs.Partition.{Shape, Row, need, needs}
 use Rattle.partition.specs.Listing.{by, insert, without, inOrder, placeOf, Once}
-use Rattle.partition.proofs.Rows.{test, fails}
+use Rattle.partition.proofs.Rising.{by-ne, unlike, unlike-after, tab-in, tab-member, Rising, rising-tab, insert-tab, without-tab}
+use Rattle.partition.proofs.Sorted.{by-code, rising-once, order-own}
+use Rattle.partition.proofs.Maps.{placed, missing}
 use Rattle.page.specs.Page.{Slotted, Belongs, Natural, Record, rows, rowAt, count, frontier, free, depth, off, len, place, code}
 use Rattle.page.specs.Steps.{Insertable, Inserted, Removed, Overwritten}
 use Rattle.page.specs.Packed.{Packed, Fitting, Added}
@@ -27,7 +30,7 @@ use Rattle.store.specs.Pages as Pages
 use Rattle.store.specs.Accepted.{Zero}
 use Rattle.store.specs.Moves.{pick, record-at, packFrom, frontierOf, atFrontier, added, placeOn}
 use Rattle.store.proofs.Unique.{read-zero}
-use Rattle.store.proofs.Slotwise.{before-not, after-not, slot-insert, slot-without, map-none, map-some, rising-once, rising-order, needs-tab, pack-tab, span, needs-span, pack-rows, pack-more, pack-top, Highest, highest}
+use Rattle.store.proofs.Slotwise.{needs-tab, pack-tab, span, needs-span, pack-rows, pack-more, pack-top, Highest, highest}
 
 -- the row of slot i
 abbrev row : List ℕ → ℕ → Row
@@ -36,21 +39,28 @@ row p i = asRow (rowAt p i)
 pub rows-tab : (p : List ℕ) → map asRow (rows p) ≡ tab (row p) (count p)
 rows-tab p = tab-map asRow (rowAt p) (count p)
 
+-- the page's rows are those of its slots
+pub row-in : (p : List ℕ) (i : ℕ) → i < count p → List·Memᴰ (asRow (rowAt p i)) (map asRow (rows p))
+row-in p i l = rw rows-tab (tab-in (row p) (count p) i l)
+
+pub slot-of : (p : List ℕ) (r : Row) → List·Memᴰ r (map asRow (rows p)) → (i : ℕ) × (i < count p) × (r ≡ asRow (rowAt p i))
+slot-of p r m = tab-member (row p) (count p) r (rw rows-tab at m)
+
 -- put in at the slot where its code belongs
 pub insert-belongs : (p : List ℕ) (s : ℕ) (r : Record) → Belongs p s (r .code) → insertAt s r (rows p) ≡ insert (λ q. q .code) r (rows p)
-insert-belongs p s r b = slot-insert (λ q. q .code) (rowAt p) (count p) s r (b .within) (b .left) (b .right)
+insert-belongs p s r b = sym (insert-tab (λ q. q .code) (rowAt p) (count p) s r (b .within) (b .left) (b .right))
 
 module _ (p : List ℕ) (P : Slotted p) where
   -- two slots have two codes
   other-code : (s i : ℕ) → s < count p → i < count p → (i ≡ s → ⊥) → order (code p s) (code p i) ≡ Ordering·eq → ⊥
   other-code s i h m ne = ⊎-elim
-      (λ l. before-not (code p s) (code p i) (P .ascending s i l m))
-      (λ g. after-not (code p s) (code p i) (P .ascending i s (omega (arith, ne)) h))
+      (λ l. unlike (code p s) (code p i) (P .ascending s i l m))
+      (λ g. unlike-after (code p s) (code p i) (P .ascending i s (omega (arith, ne)) h))
       (side s i)
 
   -- taken out at slot s, its code is left out
   pub remove-without : (s : ℕ) → s < count p → removeAt s (rows p) ≡ without (λ q. q .code) (code p s) (rows p)
-  remove-without s h = slot-without (λ q. q .code) (rowAt p) (count p) s (code p s) h refl (λ i m ne. other-code s i h m ne)
+  remove-without s h = sym (without-tab (λ q. q .code) (rowAt p) (count p) s h (λ i l. P .ascending i s l h) (λ i l m. P .ascending s i l m))
 
   -- the place of slot s replaced
   pub set-place-on : (s : ℕ) (pl : List ℕ) → s < count p
@@ -59,27 +69,31 @@ module _ (p : List ℕ) (P : Slotted p) where
       let r : Row = record { code = code p s; place = pl } in
       let here : placeOn r (rowAt p s) ≡ record-at (off p s) r = ap (λ o. by o (rowAt p s) (record-at (off p s) r) (rowAt p s)) (order-refl (code p s)) in
       ap (set (rows p) s) (sym here)
-      ∙ sym (tab-set (rowAt p) (λ i. placeOn r (rowAt p i)) (count p) s h (λ i m ne. stays i (order (code p s) (code p i)) (other-code s i h m ne)))
+      ∙ sym (tab-set (rowAt p) (λ i. placeOn r (rowAt p i)) (count p) s h (λ i m ne. by-ne (order (code p s) (code p i)) (rowAt p i) (record-at (off p i) r) (other-code s i h m ne)))
       ∙ sym (tab-map (placeOn r) (rowAt p) (count p))
-    where
-      stays : (i : ℕ) (o : Ordering) → (o ≡ Ordering·eq → ⊥) → by o (rowAt p i) (record-at (off p i) (record { code = code p s; place = pl })) (rowAt p i) ≡ rowAt p i
-      stays i Prim.Native.Nat.Ordering·lt n = refl
-      stays i Ordering·eq n = absurd (n refl)
-      stays i Prim.Native.Nat.Ordering·gt n = refl
 
   -- rows in code order, no code twice
+  rising : Rising by-code (map asRow (rows p))
+  rising = rw rows-tab (rising-tab by-code (row p) (count p) (P .ascending))
+
   pub page-once : Once (map asRow (rows p))
-  page-once = rw rows-tab (rising-once (row p) (count p) (P .ascending))
+  page-once = rising-once (map asRow (rows p)) rising
 
   pub page-order : inOrder (map asRow (rows p)) ≡ map asRow (rows p)
-  page-order = rw rows-tab (rising-order (row p) (count p) (P .ascending))
+  page-order = order-own (map asRow (rows p)) rising
 
   -- what a search says of the map
   pub found-at : (c : List ℕ) (i : ℕ) → i < count p → code p i ≡ c → placeOf (map asRow (rows p)) c ≡ some (place p i)
-  found-at c i h e = rw rows-tab (map-some (row p) (count p) i c h e (λ j l. after-not c (code p j) (rw e at (P .ascending j i l h))))
+  found-at c i h e = subst (λ x. placeOf (map asRow (rows p)) x ≡ some (place p i)) e (placed (map asRow (rows p)) page-once (row p i) (row-in p i h))
 
   pub found-not : (c : List ℕ) (s : ℕ) → Belongs p s c → placeOf (map asRow (rows p)) c ≡ none
-  found-not c s b = rw rows-tab (map-none (row p) (count p) c (λ i h. ⊎-elim (λ l. after-not c (code p i) (b .left i l)) (λ g. before-not c (code p i) (b .right i g h)) (side i s)))
+  found-not c s b = missing (map asRow (rows p)) c (λ r m e. let w = slot-of p r m in ⊎-elim (lower (w .0) (e ∙ ap by-code (w .2))) (upper (w .0) (w .1) (e ∙ ap by-code (w .2))) (side (w .0) s))
+    where
+      lower : (i : ℕ) → c ≡ code p i → i < s → ⊥
+      lower i e l = irrefl c (subst (λ d. Before d c) (sym e) (b .left i l))
+
+      upper : (i : ℕ) → i < count p → c ≡ code p i → s ≤ i → ⊥
+      upper i h e g = irrefl c (subst (λ d. Before c d) (sym e) (b .right i g h))
 
   -- needs and total free
   pub page-needs : free p + needs (map asRow (rows p)) ≡ length p - 8
@@ -152,12 +166,12 @@ added-rows S p s c pl t q t′ z F A =
     (λ l.
     let T = A .tight (omega arith) in
     let g : List ℕ = T .0 .0 in
-    let e : leb x (size S) ≡ false = fails (leb x (size S)) (λ h. let m : x ≤ size S = leb→le x (size S) h in omega arith) in
+    let e : leb x (size S) ≡ false = lt-leb x (size S) (omega arith) in
     inserted-rows g s c pl q (T .0 .1 .page) (once-packed F (T .0 .1) .belongs) (T .0 .2)
     ∙ ap (λ rs. atFrontier rs r) (packed-rows p (F .page) g (T .0 .1))
     ∙ sym (ap (λ b. pick b (atFrontier (rows p) r) (atFrontier (packFrom 8 (map asRow (rows p))) r)) e))
     (λ h.
-    let e : leb x (size S) ≡ true = test (leb x (size S)) (le→leb x (size S) h) in
+    let e : leb x (size S) ≡ true = le-leb x (size S) h in
     inserted-rows p s c pl q (F .page) (F .belongs) (A .roomy (omega arith) .0)
     ∙ sym (ap (λ b. pick b (atFrontier (rows p) r) (atFrontier (packFrom 8 (map asRow (rows p))) r)) e))
     (side (size S) x)

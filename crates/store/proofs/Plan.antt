@@ -1,6 +1,6 @@
--- What is left of demand 3's first part: four statements on single stores. From them it follows for every history.
+-- Demand 3's first part, for every history, from four statements on single stores (proved in Afresh, MoveRows and PutRows). Assumes nothing.
 use mathlib.Core.Path.{_≡_, refl, sym, ap, subst, _∙_}
-use mathlib.Core.Bool.{Bool, true, false}
+use mathlib.Core.Bool.{Bool, true, false, true≢false}
 use mathlib.Core.List.{List, [], _∷_}
 use mathlib.Core.Option.{Option, some, none}
 use Prim.Native.Nat.{ℕ}
@@ -23,7 +23,7 @@ use Rattle.partition.proofs.Maps.{cut, cut-none, cut-same, map-remove, map-put}
 use Rattle.partition.proofs.Sorted.{listing-same}
 use Rattle.store.proofs.Sorted.{afresh-same}
 use Rattle.store.proofs.Rules.{accepted-whole}
-use Rattle.store.proofs.Kept.{nothing-there, no-three, three, clash, refusal-keeps}
+use Rattle.store.proofs.Kept.{nothing-there, no-three, three, refusal-keeps}
 use Rattle.store.proofs.Format.{format-accepted, accepted-always, no-rows}
 
 module _ (S : Shape) (h : List ℕ → ℕ) where
@@ -182,19 +182,19 @@ module _ (S : Shape) (h : List ℕ → ℕ) (sized : Sized S) (fresh : AcceptedI
   put-answer : (s c : List ℕ) (p : Place) → Accepted S h s → (x : Out × List ℕ) → Answers (putTable S h s c p) x → ok (x .0) ≡ true → x .0 ≡ putAnswer (map-of S s c)
   unfolding putTable
   put-answer s c p a = each (λ x. ok (x .0) ≡ true → x .0 ≡ putAnswer (map-of S s c)) (putTable S h s c p) (
-    (λ _ _ x e f. absurd (clash (sym f ∙ ap (λ q. ok (q .0)) e))),
+    (λ _ _ x e f. absurd (true≢false (sym f ∙ ap (λ q. ok (q .0)) e))),
     (λ _. (
-      (λ _ _ x e f. absurd (clash (sym f ∙ ap (λ q. ok (q .0)) e))),
+      (λ _ _ x e f. absurd (true≢false (sym f ∙ ap (λ q. ok (q .0)) e))),
       (λ _. (
-        (λ _ _ x e f. absurd (clash (sym f ∙ ap (λ q. ok (q .0)) e))),
+        (λ _ _ x e f. absurd (true≢false (sym f ∙ ap (λ q. ok (q .0)) e))),
         (λ _. (
-          (λ _ _ x e f. absurd (clash (sym f ∙ ap (λ q. ok (q .0)) e))),
+          (λ _ _ x e f. absurd (true≢false (sym f ∙ ap (λ q. ok (q .0)) e))),
           (λ _ _. (
             (λ old k x e f. e .0 ∙ ap putAnswer (sym k)),
             (λ un. (
-              (λ _ _ x e f. absurd (clash (sym f ∙ ap (λ q. ok (q .0)) e))),
+              (λ _ _ x e f. absurd (true≢false (sym f ∙ ap (λ q. ok (q .0)) e))),
               (λ _. (
-                (λ _ _ x e f. absurd (clash (sym f ∙ ap (λ q. ok (q .0)) e))),
+                (λ _ _ x e f. absurd (true≢false (sym f ∙ ap (λ q. ok (q .0)) e))),
                 (λ _ x e f.
                     e .0 ∙ ap putAnswer (sym (nothing-there _ un))),
               )),

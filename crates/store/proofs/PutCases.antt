@@ -1,12 +1,12 @@
 -- PUT of a new code as the code finds it: refusals 6 and 7 from the page that holds the hash and the number of free pages, then one of three writes.
 -- Assumes nothing.
+use borrow.Author.Tests.{le-leb, lt-leb}
 use mathlib.Core.Path.{_≡_, refl, sym, ap, _∙_}
 use mathlib.Core.List.{List, [], _∷_, map}
 use mathlib.Core.Logic.{inr, _↔_}
 use mathlib.Core.Option.{some}
 use Prim.Native.Nat.{ℕ, suc, _+_, _^_, _≤_, _<_}
 use native.Mathlib.Omega.{arith}
-use lib.Dec.{leb, le→leb, leb→le}
 use lib.ListN.{length, getD, set}
 use Rattle.page.specs.Page.{Record}
 use Rattle.partition.specs.Bits.{top}
@@ -15,7 +15,7 @@ use Rattle.partition.specs.Listing.{insert, inOrder}
 use Rattle.partition.proofs.Bits.{top-step}
 use Rattle.partition.proofs.Tree.{pfx}
 use Rattle.partition.proofs.Path.{path-under, path-le, fit-above}
-use Rattle.partition.proofs.Rows.{load, load-mono, load-on, rows-on, test, fails}
+use Rattle.partition.proofs.Rows.{load, load-mono, load-on, rows-on}
 use Rattle.partition.proofs.Laws.{Shallowest, reordered, add-appears, left-joined}
 use Rattle.partition.proofs.Store.{fine-add, home, not-deeper, put-unheld, count-fits, count-new, count-splits}
 use Rattle.partition.proofs.Below.{load-same}
@@ -61,7 +61,7 @@ module _ (S : Shape) (h : List ℕ → ℕ) (small : (c : List ℕ) → h c < 2 
 
       pub put-fits-is : putNew S h gs r ≡ set gs i (bucket k (added S rs r))
       put-fits-is = put-here ∙ ap (λ b. pick b (set gs i (bucket k (added S rs r))) (written gs i (map (packed h (r ∷ map asRow rs)) (buckets S h (r ∷ map asRow rs)))))
-          (test (leb (needs (r ∷ map asRow rs)) (S .capacity)) (le→leb (needs (r ∷ map asRow rs)) (S .capacity) fits))
+          (le-leb (needs (r ∷ map asRow rs)) (S .capacity) fits)
 
     -- refusal 6 from the page's rows
     pub here-six : needs (deepRows (r ∷ rows)) ≡ needs (deepRows (r ∷ map asRow rs))
@@ -79,7 +79,7 @@ module _ (S : Shape) (h : List ℕ → ℕ) (small : (c : List ℕ) → h c < 2 
 
       pub put-splits-is : putNew S h gs r ≡ written gs i (map (packed h (r ∷ map asRow rs)) (buckets S h (r ∷ map asRow rs)))
       put-splits-is = put-here ∙ ap (λ b. pick b (set gs i (bucket k (added S rs r))) (written gs i (map (packed h (r ∷ map asRow rs)) (buckets S h (r ∷ map asRow rs)))))
-          (fails (leb (needs (r ∷ map asRow rs)) (S .capacity)) (λ t. omega (arith, leb→le (needs (r ∷ map asRow rs)) (S .capacity) t)))
+          (lt-leb (needs (r ∷ map asRow rs)) (S .capacity) (omega arith))
 
   -- ---- no page holds the hash
 

@@ -1,14 +1,15 @@
 -- PUT of a new code: pages that show the rows show them with the new one, and a bucket that does not hold the code's hash keeps its page and records.
 -- Assumes nothing.
+use borrow.Author.Tests.{leb-true, leb-false}
 use mathlib.Core.Path.{_≡_, refl, sym, ap, subst, subst₂, _∙_}
-use mathlib.Core.Bool.{Bool, true, false, not}
+use mathlib.Core.Bool.{Bool, true, false}
 use mathlib.Core.List.{List, [], _∷_, map, List·Memᴰ, List·Memᴰ·head, List·Memᴰ·not-nil, List·Memᴰ·eq-of-singleton}
 use mathlib.Core.Logic.{_⊎_, inl, inr, _≢_}
 use mathlib.Core.Option.{some, none}
 use Prim.Native.Nat.{ℕ, _+_, _^_, _≤_, _<_}
 use native.Mathlib.Nat.{le-refl}
 use native.Mathlib.Omega.{arith}
-use lib.Dec.{T, leb, leb→le, nleb→lt}
+use lib.Dec.{leb}
 use lib.ListN.{length, getD, set, length-set}
 use lib.Seq.{set-set, getD-set-same}
 use Rattle.page.specs.Page.{Record}
@@ -251,8 +252,8 @@ module _ (S : Shape) (h : List ℕ → ℕ) (small : (c : List ℕ) → h c < 2 
 
         fitted : (k : ℕ) (rs : List Record) → Holding gs i k rs → (b : Bool) → leb (needs (r ∷ map asRow rs)) (S .capacity) ≡ b
             → Puts gs (pick b (set gs i (bucket k (added S rs r))) (written gs i (map (packed h (r ∷ map asRow rs)) (buckets S h (r ∷ map asRow rs)))))
-        fitted k rs e true t = put-fitting i k rs e (find-held S h rows gs s x k rs e) (leb→le (needs (r ∷ map asRow rs)) (S .capacity) (subst T (sym t) tt))
-        fitted k rs e false t = put-splitting i k rs e (find-held S h rows gs s x k rs e) (nleb→lt (needs (r ∷ map asRow rs)) (S .capacity) (subst (λ b. T (not b)) (sym t) tt))
+        fitted k rs e true t = put-fitting i k rs e (find-held S h rows gs s x k rs e) (leb-true (needs (r ∷ map asRow rs)) (S .capacity) t)
+        fitted k rs e false t = put-splitting i k rs e (find-held S h rows gs s x k rs e) (leb-false (needs (r ∷ map asRow rs)) (S .capacity) t)
 
         on : (g : Page) → getD gs (find (holds h x) gs) free ≡ g → Puts gs (putOn S h gs r (find (holds h x) gs) g)
         on free e = put-unheld (find-unheld S h rows gs s x e)

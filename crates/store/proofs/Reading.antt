@@ -1,17 +1,13 @@
--- What the reading calls need of an accepted store: a code is on the page that its hash's entry names, and the rows are counted page by page.
+-- What the reading calls need of an accepted store: a code is on the page that its hash's entry names, and the rows are counted page by page. Assumes nothing.
 use mathlib.Core.Path.{_≡_, refl, sym, ap, subst, subst₂, _∙_}
 use mathlib.Core.List.{List, [], _∷_, _++_, map, flatMap}
-use mathlib.Core.Logic.{_⊎_, inl, inr}
 use mathlib.Core.Option.{Option, some, none}
 use Prim.Native.Nat.{ℕ, zero, suc, _+_, _-_, _^_, _≤_, _<_}
 use native.Mathlib.Omega.{arith}
 use lib.ListN.{length, getD, getElem?, length-append, length-map}
 use Rattle.ground.specs.Lists.{tab, total}
-use Rattle.ground.proofs.Sides.{side}
-use Rattle.ground.proofs.Tables.{length-tab}
-use Rattle.words.specs.Codes.{Before}
-use Rattle.words.proofs.Orders.{irrefl}
-use Rattle.page.specs.Page.{Record, Slotted, BucketPage, Belongs, depth, count, code, place, rows, rowAt}
+use Rattle.ground.proofs.Tables.{length-tab, tab-map}
+use Rattle.page.specs.Page.{Record, BucketPage, depth, count, code, place, rows, rowAt}
 use Rattle.partition.specs.Bits.{top}
 use Rattle.partition.specs.Partition.{Shape, Row, rowsOf}
 use Rattle.partition.specs.Listing.{placeOf, Once}
@@ -30,9 +26,8 @@ use Rattle.store.proofs.Shows.{prefixOn, Holding, Shows}
 use Rattle.store.proofs.Shown.{some-page, page-row}
 use Rattle.store.proofs.Unique.{read-zero, read-used}
 use Rattle.store.proofs.Owner.{entry-within}
-use Rattle.store.proofs.Showing.{map-tab, calls-top, under, page-once, slot-of, accepted-shows}
+use Rattle.store.proofs.Showing.{calls-top, under, accepted-shows}
 use Rattle.store.proofs.Named.{Entry, nothing, names, accepted-entry}
-use Rattle.store.proofs.Accepting.{tab-in}
 
 -- ---- a code's page, among pages that show rows
 
@@ -120,21 +115,6 @@ module _ (S : Shape) (h : List ℕ → ℕ) (sized : Sized S) (hash : Hash h) (s
             ∙ ap (λ x. placeOf (rowsOn x) c) (sym (read-used g (u .bytes .rules))),
       )
 
--- ---- a code on its page: what a search answers
-
-module _ (g : List ℕ) (b : Slotted g) where
-  pub place-at : (c : List ℕ) (i : ℕ) → i < count g → code g i ≡ c → placeOf (map asRow (rows g)) c ≡ some (place g i)
-  place-at c i l e = subst (λ x. placeOf (map asRow (rows g)) x ≡ some (place g i)) e
-      (placed (map asRow (rows g)) (page-once g b) (asRow (rowAt g i)) (rw (map-tab asRow (rowAt g) (count g)) (tab-in (λ j. asRow (rowAt g j)) (count g) i l)))
-
-  pub place-not : (c : List ℕ) (i : ℕ) → Belongs g i c → placeOf (map asRow (rows g)) c ≡ none
-  place-not c i n = missing (map asRow (rows g)) c (λ r m e. let w = slot-of g b r m in
-      off (w .0) (w .1) (e ∙ ap (λ q. q .code) (w .2)) (side (w .0) i))
-    where
-      off : (j : ℕ) → j < count g → c ≡ code g j → (j < i) ⊎ (i ≤ j) → ⊥
-      off j l e (inl x) = irrefl c (subst (λ y. Before y c) (sym e) (n .left j x))
-      off j l e (inr x) = irrefl c (subst (λ y. Before c y) (sym e) (n .right j x l))
-
 -- ---- COUNT
 
 rows-tab : (f : ℕ → Page) (n : ℕ) → length (rowsIn (tab f n)) ≡ total (λ i. length (rowsOn (f i))) n
@@ -180,7 +160,7 @@ row-none (r ∷ l) (suc n) b = row-none l n (omega arith)
 module _ (g : List ℕ) (b : BucketPage g) where
   -- slot n's
   pub row-slot : (n : ℕ) → n < count g → getElem? (rowsOn (read g)) n ≡ some (asRow (rowAt g n))
-  row-slot n l = ap (λ x. getElem? (rowsOn x) n) (read-used g b) ∙ ap (λ x. getElem? x n) (map-tab asRow (rowAt g) (count g)) ∙ row-tab (λ i. asRow (rowAt g i)) (count g) n l
+  row-slot n l = ap (λ x. getElem? (rowsOn x) n) (read-used g b) ∙ ap (λ x. getElem? x n) (tab-map asRow (rowAt g) (count g)) ∙ row-tab (λ i. asRow (rowAt g i)) (count g) n l
 
   pub row-past : (n : ℕ) → count g ≤ n → getElem? (rowsOn (read g)) n ≡ none
   row-past n l = row-none (rowsOn (read g)) n (omega (arith, count-used g b))

@@ -1,12 +1,13 @@
 -- REMOVE as the code finds it: from the depth of the code's page up to the shallowest prefix whose other rows fit; then one of three writes.
 -- Assumes nothing.
+use borrow.Author.Tests.{eq-eqb, ne-eqb}
 use mathlib.Core.Path.{_≡_, refl, ap, subst, _∙_}
 use mathlib.Core.List.{List, _∷_, map}
 use mathlib.Core.Logic.{_≢_}
 use mathlib.Core.Option.{some}
 use Prim.Native.Nat.{ℕ, _+_, _^_, _≤_, _<_}
 use native.Mathlib.Omega.{arith}
-use lib.Dec.{T, eqb, eqb→eq, eqb-refl}
+use lib.Dec.{eqb}
 use lib.ListN.{length, getD, set}
 use Rattle.partition.specs.Bits.{top}
 use Rattle.partition.specs.Partition.{Shape, Row, need, needs, rowsOf, IsBucket, Fine, Reordered, buckets}
@@ -14,7 +15,7 @@ use Rattle.partition.specs.Listing.{without, placeOf}
 use Rattle.partition.proofs.Laws.{Shallowest, load-reordered, reordered}
 use Rattle.partition.proofs.Maps.{cut, cut-same, cut-front, once-remove}
 use Rattle.partition.proofs.Reorders.{turned}
-use Rattle.partition.proofs.Rows.{load-on, test, fails}
+use Rattle.partition.proofs.Rows.{load-on}
 use Rattle.partition.proofs.Sorted.{same-map, bucket-same}
 use Rattle.partition.proofs.Store.{fine-drop, fine-reordered}
 use Rattle.partition.proofs.Tree.{pfx}
@@ -74,13 +75,13 @@ module _ (S : Shape) (h : List ℕ → ℕ) (rows : List Row) (gs : List Page) (
       pub removed-loses : j ≡ its .depth → removed S h gs c ≡ set gs here (clearedOn c (getD gs here free))
       removed-loses d =
           removed-some ∙ ap (λ b. pick b (set gs here (clearedOn c (getD gs here free))) (joined h gs (cut c (rowsIn gs)) (pfx j (top j x))))
-          (ap (λ g. eqb j (depthOn g)) (its .there) ∙ test (eqb j (its .depth)) (subst (λ n. T (eqb j n)) d (eqb-refl j)))
+          (ap (λ g. eqb j (depthOn g)) (its .there) ∙ eq-eqb j (its .depth) d)
 
       -- rows left at a smaller depth: joined
       pub removed-joins : j ≢ its .depth → removed S h gs c ≡ joined h gs W (pfx j (top j x))
       unfolding packed
       removed-joins d =
           removed-some ∙ ap (λ b. pick b (set gs here (clearedOn c (getD gs here free))) (joined h gs (cut c (rowsIn gs)) (pfx j (top j x))))
-          (ap (λ g. eqb j (depthOn g)) (its .there) ∙ fails (eqb j (its .depth)) (λ t. d (eqb→eq j (its .depth) t)))
+          (ap (λ g. eqb j (depthOn g)) (its .there) ∙ ne-eqb j (its .depth) d)
           ∙ ap (λ l. set (map (λ g. pick (within h j (top j x) g) free g) gs) (find (within h j (top j x)) gs) (bucket j (packFrom 8 l)))
           (bucket-same h (cut c (rowsIn gs)) W (cut-same c (s .same)) (once-remove c (rowsIn gs) (same-map (turned (s .same)) (s .once) .0)) j (top j x))

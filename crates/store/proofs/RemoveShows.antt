@@ -1,5 +1,6 @@
 -- REMOVE on pages: what is left of the code's prefix decides whether its page is cleared, loses the record, or is joined; the pages show the rows left.
 -- Assumes nothing.
+use borrow.Author.Tests.{eqb-true}
 use mathlib.Core.Path.{_≡_, refl, sym, ap, subst, _∙_}
 use mathlib.Core.Bool.{Bool, true, false}
 use mathlib.Core.List.{List, _∷_, map, List·Memᴰ·head}
@@ -7,7 +8,7 @@ use mathlib.Core.Logic.{_⊎_, inl, inr, _≢_}
 use mathlib.Core.Option.{some, none}
 use Prim.Native.Nat.{ℕ, _^_, _≤_, _<_}
 use native.Mathlib.Omega.{arith}
-use lib.Dec.{T, eqb, eqb→eq}
+use lib.Dec.{eqb}
 use lib.ListN.{length, getD, set, length-map, List·getD-map}
 use lib.Seq.{getD-set-same, getD-set-other}
 use Rattle.ground.proofs.Sides.{side}
@@ -29,12 +30,12 @@ use Rattle.partition.proofs.Tree.{pfx}
 use Rattle.store.specs.Pages.{Page, free, bucket, asRow, depthOn, rowsIn}
 use Rattle.store.specs.Moves.{pick, find, within, holds, bucketOf, packFrom, packed, clearedOn, joined, removeOn, removed}
 use Rattle.store.proofs.Shows.{firstCode, prefixOn, OnPage, Holding, Shows}
-use Rattle.store.proofs.Shown.{within-on, within-pages, find-passes, find-least, shows-reordered}
+use Rattle.store.proofs.Shown.{page-of, within-on, within-pages, find-passes, find-least, shows-reordered}
 use Rattle.store.proofs.Records.{rows-packed}
 use Rattle.store.proofs.PutKept.{Kept}
 use Rattle.store.proofs.BucketOf.{shallowest-bucket, bucket-of-some, bucket-of-none}
 use Rattle.store.proofs.Known.{Known, known}
-use Rattle.store.proofs.Fewer.{makes-page, at-least, Left, cleared, filled, Fewer, fewer-shows, fewer-kept}
+use Rattle.store.proofs.Fewer.{at-least, Left, cleared, filled, Fewer, fewer-shows, fewer-kept}
 
 -- a row's own code goes
 cut-own : (r : Row) (l : List Row) → placeOf l (r .code) ≡ none → cut (r .code) (r ∷ l) ≡ l
@@ -123,7 +124,7 @@ module _ (S : Shape) (h : List ℕ → ℕ) (small : (c : List ℕ) → h c < 2 
     left-bucket = shallowest-bucket S h W x j f p
 
     fills : (rs : List Record) → map asRow rs ≡ inOrder (rowsOf h W j (top j x)) → Left S h small r W gs s j f (bucket j rs)
-    fills rs e = let m = makes-page S h W j (top j x) rs left-bucket e in filled rs (m .0) (m .1)
+    fills rs e = let m = page-of S h W j (top j x) rs left-bucket e in filled rs (m .0) (m .1)
 
     -- rows left in the page's own prefix: the record goes
     rows-left : j ≡ its .depth → map asRow (without (λ q. q .code) (r .code) (its .records)) ≡ inOrder (rowsOf h W j (top j x))
@@ -170,7 +171,7 @@ module _ (S : Shape) (h : List ℕ → ℕ) (small : (c : List ℕ) → h c < 2 
       where
         go : (b : Bool) → eqb j (depthOn (getD gs here free)) ≡ b
             → Then (pick b (set gs here (clearedOn (r .code) (getD gs here free))) (joined h gs W (pfx j (top j x))))
-        go true e = loses (eqb→eq j (depthOn (getD gs here free)) (subst T (sym e) tt) ∙ ap depthOn (its .there))
+        go true e = loses (eqb-true j (depthOn (getD gs here free)) e ∙ ap depthOn (its .there))
         go false e = joins
 
   -- REMOVE, by what is left of the prefix

@@ -1,4 +1,4 @@
--- The rules of an accepted store, each by its name; and the page at which the check stops is one.
+-- The rules of an accepted store, each by its name; and the page at which the check stops is one. Assumes nothing.
 use mathlib.Core.Path.{_≡_, sym, subst, _∙_}
 use mathlib.Core.List.{List, [], _∷_, _++_}
 use mathlib.Core.Logic.{_⊎_, inl, inr, ⊎-elim}

@@ -7,6 +7,7 @@ use mathlib.Core.Option.{some}
 use Prim.Native.Nat.{ℕ, suc, _+_, _*_, _≤_, _<_}
 use native.Mathlib.Omega.{arith}
 use lib.ListN.{length, getElem?, length-append, length-map}
+use Rattle.ground.proofs.Tests.{none-some}
 use Rattle.ground.specs.Ladder.{Answers}
 use Rattle.ground.proofs.Ladders.{each}
 use Rattle.ground.proofs.Sides.{side}
@@ -28,7 +29,7 @@ use Rattle.store.proofs.Showing.{under, pages-held}
 use Rattle.store.proofs.Unique.{read-used}
 use Rattle.store.proofs.Reading.{row-free}
 use Rattle.store.proofs.Walked.{listed-once}
-use Rattle.store.proofs.Given.{Good, slot-good, held-good, member, differ}
+use Rattle.store.proofs.Given.{Good, slot-good, held-good, member}
 
 -- a refusal; most bounds the page number that 2 carries
 abbrev pub Refusal : ℕ → Out → Type 0
@@ -106,7 +107,7 @@ module _ (S : Shape) (h : List ℕ → ℕ) where
   )
     where
       slot : PageKeeps S h g → (r : Row) → getElem? (rowsOn (read g)) n ≡ some r → Good r
-      slot (inl z) r m = absurd (differ (row-free g z n) m)
+      slot (inl z) r m = absurd (none-some (row-free g z n) m)
       slot (inr b) r m = slot-good g (b .0 .rules .rules) r (member (map asRow (rows g)) n r (rw (read-used g (b .0 .rules)) at m))
 
   module _ (sized : Sized S) (hash : Hash h) where

@@ -1,29 +1,26 @@
--- The next put on two stores of the same rows and length has the same answer.
+-- The next put on two stores of the same rows and length has the same answer. Assumes nothing.
 use mathlib.Core.Path.{_≡_, refl, sym, ap, subst, _∙_}
-use mathlib.Core.List.{List, [], _∷_}
-use mathlib.Core.Logic.{_⊎_, inl, inr}
-use mathlib.Core.Option.{Option, some, none}
-use Prim.Native.Nat.{ℕ, zero, suc, _+_, _-_, _/_, _≤_, _<_, Ordering, Ordering·lt, Ordering·eq, Ordering·gt}
-use native.Mathlib.Omega.{arith}
+use mathlib.Core.List.{List, _∷_}
+use mathlib.Core.Logic.{inl, inr}
+use mathlib.Core.Option.{Option, some}
+use Prim.Native.Nat.{ℕ, _-_, _/_, _<_}
 use lib.ListN.{length}
 use Rattle.partition.specs.Bits.{top}
-use Rattle.partition.specs.Partition.{Shape, Row, Reordered, empty, front, swap, chain, needs, rowsOf, buckets}
+use Rattle.partition.specs.Partition.{Shape, Row, Reordered, front, chain, needs, rowsOf, buckets}
 use Rattle.partition.proofs.Pages.{turned as back}
 use Rattle.partition.proofs.Sorted.{same-map}
 use Rattle.partition.proofs.Laws.{load-reordered, reordered}
 use Rattle.page.specs.declared.Place.{Place}
 use Rattle.ground.specs.Ladder.{Ladder, rung, answer, refuse, Answers}
-use Rattle.words.specs.Codes.{order}
-use Rattle.partition.specs.Listing.{by, placeOf}
+use Rattle.partition.specs.Listing.{placeOf}
 use Rattle.store.specs.Pages.{size, pages, rowsHeld}
 use Rattle.store.specs.Accepted.{Accepted}
 use Rattle.page.specs.Places.{place, stored}
 use Rattle.store.specs.Tables.{Out, refused, new, replaced, Refusal3, Refusal4, putTable}
 use Rattle.partition.specs.Listing.{Once}
 use Rattle.store.specs.Demands.{Made, put, AfreshAlways, SameRefusals}
-use Rattle.ground.proofs.Ladders.{Sure, one, each}
+use Rattle.ground.proofs.Ladders.{one, each}
 use Rattle.store.proofs.Rules.{accepted-whole}
-use Rattle.words.proofs.Orders.{order-eq, order-refl}
 
 -- put's answer hangs on four values alone: the code's place, the need of its deepest prefix, the number of buckets and of pages
 pub putAnswers : Shape → List ℕ → Place → Option (List ℕ) → ℕ → ℕ → ℕ → Ladder Out

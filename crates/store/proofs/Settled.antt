@@ -1,15 +1,13 @@
--- Each table settles its call: two results that satisfy it are equal.
-use mathlib.Core.Path.{_≡_, refl, sym, ap, _∙_}
+-- Each table settles its call: two results that satisfy it are equal. Assumes nothing.
+use mathlib.Core.Path.{_≡_, refl, sym, _∙_}
 use mathlib.Core.List.{List}
-use mathlib.Core.Logic.{_⊎_, inl, inr}
-use mathlib.Core.Option.{Option, some, none}
+use mathlib.Core.Option.{Option, some}
 use Prim.Native.Nat.{ℕ}
-use Rattle.partition.specs.Partition.{Shape, Row}
+use Rattle.partition.specs.Partition.{Shape}
 use Rattle.page.specs.declared.Place.{Place}
-use Rattle.ground.specs.Ladder.{Ladder, rung, given, ends, answer, Answers}
-use Rattle.store.specs.Pages.{Page, contents}
-use Rattle.store.specs.Accepted.{Accepted, Broken}
-use Rattle.store.specs.Tables.{Out, Becomes, writes, checked, rowOf, formatTable, checkTable, countTable, lookupTable, putTable, removeTable, rowTable, inspectTable}
+use Rattle.ground.specs.Ladder.{Answers}
+use Rattle.store.specs.Pages.{Page}
+use Rattle.store.specs.Tables.{Out, writes, formatTable, checkTable, countTable, lookupTable, putTable, removeTable, rowTable, inspectTable}
 use Rattle.store.specs.Demands.{Sized}
 use Rattle.ground.proofs.Ladders.{Sure, one}
 use Rattle.store.proofs.Rules.{broken-one}
@@ -19,10 +17,10 @@ use Rattle.store.proofs.Unique.{becomes-one}
 nothing : {P : Type 0} (x y : Unit {0}) → P → P → x ≡ y
 nothing x y p q = refl
 
-same : {A : Type 0} {a : A} (b c : A) → b ≡ a → c ≡ a → b ≡ c
+pub same : {A : Type 0} {a : A} (b c : A) → b ≡ a → c ≡ a → b ≡ c
 same b c e f = e ∙ sym f
 
-some-one : {A : Type 0} {o : Option A} (a b : A) → o ≡ some a → o ≡ some b → a ≡ b
+pub some-one : {A : Type 0} {o : Option A} (a b : A) → o ≡ some a → o ≡ some b → a ≡ b
 some-one a b e f = cc
 
 wrote : (S : Shape) (h : List ℕ → ℕ) (s : List ℕ) (o : Out) (gs : List Page) → Sized S → Sure (writes S h s o gs)

@@ -1,4 +1,4 @@
--- An accepted store's pages show its own rows.
+-- An accepted store's pages show its own rows. Assumes nothing.
 use mathlib.Core.Path.{_≡_, refl, sym, ap, subst, subst₂, _∙_}
 use mathlib.Core.List.{List, [], _∷_, _++_, map, flatMap, List·Memᴰ, List·Memᴰ·head, List·Memᴰ·tail, List·Memᴰ·not-nil, List·Memᴰ·cases-cons}
 use mathlib.Core.Logic.{_⊎_, inl, inr, _↔_}
@@ -7,23 +7,19 @@ use native.Mathlib.Omega.{arith}
 use native.Mathlib.Nat.{le-trans, div-lt-iff-lt-mul, pow-le-pow-right}
 use lib.Pow.{pow-pos, pow-add}
 use lib.ListN.{length, getD, length-map}
-use Rattle.ground.specs.Lists.{tab, total}
+use Rattle.ground.specs.Lists.{tab}
 use Rattle.ground.proofs.Sides.{side}
-use Rattle.ground.proofs.Tables.{length-tab, total-same}
-use Rattle.page.specs.Page.{Record, BucketPage, Slotted, depth, count, code, rows, rowAt}
-use Rattle.page.specs.Page.{need as slot-need, free as total-free}
-use Rattle.page.proofs.Sums.{len-of-code}
+use Rattle.ground.proofs.Tables.{length-tab}
+use Rattle.page.specs.Page.{Record, BucketPage, depth, count, code, rows, rowAt}
 use Rattle.partition.specs.Bits.{top}
-use Rattle.partition.specs.Partition.{Shape, Row, need, needs, rowsOf, Fine}
+use Rattle.partition.specs.Partition.{Shape, Row, needs, rowsOf, Fine}
 use Rattle.partition.specs.Listing.{inOrder, Once}
 use Rattle.partition.proofs.Bits.{top-step, top-lt}
 use Rattle.partition.proofs.Tree.{pfx}
 use Rattle.partition.proofs.Directory.{holds-top}
 use Rattle.partition.proofs.Path.{path-le}
 use Rattle.partition.proofs.Rows.{load, load-mono}
-use Rattle.partition.proofs.Sum.{of-prefix}
-use Rattle.partition.proofs.Rising.{Rising, rising-tab, tab-member}
-use Rattle.partition.proofs.Sorted.{by-code, order-own, rising-once}
+use Rattle.partition.proofs.Sum.{prefix-row}
 use Rattle.partition.proofs.Pages as P
 use Rattle.partition.proofs.Members.{once-append}
 use Rattle.store.specs.Pages.{pages, page, dirDepth, entryAt, Page, free, bucket, read, contents, asRow, rowsIn, rowsHeld}
@@ -33,45 +29,7 @@ use Rattle.store.proofs.Rules.{Opened, opened}
 use Rattle.store.proofs.Shows.{firstCode, prefixOn, Holding, OnPage, Shows}
 use Rattle.store.proofs.Shown.{free-not, within-pages, row-on}
 use Rattle.store.proofs.Unique.{read-zero, read-bucket, held, page-long}
-
--- ---- tables
-
-pub map-tab : {A B : Type 0} (g : A → B) (f : ℕ → A) (n : ℕ) → map g (tab f n) ≡ tab (λ i. g (f i)) n
-unfolding tab
-map-tab g f zero = refl
-map-tab g f (suc n) = ap (λ l. g (f zero) ∷ l) (map-tab g (λ i. f (suc i)) n)
-
-needs-tab : (f : ℕ → Row) (n : ℕ) → needs (tab f n) ≡ total (λ i. need (f i)) n
-unfolding tab needs total
-needs-tab f zero = refl
-needs-tab f (suc n) = ap (λ m. need (f zero) + m) (needs-tab (λ i. f (suc i)) n)
-
--- ---- the rows of one page
-
-module _ (g : List ℕ) (b : Slotted g) where
-  abbrev rowIn : ℕ → Row
-  rowIn i = asRow (rowAt g i)
-
-  rising : Rising by-code (map asRow (rows g))
-  rising = rw (map-tab asRow (rowAt g) (count g)) (rising-tab by-code rowIn (count g) (b .ascending))
-
-  pub page-ordered : inOrder (map asRow (rows g)) ≡ map asRow (rows g)
-  page-ordered = order-own (map asRow (rows g)) rising
-
-  pub page-once : Once (map asRow (rows g))
-  page-once = rising-once (map asRow (rows g)) rising
-
-  pub page-needs : total-free g + needs (map asRow (rows g)) ≡ length g - 8
-  unfolding need
-  page-needs =
-      let e : needs (map asRow (rows g)) ≡ total (slot-need g) (count g) =
-      ap needs (map-tab asRow (rowAt g) (count g)) ∙ needs-tab rowIn (count g)
-      ∙ total-same (λ i. need (rowIn i)) (slot-need g) (count g) (λ i l. omega (arith, len-of-code g i b l)) in
-      omega (arith, b .unused)
-
-  -- a row of the page is that of a slot
-  pub slot-of : (r : Row) → List·Memᴰ r (map asRow (rows g)) → (i : ℕ) × (i < count g) × (r ≡ rowIn i)
-  slot-of r m = tab-member rowIn (count g) r (rw (map-tab asRow (rowAt g) (count g)) at m)
+use Rattle.store.proofs.PageTies.{slot-of, page-once, page-order, page-needs}
 
 -- ---- pages as the partition's pages
 
@@ -198,7 +156,7 @@ module _ (S : Shape) (h : List ℕ → ℕ) (gs : List Page) (s : Sound S h gs) 
       go : (l : List Row) → rowsOf h (rowsIn gs) (S .deepest) v ≡ l → needs (rowsOf h (rowsIn gs) (S .deepest) v) ≤ S .capacity
       go [] e = rw e zero-le
       go (r ∷ l) e =
-          let m = of-prefix S h (rowsIn gs) (S .deepest) v r (subst (λ t. List·Memᴰ r t) (sym e) (List·Memᴰ·head refl)) in
+          let m = prefix-row h (rowsIn gs) (S .deepest) v r (subst (λ t. List·Memᴰ r t) (sym e) (List·Memᴰ·head refl)) in
           let w = row-on gs r (m .0) in
           at r (m .1) (w .0) (w .1) (w .2) (w .3) (s .keeps (w .0) (w .1) (w .2) (w .3) r (w .4))
 
@@ -292,9 +250,9 @@ module _ (S : Shape) (h : List ℕ → ℕ) (sized : Sized S) (hash : Hash h) (s
     shallow = λ i k rs e. le-trans (under i k rs e .low) (T .page0 .depth);
     keeps = λ i k rs e. let u = under i k rs e in
         subst₂ (λ n t. (r : Row) → List·Memᴰ r (map asRow t) → top n (h (r .code)) ≡ prefixOn h n t) (sym (u .deep)) (sym (u .its))
-        (λ r m. let w = slot-of (pg i) (u .bytes .rules .rules) r m in
+        (λ r m. let w = slot-of (pg i) r m in
         ap (λ q. top (depth (pg i)) (h (q .code))) (w .2) ∙ u .bytes .share (w .0) 0 (w .1) (u .bytes .rules .some) ∙ sym (first-code h (pg i) (u .bytes .rules)));
-    ordered = λ i k rs e. let u = under i k rs e in subst (λ t. inOrder (map asRow t) ≡ map asRow t) (sym (u .its)) (page-ordered (pg i) (u .bytes .rules .rules));
+    ordered = λ i k rs e. let u = under i k rs e in subst (λ t. inOrder (map asRow t) ≡ map asRow t) (sym (u .its)) (page-order (pg i) (u .bytes .rules .rules));
     once = λ i k rs e. let u = under i k rs e in subst (λ t. Once (map asRow t)) (sym (u .its)) (page-once (pg i) (u .bytes .rules .rules));
     fits = λ i k rs e. let u = under i k rs e in subst (λ t. needs (map asRow t) ≤ S .capacity) (sym (u .its))
         (omega (arith, page-needs (pg i) (u .bytes .rules .rules), page-long S s (i + 2) (u .within)));

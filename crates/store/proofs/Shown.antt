@@ -1,22 +1,23 @@
 -- Pages that show rows: where a row is, which page holds a hash, and that pages show rows as soon as each bucket is on one page and no other page is used.
 -- Assumes nothing.
+use borrow.Author.Tests.{eq-eqb, eqb-true}
 use mathlib.Core.Path.{_≡_, refl, sym, ap, ap₂, subst, _∙_}
-use mathlib.Core.Bool.{Bool, true, false}
+use mathlib.Core.Bool.{Bool, true, false, true≢false}
 use mathlib.Core.List.{List, [], _∷_, map, flatMap, List·Memᴰ, List·Memᴰ·head, List·Memᴰ·tail, List·Memᴰ·not-nil, List·Memᴰ·cases-cons, List·Memᴰ·append-cases, Memᴰ·append-left, Memᴰ·append-right}
 use mathlib.Core.Logic.{_⊎_, inl, inr, _↔_}
 use mathlib.Core.Option.{Option, some, none}
 use Prim.Native.Nat.{ℕ, zero, suc, _/_, _^_, _≤_, _<_}
 use native.Mathlib.Omega.{arith}
-use lib.Dec.{T, eqb, eqb→eq, eqb-refl}
+use lib.Dec.{eqb}
 use lib.ListN.{length, getD, List·getD-eq-default}
 use Rattle.page.specs.Page.{Record}
 use Rattle.partition.specs.Bits.{top}
 use Rattle.partition.specs.Partition.{Shape, Row, Prefix, IsBucket, Fine, Reordered, chain, rowsOf, buckets, orElse}
 use Rattle.partition.specs.Listing.{inOrder, Once}
 use Rattle.partition.proofs.Tree.{pfx}
-use Rattle.partition.proofs.Rows.{test, same-bucket, listed}
+use Rattle.partition.proofs.Rows.{same-bucket, listed}
 use Rattle.partition.proofs.Laws.{no-overlap, held, load-reordered}
-use Rattle.partition.proofs.Sum.{of-prefix, head-of}
+use Rattle.partition.proofs.Sum.{prefix-row, head-of}
 use Rattle.partition.proofs.Store.{every-row, fine-reordered, not-deeper}
 use Rattle.partition.proofs.Sorted.{some-once, same-map, bucket-same}
 use Rattle.partition.proofs.Pages.{turned}
@@ -88,14 +89,14 @@ find-least f (g ∷ gs) i l e = go (f g) refl i l e (find-least f gs)
     go : (b : Bool) → f g ≡ b → (i : ℕ) → i < suc (length gs) → f (getD (g ∷ gs) i free) ≡ true → ((i : ℕ) → i < length gs → f (getD gs i free) ≡ true → find f gs ≤ i)
         → pick b 0 (suc (find f gs)) ≤ i
     go true p i l e rest = omega arith
-    go false p zero l e rest = absurd (let z : true ≡ false = sym e ∙ p in let n : _≡_ {A = ℕ} 0 1 = cc in omega arith)
+    go false p zero l e rest = absurd (true≢false (sym e ∙ p))
     go false p (suc i) l e rest = omega (arith, rest i (omega arith) e)
 
 pub within-on : (h : List ℕ → ℕ) (j v k : ℕ) (rs : List Record) → 0 < length rs → (within h j v (bucket k rs) ≡ true) ↔ (prefixOn h j rs ≡ v)
 within-on h j v k [] l = absurd (omega arith)
 within-on h j v k (r ∷ rs) l = (
-  (λ e. eqb→eq (top j (h (r .code))) v (subst T (sym e) tt)),
-  (λ e. test (eqb (top j (h (r .code))) v) (subst (λ n. T (eqb (top j (h (r .code))) n)) e (eqb-refl (top j (h (r .code)))))),
+  eqb-true (top j (h (r .code))) v,
+  eq-eqb (top j (h (r .code))) v,
 )
 
 module _ (h : List ℕ → ℕ) where
@@ -103,7 +104,7 @@ module _ (h : List ℕ → ℕ) where
   holds-on x k rs l = within-on h k (top k x) k rs l
 
   holds-free : (x : ℕ) (g : Page) → g ≡ free → holds h x g ≡ true → ⊥
-  holds-free x g e t = let z : false ≡ true = ap (λ p. holds h x p) (sym e) ∙ t in let n : _≡_ {A = ℕ} 0 1 = cc in omega arith
+  holds-free x g e t = true≢false (sym t ∙ ap (λ p. holds h x p) e)
 
 -- every bucket
 abbrev pub Any : ℕ → ℕ → Type 0
@@ -115,7 +116,7 @@ module _ (S : Shape) (h : List ℕ → ℕ) where
   -- a page's rows are the rows of its prefix
   pub page-row : (rows : List Row) (k : ℕ) (rs : List Record) → OnPage S h rows k rs → (r : Row) → List·Memᴰ r (map asRow rs) ↔ (List·Memᴰ r rows × (top k (h (r .code)) ≡ prefixOn h k rs))
   page-row rows k rs o r = (
-    (λ m. of-prefix S h rows k (prefixOn h k rs) r (mem-reordered (in-order-reordered (rowsOf h rows k (prefixOn h k rs))) (subst (λ l. List·Memᴰ r l) (o .ordered) m))),
+    (λ m. prefix-row h rows k (prefixOn h k rs) r (mem-reordered (in-order-reordered (rowsOf h rows k (prefixOn h k rs))) (subst (λ l. List·Memᴰ r l) (o .ordered) m))),
     (λ m. subst (λ l. List·Memᴰ r l) (sym (o .ordered)) (mem-reordered (turned (in-order-reordered (rowsOf h rows k (prefixOn h k rs)))) (subst (λ v. List·Memᴰ r (rowsOf h rows k v)) (m .1) (held S h rows r (m .0) k)))),
   )
 
@@ -131,7 +132,7 @@ module _ (S : Shape) (h : List ℕ → ℕ) where
       absurd (List·Memᴰ·not-nil (subst (λ l. List·Memᴰ (r .0) l) (sym e) (mem-reordered (turned (in-order-reordered (rowsOf h rows k v))) (r .1))))
   page-of rows k v (q ∷ rs) b e =
       let m = mem-reordered (in-order-reordered (rowsOf h rows k v)) (subst (λ l. List·Memᴰ (asRow q) l) e (List·Memᴰ·head refl)) in
-      let p : prefixOn h k (q ∷ rs) ≡ v = of-prefix S h rows k v (asRow q) m .1 in
+      let p : prefixOn h k (q ∷ rs) ≡ v = prefix-row h rows k v (asRow q) m .1 in
       (record { some = omega arith; is = rw p b; ordered = rw p e }, p)
 
   -- pages that show those buckets of the rows of which P holds, each on one page, and nothing else
@@ -180,7 +181,7 @@ module _ (S : Shape) (h : List ℕ → ℕ) where
     pub paged : (k v : ℕ) → IsBucket S h rows k v → (i : ℕ) × (rs : List Record) × Holding gs i k rs × (prefixOn h k rs ≡ v)
     paged k v b =
         let r = head-of (rowsOf h rows k v) (b .has) in
-        let m = of-prefix S h rows k v (r .0) (r .1) in
+        let m = prefix-row h rows k v (r .0) (r .1) in
         let w = some-page (r .0) (m .0) in
         let o = s .page (w .0) (w .1) (w .2) (w .3) in
         let e = no-overlap S h rows (w .1) (prefixOn h (w .1) (w .2)) k v (h (r .0 .code)) (o .is) b (page-row rows (w .1) (w .2) o (r .0) .0 (w .4) .1) (m .1) in
@@ -244,16 +245,12 @@ module _ (x : ℕ) where
   bucket-of (q ∷ ps) = go (eqb (top (q .bits) x) (q .value)) refl (bucket-of ps)
     where
       go : (b : Bool) → eqb (top (q .bits) x) (q .value) ≡ b → Told ps (bucketOf x ps) → Told (q ∷ ps) (orElse b q (bucketOf x ps))
-      go true e rest = inl (q, List·Memᴰ·head refl, eqb→eq (top (q .bits) x) (q .value) (subst T (sym e) tt), refl)
+      go true e rest = inl (q, List·Memᴰ·head refl, eqb-true (top (q .bits) x) (q .value) e, refl)
       go false e (inl w) = inl (w .0, List·Memᴰ·tail (w .1), w .2, w .3)
       go false e (inr w) = inr ((λ p m y. other p (List·Memᴰ·cases-cons m) y), w .1)
         where
           other : (p : Prefix) → (p ≡ q) ⊎ List·Memᴰ p ps → Has p → ⊥
-          other p (inl z) y =
-              let t : eqb (top (q .bits) x) (q .value) ≡ true = test (eqb (top (q .bits) x) (q .value)) (subst (λ n. T (eqb (top (q .bits) x) n)) (subst Has z y) (eqb-refl (top (q .bits) x))) in
-              let c : true ≡ false = sym t ∙ e in
-              let n : _≡_ {A = ℕ} 0 1 = cc in
-              omega arith
+          other p (inl z) y = true≢false (sym (eq-eqb (top (q .bits) x) (q .value) (subst Has z y)) ∙ e)
           other p (inr m) y = w .0 p m y
 
 module _ (S : Shape) (h : List ℕ → ℕ) (small : (c : List ℕ) → h c < 2 ^ 32) (rows : List Row) (f : Fine S h rows) (x : ℕ) where

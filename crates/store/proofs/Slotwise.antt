@@ -1,110 +1,18 @@
--- Tables of rows in code order, against the definitions that go by codes. Assumes nothing.
-use mathlib.Core.Path.{_≡_, refl, sym, ap, _∙_}
+-- Rows of a table: what they need, where they start when packed, how far they reach. Assumes nothing.
+use mathlib.Core.Path.{_≡_, refl, ap, _∙_}
 use mathlib.Core.List.{List, [], _∷_, _++_, map}
 use mathlib.Core.Logic.{_⊎_, inl, inr}
-use mathlib.Core.Option.{Option, some, none}
-use Prim.Native.Nat.{ℕ, zero, suc, _+_, _*_, _≤_, _<_, max, zero-le, suc-le-suc, Ordering, Ordering·lt, Ordering·eq, Ordering·gt}
+use Prim.Native.Nat.{ℕ, zero, suc, _+_, _*_, _≤_, _<_, max, suc-le-suc}
 use native.Mathlib.Omega.{arith}
 use native.Mathlib.Nat.{le-of-suc-le-suc, not-suc-le-zero}
 use lib.ListN.{length}
-use Rattle.ground.specs.Lists.{tab, total, insertAt, removeAt}
+use Rattle.ground.specs.Lists.{tab, total}
 use Rattle.ground.proofs.Tables.{tab-same}
 use Rattle.ground.proofs.Sides.{side}
-use Rattle.words.specs.Codes.{order, Before}
-use Rattle.words.proofs.Orders.{irrefl, order-eq, order-refl, after-order}
 use Rattle.partition.specs.Partition.{Row, need, needs}
-use Rattle.partition.specs.Listing.{by, insert, without, inOrder, placeOf, Once}
 use Rattle.page.specs.Page.{Record}
 use Rattle.store.specs.Pages.{asRow}
 use Rattle.store.specs.Moves.{record-at, packFrom, frontierOf}
-
--- the codes of two rows differ
-pub before-not : (c d : List ℕ) → Before c d → order c d ≡ Ordering·eq → ⊥
-before-not c d b e = irrefl d (rw (order-eq c d e) at b)
-
-pub after-not : (c d : List ℕ) → Before d c → order c d ≡ Ordering·eq → ⊥
-after-not c d b e = irrefl d (rw (order-eq c d e) at b)
-
-by-not {ℓ} : {A : Type ℓ} (o : Ordering) (a b : A) → (o ≡ Ordering·eq → ⊥) → by o a b a ≡ a
-by-not Ordering·lt a b n = refl
-by-not Ordering·eq a b n = absurd (n refl)
-by-not Ordering·gt a b n = refl
-
-module _ {A : Type 0} (key : A → List ℕ) where
-  -- put in at the slot where its code belongs
-  pub slot-insert : (f : ℕ → A) (n s : ℕ) (r : A) → s ≤ n → ((i : ℕ) → i < s → Before (key (f i)) (key r)) → ((i : ℕ) → s ≤ i → i < n → Before (key r) (key (f i)))
-      → insertAt s r (tab f n) ≡ insert key r (tab f n)
-  unfolding insertAt insert tab
-  slot-insert f zero zero r h lo hi = refl
-  slot-insert f (suc n) zero r h lo hi =
-      let t : List A = f zero ∷ tab (λ i. f (suc i)) n in
-      sym (ap (λ o. by o (r ∷ t) (r ∷ t) (f zero ∷ insert key r (tab (λ i. f (suc i)) n))) (hi zero zero-le (suc-le-suc zero-le) .less))
-  slot-insert f zero (suc s) r h lo hi = absurd (not-suc-le-zero h)
-  slot-insert f (suc n) (suc s) r h lo hi =
-      let t : List A = f zero ∷ tab (λ i. f (suc i)) n in
-      ap (λ l. f zero ∷ l) (slot-insert (λ i. f (suc i)) n s r (le-of-suc-le-suc h) (λ i l. lo (suc i) (suc-le-suc l)) (λ i l m. hi (suc i) (suc-le-suc l) (suc-le-suc m)))
-      ∙ sym (ap (λ o. by o (r ∷ t) (r ∷ t) (f zero ∷ insert key r (tab (λ i. f (suc i)) n))) (after-order (key r) (key (f zero)) (lo zero (suc-le-suc zero-le))))
-
-  -- no row of the code c
-  pub slot-none : (f : ℕ → A) (n : ℕ) (c : List ℕ) → ((i : ℕ) → i < n → order c (key (f i)) ≡ Ordering·eq → ⊥) → without key c (tab f n) ≡ tab f n
-  unfolding without tab
-  slot-none f zero c out = refl
-  slot-none f (suc n) c out =
-      by-not (order c (key (f zero))) (f zero ∷ without key c (tab (λ i. f (suc i)) n)) (without key c (tab (λ i. f (suc i)) n)) (out zero (suc-le-suc zero-le))
-      ∙ ap (λ l. f zero ∷ l) (slot-none (λ i. f (suc i)) n c (λ i l. out (suc i) (suc-le-suc l)))
-
-  -- taken out at the slot of its code
-  pub slot-without : (f : ℕ → A) (n s : ℕ) (c : List ℕ) → s < n → key (f s) ≡ c → ((i : ℕ) → i < n → (i ≡ s → ⊥) → order c (key (f i)) ≡ Ordering·eq → ⊥)
-      → removeAt s (tab f n) ≡ without key c (tab f n)
-  unfolding without removeAt tab
-  slot-without f zero s c h e out = absurd (not-suc-le-zero h)
-  slot-without f (suc n) zero c h e out =
-      let t : List A = tab (λ i. f (suc i)) n in
-      let o : order c (key (f zero)) ≡ Ordering·eq = rw e (order-refl c) in
-      sym (slot-none (λ i. f (suc i)) n c (λ i l. out (suc i) (suc-le-suc l) (λ x. omega (arith, x))))
-      ∙ sym (ap (λ o. by o (f zero ∷ without key c t) (without key c t) (f zero ∷ without key c t)) o)
-  slot-without f (suc n) (suc s) c h e out =
-      let t : List A = tab (λ i. f (suc i)) n in
-      ap (λ l. f zero ∷ l) (slot-without (λ i. f (suc i)) n s c (le-of-suc-le-suc h) e (λ i l x. out (suc i) (suc-le-suc l) (λ y. x (omega (arith, y)))))
-      ∙ sym (by-not (order c (key (f zero))) (f zero ∷ without key c t) (without key c t) (out zero (suc-le-suc zero-le) (λ x. omega (arith, x))))
-
--- the map: a code that no row has, and one that a row has
-pub map-none : (g : ℕ → Row) (n : ℕ) (c : List ℕ) → ((i : ℕ) → i < n → order c (g i .code) ≡ Ordering·eq → ⊥) → placeOf (tab g n) c ≡ none
-unfolding placeOf tab
-map-none g zero c out = refl
-map-none g (suc n) c out =
-    by-not (order c (g zero .code)) (placeOf (tab (λ i. g (suc i)) n) c) (some (g zero .place)) (out zero (suc-le-suc zero-le))
-    ∙ map-none (λ i. g (suc i)) n c (λ i l. out (suc i) (suc-le-suc l))
-
-pub map-some : (g : ℕ → Row) (n i : ℕ) (c : List ℕ) → i < n → g i .code ≡ c → ((j : ℕ) → j < i → order c (g j .code) ≡ Ordering·eq → ⊥) → placeOf (tab g n) c ≡ some (g i .place)
-unfolding placeOf tab
-map-some g zero i c h e out = absurd (not-suc-le-zero h)
-map-some g (suc n) zero c h e out =
-    let o : order c (g zero .code) ≡ Ordering·eq = rw e (order-refl c) in
-    let m : Option (List ℕ) = placeOf (tab (λ i. g (suc i)) n) c in
-    ap (λ o. by o m (some (g zero .place)) m) o
-map-some g (suc n) (suc i) c h e out =
-    by-not (order c (g zero .code)) (placeOf (tab (λ i. g (suc i)) n) c) (some (g zero .place)) (out zero (suc-le-suc zero-le))
-    ∙ map-some (λ i. g (suc i)) n i c (le-of-suc-le-suc h) e (λ j l. out (suc j) (suc-le-suc l))
-
--- rows in code order have no code twice, and are in order
-abbrev pub Rising : (ℕ → Row) → ℕ → Type 0
-Rising g n = (i j : ℕ) → i < j → j < n → Before (g i .code) (g j .code)
-
-pub rising-once : (g : ℕ → Row) (n : ℕ) → Rising g n → Once (tab g n)
-unfolding tab
-rising-once g zero r = tt
-rising-once g (suc n) r = (
-  map-none (λ i. g (suc i)) n (g zero .code) (λ i l. before-not (g zero .code) (g (suc i) .code) (r zero (suc i) (suc-le-suc zero-le) (suc-le-suc l))),
-  rising-once (λ i. g (suc i)) n (λ i j l m. r (suc i) (suc j) (suc-le-suc l) (suc-le-suc m)),
-)
-
-pub rising-order : (g : ℕ → Row) (n : ℕ) → Rising g n → inOrder (tab g n) ≡ tab g n
-unfolding tab inOrder insertAt
-rising-order g zero r = refl
-rising-order g (suc n) r =
-    ap (insert (λ q. q .code) (g zero)) (rising-order (λ i. g (suc i)) n (λ i j l m. r (suc i) (suc j) (suc-le-suc l) (suc-le-suc m)))
-    ∙ sym (slot-insert (λ q. q .code) (λ i. g (suc i)) n zero (g zero) zero-le (λ i l. absurd (not-suc-le-zero l)) (λ i l m. r zero (suc i) (suc-le-suc zero-le) (suc-le-suc m)))
 
 pub needs-tab : (g : ℕ → Row) (n : ℕ) → needs (tab g n) ≡ total (λ i. need (g i)) n
 unfolding tab total needs

@@ -1,22 +1,15 @@
--- Reordered rows have the same directory.
-use mathlib.Core.Path.{_≡_, refl, sym, ap, subst, _∙_}
-use mathlib.Core.Bool.{Bool, true, false}
-use mathlib.Core.List.{List, [], _∷_, _++_, flatMap}
-use mathlib.Core.Logic.{_⊎_, inl, inr}
+-- Reordered rows have the same directory. Assumes nothing.
+use mathlib.Core.Path.{_≡_, refl, ap, _∙_}
+use mathlib.Core.List.{List}
 use mathlib.Core.Option.{Option, some, none}
-use Prim.Native.Nat.{ℕ, zero, suc, _^_, Ordering, Ordering·lt, Ordering·eq, Ordering·gt}
-use native.Mathlib.Omega.{arith}
-use lib.Dec.{eqb}
+use Prim.Native.Nat.{ℕ, _^_}
 use Rattle.ground.specs.Lists.{tab}
-use Rattle.partition.specs.Bits.{top}
-use Rattle.partition.specs.Partition.{Shape, Row, Prefix, Reordered, empty, front, swap, chain, keep, rowsOf, buckets, depthOf, entry}
+use Rattle.partition.specs.Partition.{Shape, Row, Prefix, Reordered, buckets, depthOf, entry}
 use Rattle.ground.proofs.Tables.{tab-same}
 use Rattle.partition.proofs.Sorted.{bucket-same}
 use Rattle.partition.proofs.Laws.{reordered}
-use Rattle.words.specs.Codes.{order}
-use Rattle.partition.specs.Listing.{by, insert, inOrder, listing, placeOf}
 use Rattle.partition.specs.Listing.{Once}
-use Rattle.store.specs.Demands.{Seen, seenAfresh, afresh}
+use Rattle.store.specs.Demands.{seenAfresh, afresh}
 
 module _ (S : Shape) (h : List ℕ → ℕ) (rs qs : List Row) (p : Reordered rs qs) (o : Once rs) where
   seen-same : (x : Option Prefix) → seenAfresh h rs x ≡ seenAfresh h qs x

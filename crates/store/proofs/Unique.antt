@@ -1,25 +1,24 @@
--- An accepted store is settled by its length and by what its pages from 2 on hold.
+-- An accepted store is settled by its length and by what its pages from 2 on hold. Assumes nothing.
 use mathlib.Core.Path.{_≡_, refl, sym, ap, subst, _∙_}
-use mathlib.Core.List.{List, [], _∷_, _++_}
+use mathlib.Core.List.{List}
 use mathlib.Core.Logic.{_⊎_, inl, inr, ⊎-elim}
-use Prim.Native.Nat.{ℕ, zero, suc, _+_, _-_, _*_, _/_, _%_, _^_, _≤_, _<_}
+use Prim.Native.Nat.{ℕ, suc, _+_, _-_, _*_, _/_, _≤_, _<_}
 use native.Mathlib.Omega.{arith}
 use native.Mathlib.Nat.{suc-mul, mul-le-mul-right, div-mul-le-self, div-add-mod', le-div-iff-mul-le, div-lt-iff-lt-mul, lt-div-mul-add}
 use Rattle.partition.specs.Bits.{top}
-use lib.ListN.{length, getD, take, drop}
+use lib.ListN.{length, getD}
 use lib.Seq.{ext-getD}
-use Rattle.ground.specs.Lists.{byte, part}
+use Rattle.ground.specs.Lists.{byte}
 use Rattle.words.specs.Le.{le32}
 use Rattle.ground.proofs.Sides.{side}
 use Rattle.ground.proofs.Parts.{byte-part, length-part}
-use Rattle.ground.specs.Lists.{tab}
 use Rattle.page.specs.Page.{BucketPage, depth, rows, code}
 use Rattle.ground.proofs.Tables.{getD-tab}
 use Rattle.page.proofs.Unique.{unique}
 use Rattle.words.proofs.Bytes.{le32-byte}
 use Rattle.partition.specs.Partition.{Shape}
 use Rattle.store.specs.Pages.{size, pages, page, dirDepth, entryAt, Page, free, bucket, read, reading, contents, deepestIn}
-use Rattle.store.specs.Accepted.{GoodLength, Page0, Page1, Bucket, Zero, Calls, Stands, unused, used, Deepest, Accepted}
+use Rattle.store.specs.Accepted.{Bucket, Zero, Calls, Stands, unused, used}
 use Rattle.store.specs.Tables.{Becomes}
 use Rattle.store.specs.Demands.{Sized}
 use Rattle.store.proofs.Rules.{Opened, opened}

@@ -1,5 +1,5 @@
 -- A page of a store, lent and given back: that page changes and nothing else. Over any page size. Assumes nothing.
-use mathlib.Core.Path.{_≡_, sym, ap, _∙_}
+use mathlib.Core.Path.{_≡_, refl, sym, ap, _∙_}
 use mathlib.Core.List.{List, _++_}
 use mathlib.Core.Logic.{⊎-elim}
 use Prim.Native.Nat.{ℕ, _+_, _-_, _*_, _/_, _≤_, _<_}
@@ -13,7 +13,7 @@ use Rattle.ground.proofs.Tables.{tab-set}
 use Rattle.words.specs.Le.{le32}
 use Rattle.words.proofs.Bytes.{le32-same}
 use Rattle.partition.specs.Partition.{Shape}
-use Rattle.store.specs.Pages.{size, pages, page, dirDepth, entryAt, read, contents}
+use Rattle.store.specs.Pages.{S1024, size, pages, page, dirDepth, entryAt, read, contents}
 use Rattle.store.proofs.Unique.{within}
 
 -- the store with ys for page p
@@ -24,6 +24,10 @@ setPage S s p ys = splice s (p * size S) (size S) ys
 pub lent-page : (S : Shape) (s : List ℕ) (p a e : ℕ) → a ≡ p * size S → e ≡ a + size S → take (e - a) (drop a s) ≡ page S s p
 unfolding page
 lent-page S s p a e f g = lent-part s a e (size S) g ∙ ap (λ k. part s k (size S)) f
+
+-- pages of 1,024 bytes: as s[p * 1024 .. p * 1024 + 1024]
+pub page-lent : (s : List ℕ) (p : ℕ) → take (p * 1024 + 1024 - p * 1024) (drop (p * 1024) s) ≡ page S1024 s p
+page-lent s p = lent-page S1024 s p (p * 1024) (p * 1024 + 1024) refl refl
 
 pub page-back : (S : Shape) (s ys : List ℕ) (p a e : ℕ) → a ≡ p * size S → e ≡ a + size S → take a s ++ (ys ++ drop (e - a) (drop a s)) ≡ setPage S s p ys
 unfolding setPage

@@ -1,4 +1,5 @@
--- Each row is listed once; and the listing is a walk over the directory that takes each bucket at its first entry.
+-- Each row is listed once; and the listing is a walk over the directory that takes each bucket at its first entry. Assumes nothing.
+use borrow.Author.Tests.{le-leb, lt-leb}
 use mathlib.Core.Path.{_≡_, refl, sym, ap, subst, _∙_}
 use mathlib.Core.Bool.{Bool, true, false}
 use mathlib.Core.List.{List, [], _∷_, _++_, flatMap, List·Memᴰ, List·Memᴰ·head, List·Memᴰ·tail, List·Memᴰ·not-nil, List·Memᴰ·cases-cons}
@@ -7,14 +8,13 @@ use mathlib.Core.Option.{some, none}
 use Prim.Native.Nat.{ℕ, _+_, _-_, _^_, _≤_, _<_, zero-le}
 use native.Mathlib.Omega.{arith}
 use native.Mathlib.Nat.{le-trans, pow-le-pow-right}
-use lib.Dec.{leb, leb→le, le→leb}
+use lib.Dec.{leb}
 use lib.ListN.{length, getElem?}
 use Rattle.ground.proofs.Sides.{side}
 use Rattle.page.specs.Page.{depth, count, rows, rowAt}
 use Rattle.partition.specs.Partition.{Shape, Row, Prefix, rowsOf, buckets, first, after, Ascending}
 use Rattle.partition.specs.Listing.{inOrder, listing}
 use Rattle.partition.proofs.Tree.{pfx}
-use Rattle.partition.proofs.Rows.{test, fails}
 use Rattle.partition.proofs.Order.{asc-first, asc-last, asc-apart, first-lt-after}
 use Rattle.partition.proofs.Directory.{Holds, holds-range, in-order-here, entries-size}
 use Rattle.partition.proofs.Listed.{listing-reordered}
@@ -54,11 +54,11 @@ from d i (p ∷ l) = keepIf (leb i (first d p)) p (from d i l)
 module _ (d : ℕ) where
   take-it : (i : ℕ) (p : Prefix) (l : List Prefix) → i ≤ first d p → from d i (p ∷ l) ≡ p ∷ from d i l
   unfolding from
-  take-it i p l b = ap (λ t. keepIf t p (from d i l)) (test (leb i (first d p)) (le→leb i (first d p) b))
+  take-it i p l b = ap (λ t. keepIf t p (from d i l)) (le-leb i (first d p) b)
 
   leave-it : (i : ℕ) (p : Prefix) (l : List Prefix) → first d p < i → from d i (p ∷ l) ≡ from d i l
   unfolding from
-  leave-it i p l b = ap (λ t. keepIf t p (from d i l)) (fails (leb i (first d p)) (λ t. let x = leb→le i (first d p) t in omega arith))
+  leave-it i p l b = ap (λ t. keepIf t p (from d i l)) (lt-leb i (first d p) b)
 
   -- none begins earlier
   from-all : (i lo hi : ℕ) (l : List Prefix) → i ≤ lo → Ascending d lo hi l → from d i l ≡ l

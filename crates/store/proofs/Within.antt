@@ -1,7 +1,7 @@
 -- The pages of a prefix that is no longer than that of the hash's bucket: those at or below it. They have its rows.
 -- Assumes nothing.
 use mathlib.Core.Path.{_≡_, refl, sym, ap, ap₂, subst, _∙_}
-use mathlib.Core.Bool.{Bool, true, false}
+use mathlib.Core.Bool.{Bool, true, false, true≢false}
 use mathlib.Core.List.{List, [], _∷_, _++_, map, flatMap, List·Memᴰ·not-nil}
 use mathlib.Core.Logic.{_⊎_, inl, inr, _↔_}
 use Prim.Native.Nat.{ℕ, suc, _/_, _^_, _≤_, _<_}
@@ -77,9 +77,7 @@ module _ (S : Shape) (h : List ℕ → ℕ) where
         one k rs e false t = rows-none h (map asRow rs) j v (λ q m y.
             let p : top k (h (q .code)) ≡ prefixOn h k rs = page-row S h rows k rs (s .page i k rs e) q .0 m .1 in
             let z : prefixOn h j rs ≡ v = sym (share-fewer (h (q .code)) (h (firstCode rs)) j k (reaches i k rs e (h (q .code)) p y) p) ∙ y in
-            let c : false ≡ true = sym t ∙ within-on h j v k rs (s .page i k rs e .some) .1 z in
-            let n : _≡_ {A = ℕ} 0 1 = cc in
-            omega arith)
+            true≢false (sym (within-on h j v k rs (s .page i k rs e .some) .1 z) ∙ t))
 
         go : (g : Page) → getD gs i free ≡ g → rowsOf h (rowsOn g) j v ≡ rowsOn (pick (within h j v g) g free)
         go free e = rows-every h [] j v (λ q m. absurd (List·Memᴰ·not-nil m))

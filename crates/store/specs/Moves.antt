@@ -2,7 +2,7 @@
 use mathlib.Core.Bool.{Bool, true, false}
 use mathlib.Core.List.{List, [], _∷_, map}
 use mathlib.Core.Option.{Option, some, none}
-use Prim.Native.Nat.{ℕ, zero, suc, _+_, _*_, max, Ordering}
+use Prim.Native.Nat.{ℕ, suc, _+_, _*_, max}
 use lib.Dec.{leb, eqb}
 use lib.ListN.{length, getD, set}
 use Rattle.page.specs.Page.{Record}
@@ -10,7 +10,7 @@ use Rattle.partition.specs.Bits.{top}
 use Rattle.partition.specs.Partition.{Shape, Row, Prefix, need, needs, rowsOf, buckets, orElse}
 use Rattle.words.specs.Codes.{order}
 use Rattle.partition.specs.Listing.{by, insert, without, inOrder}
-use Rattle.store.specs.Pages.{size, Page, free, bucket, asRow, rowsOn, depthOn, rowsIn}
+use Rattle.store.specs.Pages.{size, Page, free, bucket, asRow, depthOn, rowsIn}
 
 abbrev pub pick {ℓ} : {A : Type ℓ} → Bool → A → A → A
 pick true a b = a

@@ -7,10 +7,8 @@ use Rattle.words.specs.Le.{le32}
 use Rattle.ground.specs.Lists.{tab}
 use Rattle.page.specs.Page.{Record, depth, rows}
 use Rattle.partition.specs.Partition.{Shape, Row}
-
 -- pages of 1,024 bytes
-abbrev pub S1024 : Shape
-S1024 = record { capacity = 1016; entries = 256; deepest = 8 }
+pub use Rattle.partition.specs.Partition.{S1024}
 
 -- Capacity is page size less 8.
 abbrev pub size : Shape → ℕ

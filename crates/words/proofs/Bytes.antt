@@ -1,17 +1,17 @@
 -- Laws of single bytes and of what the writes do. Assumes nothing.
-use Prim.Native.Nat.{ℕ, zero, suc, _+_, _*_, _-_, _/_, _%_, _≤_, _<_}
+use Prim.Native.Nat.{ℕ, zero, suc, _+_, _-_, _/_, _≤_, _<_}
 use mathlib.Core.Path.{_≡_, refl, sym, ap, _∙_}
 use mathlib.Core.Logic.{_⊎_, inl, inr, ⊎-elim}
 use mathlib.Core.List.{List, [], _∷_, _++_, append-nil}
 use native.Mathlib.Omega.{arith}
 use native.Mathlib.Nat.{zero-add, add-zero, add-assoc}
-use lib.ListN.{length, drop, getD, set, replicate, length-set, length-append, length-drop, drop-of-length-le, List·getD-append}
+use lib.ListN.{length, drop, set, replicate, length-set, length-append, length-drop, drop-of-length-le, List·getD-append}
 use lib.Seq.{getD-set-same, getD-set-other, getD-append-add, getD-drop, ext-getD}
 use Rattle.ground.specs.Lists.{byte, part}
 use Rattle.ground.proofs.Sides.{side}
 use Rattle.ground.proofs.Parts.{part-is}
 use Rattle.words.specs.Le.{le16, le32, bytes}
-use Rattle.words.specs.Moves.{Frame, Put16, Put32, Wrote, Span}
+use Rattle.words.specs.Moves.{Frame, Wrote, Span}
 
 pub byte-set : (p : List ℕ) (k v : ℕ) → k < length p → byte (set p k v) k ≡ v
 byte-set p k v h = getD-set-same p k v 0 h

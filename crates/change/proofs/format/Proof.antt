@@ -1,12 +1,11 @@
 -- `change::format` meets its contract: the writes make the blank store. Assumes nothing.
 use borrow.Author.Needs.{needs}
-use mathlib.Core.Path.{_≡_, refl, ap}
+use mathlib.Core.Path.{refl, ap}
 use mathlib.Core.List.{List}
-use mathlib.Core.Logic.{_⊎_, inl, inr}
-use Prim.Native.Nat.{ℕ, _<_}
+use mathlib.Core.Logic.{inl, inr}
+use Prim.Native.Nat.{ℕ}
 use native.Mathlib.Omega.{arith}
 use denote.Ref.{now}
-use lib.ListN.{length}
 use Rattle.store.specs.Pages.{S1024}
 use Rattle.store.specs.Accepted.{GoodLength}
 use Rattle.store.specs.Tables.{formatTable, formatted}

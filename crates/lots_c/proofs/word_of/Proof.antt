@@ -1,5 +1,5 @@
 -- `lots_c::word_of` meets its contract, answer by answer. Assumes nothing.
-use mathlib.Core.Path.{_≡_, sym, ap, _∙_}
+use mathlib.Core.Path.{sym, ap, _∙_}
 use Rattle.store.specs.Tables.{meaning}
 use Rattle.lots_c.specs.Words.{word}
 use borrow.Author.Needs.{needs}

@@ -1,20 +1,20 @@
 -- `reading::give_row` meets its contract. Assumes nothing.
 use denote.Ref.{now}
+use Rattle.ground.proofs.Tests.{none-some}
 use Rattle.rows.specs.Spots.{Listed}
 use Rattle.rows.specs.declared.Spot.the-variants.{Here}
 use borrow.Author.Needs.{needs}
-use mathlib.Core.Path.{_≡_, refl, sym, ap, subst, _∙_}
+use mathlib.Core.Path.{_≡_, refl, ap, subst, _∙_}
 use mathlib.Core.List.{List}
 use mathlib.Core.Logic.{inl, inr}
-use Prim.Native.Nat.{ℕ, _+_, _*_, _-_}
+use Prim.Native.Nat.{ℕ}
 use native.Mathlib.Omega.{arith}
 use Rattle.page.specs.Page.{place, rowAt}
 use Rattle.page.specs.Found.{CodeOut}
 use Rattle.page.specs.Places as Places
 use Rattle.store.specs.Pages.{S1024, page, asRow}
 use Rattle.store.specs.Tables.{row}
-use Rattle.store.proofs.Views.{lent-page}
-use Rattle.reading.proofs.Calls.{some-not}
+use Rattle.store.proofs.Views.{page-lent}
 use Rattle.reading.proofs.give_row.Statement.{statement}
 use Rattle.reading.proofs.give_row.Tie as tie
 
@@ -59,7 +59,7 @@ part-read-code-end c = omega (arith, here (c .before) .0 .within)
 read-code-requires : tie.Need-read-code-requires
 read-code-requires c κs = let b = c .before .before .before in
     let w = here b .0 in
-    rw (lent-page S1024 (store b) (page-no b) (page-no b * 1024) (page-no b * 1024 + 1024) refl refl) (w .rules .rules, w .slot, b .before .before .before .before .before .pre .1)
+    rw (page-lent (store b) (page-no b)) (w .rules .rules, w .slot, b .before .before .before .before .before .pre .1)
 
 sub-read-place : tie.Need-sub-read-place
 sub-read-place c = search needs
@@ -74,7 +74,7 @@ read-place-requires : tie.Need-read-place-requires
 read-place-requires c κs =
     let b = c .before .before .before .before .before .before .before in
     let w = here b .0 in
-    rw (lent-page S1024 (store b) (page-no b) (page-no b * 1024) (page-no b * 1024 + 1024) refl refl) (w .rules .rules, w .slot)
+    rw (page-lent (store b) (page-no b)) (w .rules .rules, w .slot)
 
 enum-told : tie.Need-enum-told
 enum-told c = search needs
@@ -86,7 +86,7 @@ returns : tie.Need-returns
 returns c =
     let b = c .before .before .before .before .before .before .before .before in
     let g = page S1024 (store b) (page-no b) in
-    let l = lent-page S1024 (store b) (page-no b) (page-no b * 1024) (page-no b * 1024 + 1024) refl refl in
+    let l = page-lent (store b) (page-no b) in
     let k : CodeOut g (slot-no b) _ (c .before .before .before .before .read-code .result) (c .before .before .before .before .read-code .last .1 .1 .0) = rw l at (c .before .before .before .before .read-code .ensures) in
     let e : c .read-place .result ≡ Places.place (place g (slot-no b)) = c .read-place .ensures ∙ ap (λ q. Places.place (place q (slot-no b))) l in
     inl (asRow (rowAt g (slot-no b)), (here b .1, (λ i. (row (k .size i) (e i), k .wrote i))))
@@ -94,7 +94,7 @@ returns c =
 returns-2 : tie.Need-returns-2
 returns-2 c = let f = c .before .before in
     let e = subst (Listed _ _) (c .enum-told .given .1) (f .nth-row .ensures) in
-    inr ((λ r q. some-not (sym e ∙ q)), refl)
+    inr ((λ r q. none-some e q), refl)
 
 pub give-row-spec : {M : Type 1} → statement M
 give-row-spec =

@@ -1,21 +1,21 @@
 -- `reading::place_of` meets its contract. Assumes nothing.
 use denote.Ref.{now}
+use Rattle.ground.proofs.Tests.{none-some}
 use Rattle.rows.specs.Spots.{Stands}
 use Rattle.rows.specs.declared.Spot.the-variants.{Here}
 use borrow.Author.Needs.{needs}
-use mathlib.Core.Path.{_≡_, refl, sym, ap, subst, _∙_}
+use mathlib.Core.Path.{_≡_, refl, ap, subst, _∙_}
 use mathlib.Core.List.{List}
 use mathlib.Core.Logic.{inl, inr}
 use mathlib.Core.Option.{none}
-use Prim.Native.Nat.{ℕ, _+_, _*_, _-_}
+use Prim.Native.Nat.{ℕ}
 use native.Mathlib.Omega.{arith}
 use Rattle.partition.specs.Listing.{placeOf}
 use Rattle.page.specs.Page.{place}
 use Rattle.page.specs.Places as Places
 use Rattle.store.specs.Pages.{S1024, page}
 use Rattle.store.specs.Tables.{found}
-use Rattle.store.proofs.Views.{lent-page}
-use Rattle.reading.proofs.Calls.{some-not}
+use Rattle.store.proofs.Views.{page-lent}
 use Rattle.reading.proofs.place_of.Statement.{statement}
 use Rattle.reading.proofs.place_of.Tie as tie
 
@@ -60,7 +60,7 @@ part-read-place-end c = omega (arith, here (c .before) .0 .within)
 read-place-requires : tie.Need-read-place-requires
 read-place-requires c κs = let b = c .before .before in
     let w = here b .0 in
-    rw (lent-page S1024 (store b) (page-no b) (page-no b * 1024) (page-no b * 1024 + 1024) refl refl) (w .rules .rules, w .slot)
+    rw (page-lent (store b) (page-no b)) (w .rules .rules, w .slot)
 
 enum-told : tie.Need-enum-told
 enum-told c = search needs
@@ -68,13 +68,13 @@ enum-told c = search needs
 returns : tie.Need-returns
 returns c = let b = c .before .before .before in
     let e : c .read-place .result ≡ Places.place (place (page S1024 (store b) (page-no b)) (slot-no b)) =
-    c .read-place .ensures ∙ ap (λ g. Places.place (place g (slot-no b))) (lent-page S1024 (store b) (page-no b) (page-no b * 1024) (page-no b * 1024 + 1024) refl refl) in
+    c .read-place .ensures ∙ ap (λ g. Places.place (place g (slot-no b))) (page-lent (store b) (page-no b)) in
     inl (place (page S1024 (store b) (page-no b)) (slot-no b), (here b .2, ap found e))
 
 returns-2 : tie.Need-returns-2
 returns-2 c = let f = c .before .before in
     let e : placeOf _ _ ≡ none = subst (Stands _ _) (c .enum-told .given .1) (f .find-row .ensures) in
-    inr ((λ b q. some-not (sym e ∙ q)), refl)
+    inr ((λ b q. none-some e q), refl)
 
 pub place-of-spec : {M : Type 1} → statement M
 place-of-spec =

@@ -1,10 +1,8 @@
 -- `rows::count_rows` meets its contract: page after page, each once. Assumes nothing.
-use Prim.Native.Nat.{ℕ, _+_, _*_, _-_, _≤_, _<_}
-use mathlib.Core.Path.{_≡_, refl, sym, ap, subst, _∙_}
+use Prim.Native.Nat.{_+_, _*_, _-_, _≤_}
+use mathlib.Core.Path.{_≡_, sym, ap, _∙_}
 use native.Mathlib.Omega.{arith}
 use denote.Ref.{now}
-use Rattle.store.specs.Pages.{S1024, page, read, rowsOn}
-use lib.ListN.{length}
 use Rattle.rows.proofs.Finds.{rowsTo, rows-none, rows-next, rows-all}
 use Rattle.rows.proofs.count_rows.Statement.{statement}
 use Rattle.rows.proofs.count_rows.Tie as tie

@@ -1,22 +1,21 @@
 -- `rows::find_row` meets its contract: hash, entry, page, slot. Assumes nothing.
-use Prim.Native.Nat.{ℕ, _+_, _*_, _-_, _≤_, _<_}
-use mathlib.Core.Path.{_≡_, refl, sym, ap, subst, _∙_}
+use Prim.Native.Nat.{ℕ, _+_, _*_, _≤_, _<_}
+use mathlib.Core.Path.{_≡_, sym, ap, subst, _∙_}
 use mathlib.Core.List.{List}
 use native.Mathlib.Omega.{arith}
 use denote.Ref.{now}
-use lib.ListN.{length, take, drop}
+use lib.ListN.{length}
 use Rattle.hash.specs.Fnv.{fnv}
 use Rattle.page.specs.Page.{BucketPage, Belongs, count, code}
 use Rattle.page.specs.Found.{FoundIn}
-use Rattle.page.specs.declared.Found.{Found}
 use Rattle.page.specs.declared.Found.the-variants.{At, Absent}
 use Rattle.partition.specs.Bits.{top}
 use Rattle.store.specs.Pages.{S1024, page, dirDepth, entryAt}
-use Rattle.store.proofs.Views.{lent-page}
+use Rattle.store.proofs.Views.{page-lent}
 use Rattle.store.proofs.Reading.{entryOf}
 use Rattle.rows.specs.Spots.{Stands}
 use Rattle.rows.specs.declared.Spot.the-variants.{Here, Nowhere}
-use Rattle.rows.proofs.Finds.{long-enough, shallow, not-named, inside, from-two, keeps, here, nowhere}
+use Rattle.rows.proofs.Finds.{long-enough, shallow, not-named, inside, keeps, here, nowhere}
 use borrow.Author.Needs.{needs}
 use Rattle.rows.proofs.find_row.Statement.{statement}
 use Rattle.rows.proofs.find_row.Tie as tie
@@ -83,7 +82,7 @@ part-find-code-end c = let z = c .before .before .before .before .before in omeg
 find-code-requires : tie.Need-find-code-requires
 find-code-requires c κs = let z = start (c .before) in
     let p = c .before .before .entry-of .result in
-    rw (lent-page S1024 (now (z .args .s)) p (p * 1024) (p * 1024 + 1024) refl refl) (bucket (c .before) .rules)
+    rw (page-lent (now (z .args .s)) p) (bucket (c .before) .rules)
 
 enum-known-i : tie.Need-enum-known-i
 enum-known-i c = search needs
@@ -98,7 +97,7 @@ returns-2 c =
     let f = c .before .before .before .find-code .ensures in
     let i = c .before .i .given .0 .0 in
     let w : FoundIn (page S1024 (s b) p) (key b) (At i) =
-    subst (FoundIn (page S1024 (s b) p) (key b)) (c .before .i .given .1) (rw (lent-page S1024 (s b) p (p * 1024) (p * 1024 + 1024) refl refl) at f) in
+    subst (FoundIn (page S1024 (s b) p) (key b)) (c .before .i .given .1) (rw (page-lent (s b) p) at f) in
     stands-at b i (w .0) (w .1)
 
 returns-3 : tie.Need-returns-3
@@ -108,7 +107,7 @@ returns-3 c =
     let f = c .before .before .find-code .ensures in
     let i = c .enum-told .given .0 .0 in
     let w : FoundIn (page S1024 (s b) p) (key b) (Absent i) =
-    subst (FoundIn (page S1024 (s b) p) (key b)) (c .enum-told .given .1) (rw (lent-page S1024 (s b) p (p * 1024) (p * 1024 + 1024) refl refl) at f) in
+    subst (FoundIn (page S1024 (s b) p) (key b)) (c .enum-told .given .1) (rw (page-lent (s b) p) at f) in
     stands-not b i w
 
 pub find-row-spec : {M : Type 1} → statement M

@@ -1,6 +1,6 @@
 -- `rows::nth_row` meets its contract: bucket after bucket by first entry, each once. Assumes nothing.
 use Prim.Native.Nat.{ℕ, _+_, _*_, _-_, _^_, _≤_, _<_}
-use mathlib.Core.Path.{_≡_, refl, sym, ap, subst, _∙_}
+use mathlib.Core.Path.{_≡_, sym, ap, subst, _∙_}
 use mathlib.Core.List.{List}
 use native.Mathlib.Omega.{arith}
 use denote.Ref.{now}
@@ -12,7 +12,7 @@ use Rattle.hash.specs.Fnv.{fnv}
 use Rattle.store.specs.Pages.{S1024, dirDepth, entryAt}
 use Rattle.store.specs.Accepted.{Accepted}
 use Rattle.rows.specs.Spots.{Listed}
-use Rattle.rows.specs.declared.Spot.the-variants.{Here, Nowhere}
+use Rattle.rows.specs.declared.Spot.the-variants.{Here}
 use Rattle.rows.proofs.Finds.{long-enough, shallow, From, from-first, from-end, from-none, entries-256, page-inside, page-deep, from-here, from-past}
 use Rattle.rows.proofs.nth_row.Statement.{statement}
 use Rattle.rows.proofs.nth_row.Tie as tie

@@ -1,10 +1,9 @@
 -- `store::deepest` meets its contract: page after page, the larger depth is kept. Assumes nothing.
-use Prim.Native.Nat.{ℕ, _+_, _*_, _-_, _≤_, _<_, max}
+use Prim.Native.Nat.{_-_, _≤_, _<_, max}
 use mathlib.Core.Path.{_≡_, sym, ap, _∙_}
 use mathlib.Core.Logic.{_⊎_, inl, inr, ⊎-elim}
 use native.Mathlib.Omega.{arith}
 use denote.Ref.{now}
-use Rattle.store.specs.Pages.{S1024, page, read, depthOn, contents, deepestIn}
 use Rattle.store.proofs.Depths.{deepestTo, deepest-none, deepest-next, deepest-all, larger}
 use Rattle.store.proofs.deepest.Statement.{statement}
 use Rattle.store.proofs.deepest.Tie as tie

@@ -1,11 +1,10 @@
 -- `words::clear` meets its contract. Assumes nothing.
-use Prim.Native.Nat.{ℕ, _+_, _-_, _≤_}
+use Prim.Native.Nat.{_-_, _≤_}
 use mathlib.Core.Path.{_≡_, refl}
 use native.Mathlib.Omega.{arith}
 use lib.ListN.{length, length-set}
-use Rattle.ground.specs.Lists.{byte}
 use Rattle.words.specs.Moves.{Span}
-use Rattle.words.proofs.Bytes.{span-none, span-up, span-down}
+use Rattle.words.proofs.Bytes.{span-none, span-up}
 use Rattle.words.proofs.clear.Statement.{statement}
 use Rattle.words.proofs.clear.Tie as tie
 

@@ -1,7 +1,7 @@
 -- `words::put16` meets its contract. Assumes nothing.
-use Prim.Native.Nat.{ℕ, _+_, _/_, _%_}
+use Prim.Native.Nat.{_+_, _/_, _%_}
 use native.Mathlib.Omega.{arith}
-use lib.ListN.{length, set, length-set}
+use lib.ListN.{set, length-set}
 use borrow.Author.Needs.{needs}
 use Rattle.words.specs.Le.{le16}
 use Rattle.words.proofs.Bytes.{byte-set, byte-other, frame-set, frame-join}

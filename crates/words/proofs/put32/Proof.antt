@@ -1,5 +1,4 @@
 -- `words::put32` meets its contract. Assumes nothing.
-use Prim.Native.Nat.{ℕ, _+_}
 use native.Mathlib.Omega.{arith}
 use borrow.Author.Needs.{needs}
 use Rattle.words.specs.Le.{le32}

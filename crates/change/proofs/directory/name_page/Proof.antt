@@ -1,20 +1,20 @@
 -- `change::name_page` meets its contract: a bucket's run is set, another page's is not. Assumes nothing.
 use borrow.Author.Needs.{needs}
-use Prim.Native.Nat.{ℕ, _+_, _*_, _-_, _^_, _≤_, _<_}
-use mathlib.Core.Path.{_≡_, refl, sym, ap, subst, _∙_}
+use Prim.Native.Nat.{ℕ, _+_, _*_, _^_, _≤_}
+use mathlib.Core.Path.{_≡_, sym, ap, _∙_}
 use mathlib.Core.List.{List}
 use native.Mathlib.Omega.{arith}
-use native.Mathlib.Nat.{add-zero}
-use lib.ListN.{length, take, drop}
 use lib.Pow.{pow-mono}
 use denote.Ref.{now}
 use Rattle.ground.specs.Lists.{byte}
 use Rattle.hash.specs.Fnv.{fnv}
-use Rattle.page.specs.Page.{BucketPage, depth, code}
+use Rattle.page.specs.Page.{depth, code}
 use Rattle.partition.specs.Bits.{top}
 use Rattle.partition.specs.Partition.{first, after}
 use Rattle.store.specs.Pages.{S1024, page}
-use Rattle.change.proofs.Directories.{page-byte, lent-page, named-page, unnamed-page}
+use Rattle.store.proofs.Depths.{page-byte, kind-byte}
+use Rattle.store.proofs.Views.{page-lent}
+use Rattle.change.proofs.Directories.{named-page, unnamed-page}
 use Rattle.change.proofs.directory.name_page.Statement.{statement}
 use Rattle.change.proofs.directory.name_page.Tie as tie
 
@@ -27,7 +27,7 @@ module _ (c : tie.Start) where
   p = c .args .p
 
   kind : byte (page S1024 s p) 0 ≡ byte s (p * 1024)
-  kind = page-byte s p 0 (omega arith) ∙ ap (byte s) (add-zero (p * 1024))
+  kind = kind-byte s p
 
   deep : depth (page S1024 s p) ≡ byte s (p * 1024 + 1)
   deep = page-byte s p 1 (omega arith)
@@ -50,20 +50,21 @@ slice-read-k c = search needs
 cast-k : tie.Need-cast-k
 cast-k c = let a = c .before .before .before .before .args in omega (arith, c .slice-known3 .given (a .p * 1024 + 1))
 
-sub-first-hash : tie.Need-sub-first-hash
-sub-first-hash c = search needs
+sub-hash-slot : tie.Need-sub-hash-slot
+sub-hash-slot c = search needs
 
-part-first-hash-start : tie.Need-part-first-hash-start
-part-first-hash-start c = search needs
+part-hash-slot-start : tie.Need-part-hash-slot-start
+part-hash-slot-start c = search needs
 
-part-first-hash-end : tie.Need-part-first-hash-end
-part-first-hash-end c = search needs
+part-hash-slot-end : tie.Need-part-hash-slot-end
+part-hash-slot-end c = search needs
 
-first-hash-requires : tie.Need-first-hash-requires
-first-hash-requires c κs =
+hash-slot-requires : tie.Need-hash-slot-requires
+hash-slot-requires c κs =
     let z = c .before .before .before .before .before .before in
     let t = c .before .before .before .if1 .taken in
-    rw (lent-page (s z) (p z)) (z .pre .4 .rules (kind z ∙ t))
+    let b = z .pre .4 .rules (kind z ∙ t) in
+    rw (page-lent (s z) (p z)) (b, b .some)
 
 run-of-requires : tie.Need-run-of-requires
 run-of-requires c κs =
@@ -85,9 +86,9 @@ returns : tie.Need-returns
 returns c =
     let z = c .before .before .before .before .before .before .before .before .before .before .before .before in
     let t = c .before .before .before .before .before .before .before .before .before .if1 .taken in
-    let f = c .before .before .before .before .before .first-hash .ensures in
+    let f = c .before .before .before .before .before .hash-slot .ensures in
     let e = c .before .before .before .before .run-of .ensures in
-    let x = f ∙ ap (λ g. fnv (code g 0)) (lent-page (s z) (p z)) in
+    let x = f ∙ ap (λ g. fnv (code g 0)) (page-lent (s z) (p z)) in
     named-page fnv (s z) (z .args .d) (p z) (z .pre .3) (c .before .before .set-run .last .0) (c .before .before .before .before .run-of .result .from) (c .before .before .before .before .run-of .result .to)
     (kind z ∙ t)
     (e .0 ∙ sym (λ i. first (z .args .d) (record { bits = deep z i; value = top (deep z i) (sym x i) })))
@@ -109,10 +110,10 @@ name-page-spec =
     add-k
     slice-read-k
     cast-k
-    sub-first-hash
-    part-first-hash-start
-    part-first-hash-end
-    first-hash-requires
+    sub-hash-slot
+    part-hash-slot-start
+    part-hash-slot-end
+    hash-slot-requires
     run-of-requires
     set-run-requires
     same-length

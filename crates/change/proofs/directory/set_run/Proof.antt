@@ -1,10 +1,10 @@
+-- `change::set_run` meets its contract: entry after entry. Assumes nothing.
 use Rattle.change.proofs.Directories.{run-none, run-more}
 use Rattle.change.specs.Directory.{RunSet}
 use lib.ListN.{length}
 use native.Mathlib.Omega.{arith}
-use mathlib.Core.Logic.{⊎-elim}
-use mathlib.Core.Path.{_≡_, refl, ap, _∙_}
-use Prim.Native.Nat.{ℕ, _+_, _*_, _-_, _≤_, _<_}
+use mathlib.Core.Path.{_≡_, refl, _∙_}
+use Prim.Native.Nat.{_-_, _≤_}
 use Rattle.change.proofs.directory.set_run.Statement.{statement}
 use Rattle.change.proofs.directory.set_run.Tie as tie
 

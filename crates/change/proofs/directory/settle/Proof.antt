@@ -1,6 +1,6 @@
 -- `change::settle` meets its contract. Assumes nothing.
 use borrow.Author.Needs.{needs}
-use mathlib.Core.Path.{_≡_, sym, subst}
+use mathlib.Core.Path.{sym, subst}
 use denote.Ref.{now}
 use Rattle.hash.specs.Fnv.{fnv}
 use Rattle.change.specs.Directory.{Directable, Directed}

@@ -5,11 +5,11 @@ use Rattle.store.specs.Pages.{S1024, page}
 use Rattle.hash.specs.Fnv.{fnv}
 use lib.ListN.{length}
 use native.Mathlib.Omega.{arith}
-use mathlib.Core.Path.{_≡_, refl, sym, subst, _∙_}
+use mathlib.Core.Path.{_≡_, sym, subst, _∙_}
 use mathlib.Core.List.{List}
 use denote.Ref.{now}
 use Rattle.words.specs.Moves.{Put32, Cleared}
-use Prim.Native.Nat.{ℕ, _+_, _*_, _-_, _≤_, _<_}
+use Prim.Native.Nat.{ℕ, _*_, _-_, _≤_, _<_}
 use borrow.Author.Needs.{needs}
 use Rattle.change.proofs.directory.write_directory.Statement.{statement}
 use Rattle.change.proofs.directory.write_directory.Tie as tie

@@ -6,7 +6,6 @@ use native.Mathlib.Omega.{arith}
 use denote.Ref.{now}
 use lib.Pow.{pow-mono, pow-pos}
 use Rattle.ground.specs.Lists.{byte}
-use Rattle.words.specs.Le.{le16}
 use Rattle.hash.specs.Fnv.{fnv, fnv-lt}
 use Rattle.partition.specs.Bits.{top}
 use Rattle.partition.specs.Partition.{first, after}

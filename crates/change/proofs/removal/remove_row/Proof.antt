@@ -1,12 +1,13 @@
 -- `change::remove_row` meets its contract: the row is found and taken out, or there is none. Assumes nothing.
 use borrow.Author.Needs.{needs}
-use mathlib.Core.Option.{some, none}
+use mathlib.Core.Option.{some}
 use mathlib.Core.Logic.{inl, inr}
 use mathlib.Core.List.{List}
-use mathlib.Core.Path.{_≡_, refl, sym, ap, subst, _∙_}
+use mathlib.Core.Path.{_≡_, refl, ap, subst, _∙_}
 use Prim.Native.Nat.{ℕ}
 use native.Mathlib.Omega.{arith}
 use denote.Ref.{now}
+use Rattle.ground.proofs.Tests.{none-some}
 use Rattle.hash.specs.Fnv.{fnv}
 use Rattle.page.specs.Places as Places
 use Rattle.page.specs.Page.{code, place}
@@ -81,7 +82,7 @@ same-length c = search needs
 returns : tie.Need-returns
 returns c = let z = c .before .before .before .before .before .before in
     let w = subst (λ (r : Spot). Stands (now (z .args .s)) (now (z .args .key)) r) (c .enum-told .given .1) (c .before .before .find-row .ensures) in
-    inr ((λ old e. let q : none ≡ some old = sym w ∙ e in let y : _≡_ {A = ℕ} 0 1 = cc in omega arith), refl)
+    inr ((λ _. none-some w), refl)
 
 same-length-2 : tie.Need-same-length-2
 same-length-2 c = search needs

@@ -25,7 +25,7 @@ use Rattle.change.specs.Directory.{Sound, free, used, Settling, Directed
 use Rattle.change.specs.Split.{Rewritten}
 use Rattle.change.proofs.Settles.{unwritten, settling}
 use Rattle.change.proofs.Removes.{its-bucket, climbed-fits, loses, settles, clear-written, clear-holds, joinable, join-written, join-holds}
-use Rattle.change.proofs.Directories.{page-byte}
+use Rattle.store.proofs.Depths.{page-byte}
 use Rattle.change.proofs.OnePage.{lent, back}
 use Rattle.change.proofs.removal.take_out.Statement.{statement}
 use Rattle.change.proofs.removal.take_out.Tie as tie

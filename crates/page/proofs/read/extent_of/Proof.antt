@@ -1,3 +1,4 @@
+-- `page::extent_of` meets its contract. Assumes nothing.
 use Rattle.page.specs.Page.{off, len, word}
 use borrow.Author.Needs.{needs}
 use Rattle.page.proofs.read.extent_of.Statement.{statement}

@@ -13,10 +13,11 @@ use Rattle.hash.specs.Fnv.{fnv}
 use Rattle.partition.specs.Bits.{top}
 use Rattle.page.specs.Page.{depth, code, count}
 use Rattle.store.specs.Accepted.{Stands}
-use Rattle.store.specs.Pages.{S1024, page}
+use Rattle.store.specs.Pages.{S1024}
+use Rattle.store.proofs.Views.{page-lent}
 use Rattle.reading.specs.Directory.{Named}
 use Rattle.reading.specs.Begun.{Free, Own}
-use Rattle.reading.proofs.Standing.{prefixOf, ends-bad, ends-fine, seen, Like, free-stands, used-stands, stands-free, stands-own, stands-like, stands-named}
+use Rattle.reading.proofs.Standing.{prefixOf, ends-bad, ends-fine, Like, free-stands, used-stands, stands-free, stands-own, stands-like, stands-named}
 use Rattle.reading.proofs.pages.first_unsound.Statement.{statement}
 use Rattle.reading.proofs.pages.first_unsound.Tie as tie
 
@@ -105,7 +106,7 @@ pages-again c =
       omega arith,
       omega arith,
       below-more (λ q. 2 ≤ q → Stands S1024 fnv s q) _ (l .inv .3)
-          (λ _. free-stands s (a .args .dir .now) (a .args .n) (a .args .d) (l .p) (a .pre) g (seen s (l .p))
+          (λ _. free-stands s (a .args .dir .now) (a .args .n) (a .args .d) (l .p) (a .pre) g (page-lent s (l .p))
           (says-true {P = Free g (a .args .dir .now) (l .p)} (c .before .free-ok .result) (not-false _ (c .if3 .left)) (c .before .free-ok .ensures))),
     )
 
@@ -180,7 +181,7 @@ pages-again-2 c =
       omega arith,
       omega arith,
       below-more (λ q. 2 ≤ q → Stands S1024 fnv s q) _ (l .inv .3)
-          (λ _. used-stands s (a .args .dir .now) (a .args .n) (a .args .d) (l .p) (a .pre) (pg-of x) (seen s (l .p)) (own x)
+          (λ _. used-stands s (a .args .dir .now) (a .args .n) (a .args .d) (l .p) (a .pre) (pg-of x) (page-lent s (l .p)) (own x)
           (λ i m. c .before .before .before .slots .inv .2 i (omega (arith, c .before .before .slots-test .left, c .before .before .before .before .get16 .ensures .0)))
           (says-true {P = Named (a .args .dir .now) (a .args .d) (depth (pg-of x)) (prefixOf (pg-of x)) (l .p)} (c .before .named .result) (not-false _ (c .if6 .left)) (name-said (c .before)))),
     )
@@ -196,7 +197,7 @@ returns-2 c =
     let g = take (l .p * 1024 + 1024 - l .p * 1024) (drop (l .p * 1024) s) in
     ends-bad _ _ (l .p) (l .inv .1) (l .inv .2) (l .inv .3)
     (λ st. says-false {P = Free g (a .args .dir .now) (l .p)} (c .before .free-ok .result) (not-true _ (c .if3 .taken)) (c .before .free-ok .ensures)
-    (stands-free s (a .args .dir .now) (a .args .n) (a .args .d) (l .p) (a .pre) g (seen s (l .p)) (c .before .before .if2 .taken) st))
+    (stands-free s (a .args .dir .now) (a .args .n) (a .args .d) (l .p) (a .pre) g (page-lent s (l .p)) (c .before .before .if2 .taken) st))
 
 returns-3 : tie.Need-returns-3 Inv-slots μ-slots Inv-pages μ-pages
 returns-3 c =
@@ -206,7 +207,7 @@ returns-3 c =
     let g = take (l .p * 1024 + 1024 - l .p * 1024) (drop (l .p * 1024) s) in
     ends-bad _ _ (l .p) (l .inv .1) (l .inv .2) (l .inv .3)
     (λ st. says-false {P = Own g (a .args .d)} (c .before .before .own-ok .result) (not-true _ (c .if4 .taken)) (c .before .before .own-ok .ensures)
-    (stands-own s (a .args .dir .now) (a .args .n) (a .args .d) (l .p) (a .pre) g (seen s (l .p)) (c .before .before .before .before .if2 .left) st))
+    (stands-own s (a .args .dir .now) (a .args .n) (a .args .d) (l .p) (a .pre) g (page-lent s (l .p)) (c .before .before .before .before .if2 .left) st))
 
 returns-4 : tie.Need-returns-4 Inv-slots μ-slots Inv-pages μ-pages
 returns-4 c =
@@ -216,7 +217,7 @@ returns-4 c =
     let s = a .args .s .now in
     ends-bad _ _ (l .p) (l .inv .1) (l .inv .2) (l .inv .3)
     (λ st. says-false {P = Like (pg-of x) (c .before .before .before .before .slots .i)} (c .before .shares .result) (not-true _ (c .if5 .taken)) (slot-said (c .before))
-    (stands-like s (a .args .dir .now) (a .args .n) (a .args .d) (l .p) (a .pre) (pg-of x) (seen s (l .p)) (x .before .before .before .before .if2 .left) st (c .before .before .before .before .slots .i)
+    (stands-like s (a .args .dir .now) (a .args .n) (a .args .d) (l .p) (a .pre) (pg-of x) (page-lent s (l .p)) (x .before .before .before .before .if2 .left) st (c .before .before .before .before .slots .i)
     (omega (arith, c .before .before .before .before .before .get16 .ensures .0))))
 
 returns-5 : tie.Need-returns-5 Inv-slots μ-slots Inv-pages μ-pages
@@ -227,7 +228,7 @@ returns-5 c =
     let s = a .args .s .now in
     ends-bad _ _ (l .p) (l .inv .1) (l .inv .2) (l .inv .3)
     (λ st. says-false {P = Named (a .args .dir .now) (a .args .d) (depth (pg-of x)) (prefixOf (pg-of x)) (l .p)} (c .before .named .result) (not-true _ (c .if6 .taken)) (name-said (c .before))
-    (stands-named s (a .args .dir .now) (a .args .n) (a .args .d) (l .p) (a .pre) (pg-of x) (seen s (l .p)) (x .before .before .before .before .if2 .left) st))
+    (stands-named s (a .args .dir .now) (a .args .n) (a .args .d) (l .p) (a .pre) (pg-of x) (page-lent s (l .p)) (x .before .before .before .before .if2 .left) st))
 
 pub first-unsound-spec : {M : Type 1} → statement M
 first-unsound-spec =

@@ -4,8 +4,8 @@ use mathlib.Core.Path.{sym, subst, _∙_}
 use Prim.Native.Nat.{_≤_, _-_}
 use native.Mathlib.Omega.{arith}
 use Rattle.store.specs.Pages.{S1024, page}
+use Rattle.store.proofs.Views.{page-lent}
 use Rattle.reading.proofs.Parting.{legible}
-use Rattle.reading.proofs.Standing.{seen}
 use Rattle.reading.proofs.Fills.{Filled, filled-none, filled-more}
 use Rattle.reading.specs.Digest.{TopOf, LoadOf}
 use Rattle.reading.proofs.parted.digest.Statement.{statement}
@@ -65,8 +65,8 @@ loop-again c =
     let l = c .before .before .before .before .loop in
     let s = a .args .s .now in (
       omega arith,
-      filled-more _ (l .inv .1) (omega (arith, a .pre .0 .most)) (subst (λ g. TopOf g (c .before .page-top .result)) (seen s (l .p)) (c .before .page-top .ensures)),
-      filled-more _ (l .inv .2) (omega (arith, a .pre .0 .most)) (subst (λ g. LoadOf g (c .page-load .result)) (seen s (l .p)) (c .page-load .ensures)),
+      filled-more _ (l .inv .1) (omega (arith, a .pre .0 .most)) (subst (λ g. TopOf g (c .before .page-top .result)) (page-lent s (l .p)) (c .before .page-top .ensures)),
+      filled-more _ (l .inv .2) (omega (arith, a .pre .0 .most)) (subst (λ g. LoadOf g (c .page-load .result)) (page-lent s (l .p)) (c .page-load .ensures)),
     )
 
 same-length : tie.Need-same-length Inv-loop μ-loop
