@@ -1,0 +1,5 @@
+pub mod Values
+pub mod Signs
+pub mod Spelling
+pub mod Phrases
+pub mod Adding
