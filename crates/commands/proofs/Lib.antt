@@ -3,3 +3,4 @@ pub mod Signs
 pub mod Spelling
 pub mod Phrases
 pub mod Adding
+pub mod Shown

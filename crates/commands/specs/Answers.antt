@@ -17,21 +17,27 @@ pub record Adds (P : List ℕ → Type 0) (p : List ℕ) (at : ℕ) (q : List �
   pub text : take r q ≡ take at p ++ words
   pub long : length q ≡ length p
 
+-- "refused"
 abbrev pub refusedWord : List ℕ
 refusedWord = 114 ∷ 101 ∷ 102 ∷ 117 ∷ 115 ∷ 101 ∷ 100 ∷ []
 
+-- "page"
 abbrev pub pageWord : List ℕ
 pageWord = 112 ∷ 97 ∷ 103 ∷ 101 ∷ []
 
+-- "replaced"
 abbrev pub replacedWord : List ℕ
 replacedWord = 114 ∷ 101 ∷ 112 ∷ 108 ∷ 97 ∷ 99 ∷ 101 ∷ 100 ∷ []
 
+-- "ok"
 abbrev pub okWord : List ℕ
 okWord = 111 ∷ 107 ∷ []
 
+-- "accepted"
 abbrev pub acceptedWord : List ℕ
 acceptedWord = 97 ∷ 99 ∷ 99 ∷ 101 ∷ 112 ∷ 116 ∷ 101 ∷ 100 ∷ []
 
+-- "new"
 abbrev pub newWord : List ℕ
 newWord = 110 ∷ 101 ∷ 119 ∷ []
 

@@ -35,6 +35,7 @@ pub record Placed (D : ℕ → List ℕ → Type 0) (p : Place) (w : List ℕ) :
   pub is-slot : Integer D (p .slot) slot
   pub is-volume : Integer D (p .volume) volume
 
+-- a text is read as a place, or as none
 abbrev pub Places : List ℕ → Spot → Type 0
 Places w (At p) = Placed Decimal p w
 Places w Nowhere = Unit {0}
@@ -45,30 +46,39 @@ pub record Putting (k : List ℕ) (n : ℕ) (p : Place) (w : List ℕ) : Type 0 
   pub after : After w code (Placed Decimal p)
   pub coded : Coded code k n
 
+-- "format"
 abbrev pub formatWord : List ℕ
 formatWord = 102 ∷ 111 ∷ 114 ∷ 109 ∷ 97 ∷ 116 ∷ []
 
+-- "put"
 abbrev pub putWord : List ℕ
 putWord = 112 ∷ 117 ∷ 116 ∷ []
 
+-- "lookup"
 abbrev pub lookupWord : List ℕ
 lookupWord = 108 ∷ 111 ∷ 111 ∷ 107 ∷ 117 ∷ 112 ∷ []
 
+-- "remove"
 abbrev pub removeWord : List ℕ
 removeWord = 114 ∷ 101 ∷ 109 ∷ 111 ∷ 118 ∷ 101 ∷ []
 
+-- "count"
 abbrev pub countWord : List ℕ
 countWord = 99 ∷ 111 ∷ 117 ∷ 110 ∷ 116 ∷ []
 
+-- "row"
 abbrev pub rowWord : List ℕ
 rowWord = 114 ∷ 111 ∷ 119 ∷ []
 
+-- "list"
 abbrev pub listWord : List ℕ
 listWord = 108 ∷ 105 ∷ 115 ∷ 116 ∷ []
 
+-- "check"
 abbrev pub checkWord : List ℕ
 checkWord = 99 ∷ 104 ∷ 101 ∷ 99 ∷ 107 ∷ []
 
+-- "inspect"
 abbrev pub inspectWord : List ℕ
 inspectWord = 105 ∷ 110 ∷ 115 ∷ 112 ∷ 101 ∷ 99 ∷ 116 ∷ []
 

@@ -1,7 +1,6 @@
 // Answers as lines of text, put together in a buffer.
 ghost use mathlib.Core.Path.{_≡_};
-ghost use mathlib.Core.List.{List, _∷_, _++_};
-ghost use Prim.Native.Nat.{ℕ, _+_, _*_, _≤_, _<_};
+ghost use Prim.Native.Nat.{_+_, _*_, _≤_, _<_};
 ghost use lib.ListN.{length, take};
 ghost use lib.IntN.{pos};
 ghost use lib.Signed.{ltZ, mag};

@@ -6,11 +6,7 @@ mod numbers;
 
 pub use answers::answer_line;
 pub use answers::number_line;
-pub use codes::decode;
 pub use lines::parse;
-pub use lines::read_place;
-pub use numbers::read_number;
-pub use numbers::read_signed;
 use page::Place;
 
 // What a line asks. The code of a put, a lookup or a remove stands in the buffer that was lent; here is its length.
@@ -28,12 +24,12 @@ pub enum Command {
     Inspect(usize),
 }
 
-pub enum Number {
+enum Number {
     Is(usize),
     Not,
 }
 
-pub enum Signed {
+enum Signed {
     Of(i64),
     Other,
 }
@@ -45,12 +41,12 @@ struct Glyph {
 }
 
 // The length of a code, or no code.
-pub enum Decoded {
+enum Decoded {
     Code(usize),
     Wrong,
 }
 
-pub enum Spot {
+enum Spot {
     At(Place),
     Nowhere,
 }
