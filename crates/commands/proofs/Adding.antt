@@ -1,5 +1,5 @@
 -- Texts that are put together piece by piece. Assumes nothing.
-use Prim.Native.Nat.{ℕ, _+_, _-_, _/_, _%_, _^_, _≤_, _<_}
+use Prim.Native.Nat.{ℕ, zero, suc, _+_, _-_, _/_, _%_, _^_, _≤_, _<_}
 use mathlib.Core.Path.{_≡_, refl, sym, ap, _∙_, subst}
 use mathlib.Core.Bool.{Bool, true, false, cond}
 use mathlib.Core.List.{List, [], _∷_, _++_, append-assoc, append-nil}
@@ -8,7 +8,7 @@ use native.Mathlib.Nat.{pow-le-pow-right}
 use native.Mathlib.Numerals.{add-one}
 use native.Mathlib.Omega.{arith}
 use lib.Dec.{ltb, eqb}
-use lib.IntN.{ℤ, pos}
+use lib.IntN.{ℤ, pos, natAbs}
 use lib.Signed.{ltZ}
 use lib.ListN.{length, take, drop, length-append}
 use lib.Seq.{take-add, take-suc}
@@ -21,7 +21,7 @@ use Rattle.io.specs.Digits.{digits, Fewest}
 use Rattle.store.specs.declared.Answer.{Answer}
 use Rattle.store.specs.Tables.{meaning}
 use Rattle.page.specs.declared.Place.{Place}
-use Rattle.commands.specs.Numbers.{Numeral, Integer, signed}
+use Rattle.commands.specs.Numbers.{Numeral, Shortest, signed}
 use Rattle.commands.specs.Codes.{upper, escape, glyphs, shown}
 use Rattle.commands.specs.Lines.{After, Placed}
 use Rattle.commands.specs.Answers.{Adds, Lines, Paged, Rowed, Shows, refusedWord, pageWord}
@@ -111,31 +111,39 @@ small n k h f = ⊎-elim
     (λ (l : k ≤ 20). l)
     (side 20 k)
 
--- a number with - before it, or without
-pub minus-text : (z : ℤ) (n : ℕ) (t v : List ℕ) → z ≡ signed (ltZ z (pos 0)) n → ltZ z (pos 0) ≡ true → t ≡ 45 ∷ [] → Numeral n v → Integer Numeral z (t ++ v)
-minus-text z n t v e l f k = record { minus = true; digits = v; size = n; text = rw f; sized = k; is = rw l at e }
+abs-signed : (b : Bool) (n : ℕ) → natAbs (signed b n) ≡ n
+abs-signed false n = refl
+abs-signed true zero = refl
+abs-signed true (suc n) = refl
 
-pub plain-text : (z : ℤ) (n : ℕ) (v : List ℕ) → z ≡ signed (ltZ z (pos 0)) n → ltZ z (pos 0) ≡ false → Numeral n v → Integer Numeral z v
-plain-text z n v e l k = record { minus = false; digits = v; size = n; text = refl; sized = k; is = rw l at e }
+sized : (z : ℤ) (n : ℕ) → z ≡ signed (ltZ z (pos 0)) n → n ≡ natAbs z
+sized z n e = sym (ap natAbs e ∙ abs-signed (ltZ z (pos 0)) n)
+
+-- a number with - before it, or without
+pub minus-text : (z : ℤ) (n : ℕ) (t v : List ℕ) → z ≡ signed (ltZ z (pos 0)) n → ltZ z (pos 0) ≡ true → t ≡ 45 ∷ [] → Numeral n v → Shortest z (t ++ v)
+minus-text z n t v e l f k = record { digits = v; text = rw (l, f); sized = subst (λ (m : ℕ). Numeral m v) (sized z n e) k }
+
+pub plain-text : (z : ℤ) (n : ℕ) (v : List ℕ) → z ≡ signed (ltZ z (pos 0)) n → ltZ z (pos 0) ≡ false → Numeral n v → Shortest z v
+plain-text z n v e l k = record { digits = v; text = rw l; sized = subst (λ (m : ℕ). Numeral m v) (sized z n e) k }
 
 -- a place: three numbers, a space between each two
 abbrev Slots : Place → List ℕ → Type 0
-Slots p t = (s : List ℕ) × ((v : List ℕ) × ((t ≡ s ++ (32 ∷ v)) × Integer Numeral (p .slot) s × Integer Numeral (p .volume) v))
+Slots p t = (s : List ℕ) × ((v : List ℕ) × ((t ≡ s ++ (32 ∷ v)) × Shortest (p .slot) s × Shortest (p .volume) v))
 
-pub place-text : (p : Place) {o a b c d e : List ℕ} {i j k l m n : ℕ} → Adds (Integer Numeral (p .page)) o i a j → Adds (λ t. t ≡ 32 ∷ []) a j b k → Adds (Integer Numeral (p .slot)) b k c l
-    → Adds (λ t. t ≡ 32 ∷ []) c l d m → Adds (Integer Numeral (p .volume)) d m e n → Adds (Placed Numeral p) o i e n
+pub place-text : (p : Place) {o a b c d e : List ℕ} {i j k l m n : ℕ} → Adds (Shortest (p .page)) o i a j → Adds (λ t. t ≡ 32 ∷ []) a j b k → Adds (Shortest (p .slot)) b k c l
+    → Adds (λ t. t ≡ 32 ∷ []) c l d m → Adds (Shortest (p .volume)) d m e n → Adds (Placed Shortest p) o i e n
 place-text p {o} {a} {b} {c} {d} {e} {i} {j} {k} {l} {m} {n} x u y v z =
-    let last : Adds (λ t. (w : List ℕ) × ((t ≡ 32 ∷ w) × Integer Numeral (p .volume) w)) c l e n = then _ v z (λ s t f g. (t, (rw f, g))) in
+    let last : Adds (λ t. (w : List ℕ) × ((t ≡ 32 ∷ w) × Shortest (p .volume) w)) c l e n = then _ v z (λ s t f g. (t, (rw f, g))) in
     let two : Adds (Slots p) b k e n = then (Slots p) y last (λ s t f g. (s, (g .0, (rw (g .1 .0), f, g .1 .1)))) in
     let rest : Adds (λ t. (w : List ℕ) × ((t ≡ 32 ∷ w) × Slots p w)) a j e n = then _ u two (λ s t f g. (t, (rw f, g))) in
-    then (Placed Numeral p) x rest
+    then (Placed Shortest p) x rest
     (λ s t f g.
     let h = g .1 .1 in
     record { page = s; slot = h .0; volume = h .1 .0; text = rw (g .1 .0, h .1 .1 .0); is-page = f; is-slot = h .1 .1 .1; is-volume = h .1 .1 .2 })
 
-pub row-adds : (code : List ℕ) (p : Place) {o a b c : List ℕ} {i j k l : ℕ} → Adds (λ t. t ≡ shown code) o i a j → Adds (λ t. t ≡ 32 ∷ []) a j b k → Adds (Placed Numeral p) b k c l → Adds (Rowed code p) o i c l
+pub row-adds : (code : List ℕ) (p : Place) {o a b c : List ℕ} {i j k l : ℕ} → Adds (λ t. t ≡ shown code) o i a j → Adds (λ t. t ≡ 32 ∷ []) a j b k → Adds (Placed Shortest p) b k c l → Adds (Rowed code p) o i c l
 row-adds code p {o} {a} {b} {c} {i} {j} {k} {l} x s y =
-    let rest : Adds (λ t. (w : List ℕ) × ((t ≡ 32 ∷ w) × Placed Numeral p w)) a j c l = then _ s y (λ t v f g. (v, (rw f, g))) in
+    let rest : Adds (λ t. (w : List ℕ) × ((t ≡ 32 ∷ w) × Placed Shortest p w)) a j c l = then _ s y (λ t v f g. (v, (rw f, g))) in
     then (Rowed code p) x rest (λ t v e g. record { rest = g .0; line = rw (e, g .1 .0); says = g .1 .1 })
 
 pub page-adds : (n p : ℕ) {o a b c : List ℕ} {i j k l : ℕ} → Adds (λ t. After t refusedWord (Numeral n)) o i a j → Adds (λ t. t ≡ 32 ∷ pageWord ++ (32 ∷ [])) a j b k → Adds (Numeral p) b k c l

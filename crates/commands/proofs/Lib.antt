@@ -4,3 +4,4 @@ pub mod Spelling
 pub mod Phrases
 pub mod Adding
 pub mod Shown
+pub mod Settled

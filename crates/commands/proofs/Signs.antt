@@ -78,7 +78,7 @@ module _ (w : Width) (v : List ℕ) (z : ℤ) (most : ℕ) (small : most < 2 ^ 6
   pub part-size : mag (toZ w64 (ofZ w64 z)) ≤ most
   part-size = rw back (d .1)
 
-  pub part-is : (r : ℤ) → most < 2 ^ hbits w → r ≡ toZ w64 (ofZ w64 z) → Integer Decimal (toZ w (ofZ w r)) v
+  pub part-is : (r : ℤ) → most < 2 ^ hbits w → r ≡ toZ w64 (ofZ w64 z) → Integer (toZ w (ofZ w r)) v
   part-is r l e =
       let k : r ≡ z = e ∙ back in
       let h : mag z ≤ most = d .1 in
@@ -139,5 +139,5 @@ module _ (z : ℤ) (h : mag z < 2147483648) where
     keep-is = from-zero z is-from ∙ sym (rw (whole, is-from) (ap pos (ap natAbs (from-zero z is-from))))
 
 -- a part of a place that is shown
-pub part-text : (D : ℕ → List ℕ → Type 0) (w : Width) (x r : ℤ) (t : List ℕ) → SFits w x → mag r < 2147483648 → r ≡ toZ w (ofZ w x) → Integer D (toZ w64 (ofZ w64 r)) t → Integer D x t
-part-text D w x r t f h e k = subst (λ (y : ℤ). Integer D y t) (whole r h ∙ e ∙ toZ-ofZ f) k
+pub part-text : (D : ℤ → List ℕ → Type 0) (w : Width) (x r : ℤ) (t : List ℕ) → SFits w x → mag r < 2147483648 → r ≡ toZ w (ofZ w x) → D (toZ w64 (ofZ w64 r)) t → D x t
+part-text D w x r t f h e k = subst (λ (y : ℤ). D y t) (whole r h ∙ e ∙ toZ-ofZ f) k

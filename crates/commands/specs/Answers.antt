@@ -5,7 +5,7 @@ use mathlib.Core.List.{List, [], _∷_, _++_}
 use lib.ListN.{length, take}
 use Rattle.page.specs.declared.Place.{Place}
 use Rattle.store.specs.Tables.{Out, refused, refusedAt, formatted, accepted, new, replaced, found, counted, row}
-use Rattle.commands.specs.Numbers.{Numeral}
+use Rattle.commands.specs.Numbers.{Numeral, Shortest}
 use Rattle.commands.specs.Codes.{shown}
 use Rattle.commands.specs.Lines.{After, Placed}
 
@@ -47,7 +47,7 @@ Paged n p t = (w : List ℕ) × (Numeral n w × After t w (λ v. After v pageWor
 
 -- a row: its code and its place
 abbrev pub Rowed : List ℕ → Place → List ℕ → Type 0
-Rowed c p t = After t (shown c) (Placed Numeral p)
+Rowed c p t = After t (shown c) (Placed Shortest p)
 
 -- what an answer means, as text; a row's code begins the buffer k
 abbrev pub Shows : List ℕ → Out → List ℕ → Type 0
@@ -56,8 +56,8 @@ Shows k (refusedAt n p) t = After t refusedWord (Paged n p)
 Shows k formatted t = t ≡ okWord
 Shows k accepted t = t ≡ acceptedWord
 Shows k new t = t ≡ newWord
-Shows k (replaced p) t = After t replacedWord (Placed Numeral p)
-Shows k (found p) t = Placed Numeral p t
+Shows k (replaced p) t = After t replacedWord (Placed Shortest p)
+Shows k (found p) t = Placed Shortest p t
 Shows k (counted n) t = Numeral n t
 Shows k (row n p) t = n ≤ length k → Rowed (take n k) p t
 

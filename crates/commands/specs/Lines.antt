@@ -4,6 +4,7 @@ use mathlib.Core.Path.{_≡_}
 use mathlib.Core.Logic.{_⊎_}
 use mathlib.Core.List.{List, [], _∷_, _++_}
 use lib.ListN.{length}
+use lib.IntN.{ℤ}
 use Rattle.ground.specs.Lists.{byte}
 use Rattle.page.specs.declared.Place.{Place}
 use Rattle.commands.specs.Numbers.{Decimal, Integer}
@@ -26,24 +27,24 @@ pub record After (l word : List ℕ) (P : List ℕ → Type 0) : Type 0 where
   pub says : P rest
 
 -- w is the three parts of a place, a space between each two
-pub record Placed (D : ℕ → List ℕ → Type 0) (p : Place) (w : List ℕ) : Type 0 where
+pub record Placed (D : ℤ → List ℕ → Type 0) (p : Place) (w : List ℕ) : Type 0 where
   pub page : List ℕ
   pub slot : List ℕ
   pub volume : List ℕ
   pub text : w ≡ page ++ (32 ∷ (slot ++ (32 ∷ volume)))
-  pub is-page : Integer D (p .page) page
-  pub is-slot : Integer D (p .slot) slot
-  pub is-volume : Integer D (p .volume) volume
+  pub is-page : D (p .page) page
+  pub is-slot : D (p .slot) slot
+  pub is-volume : D (p .volume) volume
 
 -- a text is read as a place, or as none
 abbrev pub Places : List ℕ → Spot → Type 0
-Places w (At p) = Placed Decimal p w
+Places w (At p) = Placed Integer p w
 Places w Nowhere = Unit {0}
 
 -- w is a code, the first n bytes of k, and a place
 pub record Putting (k : List ℕ) (n : ℕ) (p : Place) (w : List ℕ) : Type 0 where
   pub code : List ℕ
-  pub after : After w code (Placed Decimal p)
+  pub after : After w code (Placed Integer p)
   pub coded : Coded code k n
 
 -- "format"

@@ -4,8 +4,8 @@ use mathlib.Core.Path.{_≡_}
 use mathlib.Core.Bool.{Bool, true, false}
 use mathlib.Core.List.{List, _∷_}
 use lib.ListN.{length}
-use lib.IntN.{ℤ, pos, negℤ}
-use lib.Signed.{mag}
+use lib.IntN.{ℤ, pos, negℤ, natAbs}
+use lib.Signed.{mag, ltZ}
 use Rattle.ground.specs.Lists.{byte}
 use Rattle.io.specs.Digits.{digits, Fewest}
 use Rattle.commands.specs.declared.Number.{Number}
@@ -54,16 +54,22 @@ abbrev pub marked : Bool → List ℕ → List ℕ
 marked false w = w
 marked true w = 45 ∷ w
 
--- w is z, its size written as D says
-pub record Integer (D : ℕ → List ℕ → Type 0) (z : ℤ) (w : List ℕ) : Type 0 where
+-- w is z in plain decimal
+pub record Integer (z : ℤ) (w : List ℕ) : Type 0 where
   pub minus : Bool
   pub digits : List ℕ
   pub size : ℕ
   pub text : w ≡ marked minus digits
-  pub sized : D size digits
+  pub sized : Decimal size digits
   pub is : z ≡ signed minus size
+
+-- w is z in the fewest digits, with - before a negative one
+pub record Shortest (z : ℤ) (w : List ℕ) : Type 0 where
+  pub digits : List ℕ
+  pub text : w ≡ marked (ltZ z (pos 0)) digits
+  pub sized : Numeral (natAbs z) digits
 
 -- a word is read as a number from -most - 1 to most
 abbrev pub ReadsSigned : List ℕ → ℕ → Signed → Type 0
-ReadsSigned w most (Of z) = Integer Decimal z w × (mag z ≤ most)
+ReadsSigned w most (Of z) = Integer z w × (mag z ≤ most)
 ReadsSigned w most Other = Unit {0}

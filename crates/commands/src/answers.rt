@@ -8,7 +8,7 @@ ghost use Rattle.commands.specs.Answers.{Adds, Lines, Paged, Rowed, Show
 ghost use Rattle.store.specs.Tables.{meaning};
 ghost use Rattle.commands.specs.Codes.{escape, glyphs, shown, upper};
 ghost use Rattle.commands.specs.Lines.{After, Placed};
-ghost use Rattle.commands.specs.Numbers.{Integer, Numeral, signed};
+ghost use Rattle.commands.specs.Numbers.{Numeral, Shortest, signed};
 use page::Place;
 use store::Answer;
 
@@ -56,7 +56,7 @@ fn size_of(z: i64) -> u64
 
 fn add_signed(out: &mut [u8], at: usize, z: i64) -> usize
     requires { ⌜ (at + 21 ≤ length (now out)) × (mag z < 2147483648) ⌝ }
-    ensures { λ r. ⌜ Adds (Integer Numeral z) (now (out .entry)) at (now (out .exit)) r ⌝ }
+    ensures { λ r. ⌜ Adds (Shortest z) (now (out .entry)) at (now (out .exit)) r ⌝ }
     ensures { λ r. ⌜ r ≤ at + 21 ⌝ }
 {
     let n = size_of(z);
@@ -69,7 +69,7 @@ fn add_signed(out: &mut [u8], at: usize, z: i64) -> usize
 
 fn add_place(out: &mut [u8], at: usize, p: Place) -> usize
     requires { ⌜ at + 65 ≤ length (now out) ⌝ }
-    ensures { λ r. ⌜ Adds (Placed Numeral p) (now (out .entry)) at (now (out .exit)) r ⌝ }
+    ensures { λ r. ⌜ Adds (Placed Shortest p) (now (out .entry)) at (now (out .exit)) r ⌝ }
     ensures { λ r. ⌜ r ≤ at + 65 ⌝ }
 {
     let a = add_signed(out, at, wide32(p.page));
@@ -146,7 +146,7 @@ fn page_text(out: &mut [u8], p: usize) -> usize
 
 fn replaced_text(out: &mut [u8], p: Place) -> usize
     requires { ⌜ 127 ≤ length (now out) ⌝ }
-    ensures { λ r. ⌜ Adds (λ t. After t replacedWord (Placed Numeral p)) (now (out .entry)) 0 (now (out .exit)) r ⌝ }
+    ensures { λ r. ⌜ Adds (λ t. After t replacedWord (Placed Shortest p)) (now (out .entry)) 0 (now (out .exit)) r ⌝ }
     ensures { λ r. ⌜ r ≤ 127 ⌝ }
 {
     let n = add(out, 0, b"replaced ");

@@ -2,7 +2,7 @@
 use native.Mathlib.Omega.{arith}
 use mir.Syntax.{w16, w32}
 use borrow.Author.Needs.{needs}
-use Rattle.commands.specs.Numbers.{Numeral}
+use Rattle.commands.specs.Numbers.{Shortest}
 use Rattle.commands.proofs.Signs.{whole-size, part-text}
 use Rattle.commands.proofs.Adding.{said, place-text}
 use Rattle.commands.proofs.answers.add_place.Statement.{statement}
@@ -67,11 +67,11 @@ returns c =
     let w = x .before in
     let p = w .before .before .before .before .args .p in (
       place-text p
-          (said _ (λ t k. part-text Numeral w32 (p .page) (w .wide32 .result) t (record { sfits = w .before .struct-told .given .0 .1 }) (w .wide32 .ensures .1) (w .wide32 .ensures .0) k) (x .add-signed .ensures .0))
+          (said _ (λ t k. part-text Shortest w32 (p .page) (w .wide32 .result) t (record { sfits = w .before .struct-told .given .0 .1 }) (w .wide32 .ensures .1) (w .wide32 .ensures .0) k) (x .add-signed .ensures .0))
           (a .add .ensures .0)
-          (said _ (λ t k. part-text Numeral w16 (p .slot) (s .wide16 .result) t (record { sfits = s .before .struct-told2 .given .1 .0 .1 }) (s .wide16 .ensures .1) (s .wide16 .ensures .0) k) (y .add-signed2 .ensures .0))
+          (said _ (λ t k. part-text Shortest w16 (p .slot) (s .wide16 .result) t (record { sfits = s .before .struct-told2 .given .1 .0 .1 }) (s .wide16 .ensures .1) (s .wide16 .ensures .0) k) (y .add-signed2 .ensures .0))
           (b .add2 .ensures .0)
-          (said _ (λ t k. part-text Numeral w16 (p .volume) (v .wide162 .result) t (record { sfits = v .before .struct-told3 .given .1 .1 .0 .1 }) (v .wide162 .ensures .1) (v .wide162 .ensures .0) k) (z .add-signed3 .ensures .0)),
+          (said _ (λ t k. part-text Shortest w16 (p .volume) (v .wide162 .result) t (record { sfits = v .before .struct-told3 .given .1 .1 .0 .1 }) (v .wide162 .ensures .1) (v .wide162 .ensures .0) k) (z .add-signed3 .ensures .0)),
       omega (arith, x .add-signed .ensures .1, a .add .ensures .1, y .add-signed2 .ensures .1, b .add2 .ensures .1, z .add-signed3 .ensures .1),
     )
 
