@@ -1,0 +1,7 @@
+pub mod Values
+pub mod Signs
+pub mod Spelling
+pub mod Phrases
+pub mod Adding
+pub mod Shown
+pub mod Settled

@@ -1,0 +1,49 @@
+-- `commands::bare` meets its contract. Assumes nothing.
+use borrow.Author.Needs.{needs}
+use Rattle.commands.proofs.lines.bare.Statement.{statement}
+use Rattle.commands.proofs.lines.bare.Tie as tie
+
+slice-aggregate-same : tie.Need-slice-aggregate-same
+slice-aggregate-same c = search needs
+
+same-requires : tie.Need-same-requires
+same-requires c κs = search needs
+
+returns : tie.Need-returns
+returns c = λ k. c .before .same .ensures .0 (c .if1 .taken)
+
+slice-aggregate-same-2 : tie.Need-slice-aggregate-same-2
+slice-aggregate-same-2 c = search needs
+
+same-requires-2 : tie.Need-same-requires-2
+same-requires-2 c κs = search needs
+
+returns-2 : tie.Need-returns-2
+returns-2 c = λ k. c .before .same2 .ensures .0 (c .if2 .taken)
+
+slice-aggregate-same-3 : tie.Need-slice-aggregate-same-3
+slice-aggregate-same-3 c = search needs
+
+same-requires-3 : tie.Need-same-requires-3
+same-requires-3 c κs = search needs
+
+returns-3 : tie.Need-returns-3
+returns-3 c = λ k. c .before .same3 .ensures .0 (c .if3 .taken)
+
+returns-4 : tie.Need-returns-4
+returns-4 c = search needs
+
+pub bare-spec : {M : Type 1} → statement M
+bare-spec =
+    tie.close
+    (tie.spec
+    slice-aggregate-same
+    same-requires
+    returns
+    slice-aggregate-same-2
+    same-requires-2
+    returns-2
+    slice-aggregate-same-3
+    same-requires-3
+    returns-3
+    returns-4)

@@ -1,0 +1,74 @@
+-- `commands::numbered` meets its contract. Assumes nothing.
+use mathlib.Core.Path.{subst}
+use borrow.Author.Needs.{needs}
+use Rattle.commands.specs.Numbers.{Reads}
+use Rattle.commands.proofs.Phrases.{after-word}
+use Rattle.commands.proofs.lines.numbered.Statement.{statement}
+use Rattle.commands.proofs.lines.numbered.Tie as tie
+
+read-number-requires : tie.Need-read-number-requires
+read-number-requires c κs = search needs
+
+enum-known-n : tie.Need-enum-known-n
+enum-known-n c = search needs
+
+enum-told : tie.Need-enum-told
+enum-told c = search needs
+
+returns : tie.Need-returns
+returns c = search needs
+
+slice-aggregate-same : tie.Need-slice-aggregate-same
+slice-aggregate-same c = search needs
+
+same-requires : tie.Need-same-requires
+same-requires c κs = search needs
+
+returns-2 : tie.Need-returns-2
+returns-2 c =
+    λ k. let n = c .before .before .before .before in
+    after-word _ _ _ _ (c .before .same .ensures .0 (c .if1 .taken)) (subst (Reads _) (n .n .given .1) (n .before .before .read-number .ensures))
+
+slice-aggregate-same-2 : tie.Need-slice-aggregate-same-2
+slice-aggregate-same-2 c = search needs
+
+same-requires-2 : tie.Need-same-requires-2
+same-requires-2 c κs = search needs
+
+returns-3 : tie.Need-returns-3
+returns-3 c =
+    λ k. let n = c .before .before .before .before .before .before .before in
+    after-word _ _ _ _ (c .before .same2 .ensures .0 (c .if2 .taken)) (subst (Reads _) (n .n .given .1) (n .before .before .read-number .ensures))
+
+slice-aggregate-same-3 : tie.Need-slice-aggregate-same-3
+slice-aggregate-same-3 c = search needs
+
+same-requires-3 : tie.Need-same-requires-3
+same-requires-3 c κs = search needs
+
+returns-4 : tie.Need-returns-4
+returns-4 c =
+    λ k. let n = c .before .before .before .before .before .before .before .before .before .before in
+    after-word _ _ _ _ (c .before .same3 .ensures .0 (c .if3 .taken)) (subst (Reads _) (n .n .given .1) (n .before .before .read-number .ensures))
+
+returns-5 : tie.Need-returns-5
+returns-5 c = search needs
+
+pub numbered-spec : {M : Type 1} → statement M
+numbered-spec =
+    tie.close
+    (tie.spec
+    read-number-requires
+    enum-known-n
+    enum-told
+    returns
+    slice-aggregate-same
+    same-requires
+    returns-2
+    slice-aggregate-same-2
+    same-requires-2
+    returns-3
+    slice-aggregate-same-3
+    same-requires-3
+    returns-4
+    returns-5)

@@ -1,0 +1,15 @@
+-- `commands::plus` meets its contract. Assumes nothing.
+use mir.Facts.{toZ-pos}
+use mir.Syntax.{w64}
+use borrow.Author.Needs.{needs}
+use Rattle.commands.proofs.numbers.plus.Statement.{statement}
+use Rattle.commands.proofs.numbers.plus.Tie as tie
+
+cast-result : tie.Need-cast-result
+cast-result c = search needs
+
+returns : tie.Need-returns
+returns c = toZ-pos w64 (c .pre)
+
+pub plus-spec : {M : Type 1} → statement M
+plus-spec = tie.close (tie.spec cast-result returns)

@@ -1,0 +1,4 @@
+pub mod Numbers
+pub mod Codes
+pub mod Lines
+pub mod Answers

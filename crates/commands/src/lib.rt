@@ -1,0 +1,52 @@
+// One line of the program `lots` read as a command, and answers written as lines.
+mod answers;
+mod codes;
+mod lines;
+mod numbers;
+
+pub use answers::answer_line;
+pub use answers::number_line;
+pub use lines::parse;
+use page::Place;
+
+// What a line asks. The code of a put, a lookup or a remove stands in the buffer that was lent; here is its length.
+pub enum Command {
+    Nothing,
+    Unknown,
+    Format(usize),
+    Put(usize, Place),
+    Lookup(usize),
+    Remove(usize),
+    Count,
+    Row(usize),
+    Listing,
+    Check,
+    Inspect(usize),
+}
+
+enum Number {
+    Is(usize),
+    Not,
+}
+
+enum Signed {
+    Of(i64),
+    Other,
+}
+
+// One byte of a code, and how many bytes of text wrote it; 0 where none did.
+struct Glyph {
+    byte: u8,
+    size: usize,
+}
+
+// The length of a code, or no code.
+enum Decoded {
+    Code(usize),
+    Wrong,
+}
+
+enum Spot {
+    At(Place),
+    Nowhere,
+}

@@ -1,0 +1,35 @@
+-- `lots::after` meets its contract. Assumes nothing.
+use mathlib.Core.Path.{refl}
+use borrow.Author.Needs.{needs}
+use Rattle.store.proofs.Kept.{clash}
+use Rattle.lots.proofs.input.after.Statement.{statement}
+use Rattle.lots.proofs.input.after.Tie as tie
+
+enum-told : tie.Need-enum-told
+enum-told c = search needs
+
+enum-told-2 : tie.Need-enum-told-2
+enum-told-2 c = search needs
+
+enum-told-3 : tie.Need-enum-told-3
+enum-told-3 c = search needs
+
+enum-told-4 : tie.Need-enum-told-4
+enum-told-4 c = search needs
+
+returns : tie.Need-returns
+returns c = record { len = refl; fill = refl; quiet = λ q. absurd (clash (q .0)); leaves = λ q. absurd (clash (q .0)) }
+
+returns-2 : tie.Need-returns-2
+returns-2 c = record { len = refl; fill = refl; quiet = λ q. absurd (clash (q .1)); leaves = λ q. absurd (clash (q .1)) }
+
+returns-3 : tie.Need-returns-3
+returns-3 c = record { len = refl; fill = refl; quiet = λ q. q; leaves = λ q. rw (c .enum-told3 .given .1) tt }
+
+returns-4 : tie.Need-returns-4
+returns-4 c = record { len = refl; fill = refl; quiet = λ q. q; leaves = λ q. rw (c .enum-told4 .given .1) tt }
+
+pub after-spec : {M : Type 1} → statement M
+after-spec =
+    tie.close
+    (tie.spec enum-told enum-told-2 enum-told-3 enum-told-4 returns returns-2 returns-3 returns-4)

@@ -1,0 +1,73 @@
+-- `lots::feed` meets its contract. Assumes nothing.
+use Prim.Native.Nat.{_-_, _≤_}
+use mathlib.Core.Path.{_≡_, refl}
+use lib.ListN.{length}
+use borrow.Author.Needs.{needs}
+use Rattle.lots.specs.Sessions.{Kept}
+use Rattle.lots.proofs.Leaving.{beside, then}
+use Rattle.lots.proofs.input.feed.Statement.{statement}
+use Rattle.lots.proofs.input.feed.Tie as tie
+
+abbrev Inv-loop : tie.InvT-loop
+Inv-loop store₀ line₀ piece y₀ i₀ store line y i = Kept y₀ store₀ y store × (y .fill ≤ length line) × (length store ≡ length store₀) × (length line ≡ length line₀) × (i ≤ length piece)
+
+abbrev μ-loop : tie.MeasureT-loop
+μ-loop store₀ line₀ piece y₀ i₀ store line y i = length piece - i
+
+loop-holds : tie.Need-loop-holds Inv-loop μ-loop
+loop-holds c = (beside refl refl refl (search needs), search needs, refl, refl, search needs)
+
+same-length : tie.Need-same-length Inv-loop μ-loop
+same-length c = search needs
+
+same-length-2 : tie.Need-same-length-2 Inv-loop μ-loop
+same-length-2 c = search needs
+
+returns : tie.Need-returns Inv-loop μ-loop
+returns c = search needs
+
+shared-slice-read-take : tie.Need-shared-slice-read-take Inv-loop μ-loop
+shared-slice-read-take c = search needs
+
+take-requires : tie.Need-take-requires Inv-loop μ-loop
+take-requires c κs = search needs
+
+add-i : tie.Need-add-i Inv-loop μ-loop
+add-i c = search needs
+
+loop-less : tie.Need-loop-less Inv-loop μ-loop
+loop-less c = search needs
+
+loop-again : tie.Need-loop-again Inv-loop μ-loop
+loop-again c =
+    let t = c .before .before .before .before .take .ensures in
+    let v = c .before .before .before .before .before .before .before .before .before .before .loop .inv in
+    (then (v .0) (t .0), t .1, search needs, search needs, search needs)
+
+same-length-3 : tie.Need-same-length-3 Inv-loop μ-loop
+same-length-3 c = search needs
+
+same-length-4 : tie.Need-same-length-4 Inv-loop μ-loop
+same-length-4 c = search needs
+
+returns-2 : tie.Need-returns-2 Inv-loop μ-loop
+returns-2 c = search needs
+
+pub feed-spec : {M : Type 1} → statement M
+feed-spec =
+    tie.close
+    (tie.spec
+    Inv-loop
+    μ-loop
+    loop-holds
+    same-length
+    same-length-2
+    returns
+    shared-slice-read-take
+    take-requires
+    add-i
+    loop-less
+    loop-again
+    same-length-3
+    same-length-4
+    returns-2)

@@ -1,0 +1,65 @@
+-- `lots::turn` meets its contract. Assumes nothing.
+use Prim.Native.Nat.{_-_}
+use mathlib.Core.Path.{subst, sym, refl}
+use borrow.Author.Needs.{needs}
+use Rattle.lots.specs.Sessions.{Leaves}
+use Rattle.lots.proofs.Leaving.{leaves, part-back, taken-in, then}
+use Rattle.lots.proofs.input.turn.Statement.{statement}
+use Rattle.lots.proofs.input.turn.Tie as tie
+
+sub-obey : tie.Need-sub-obey
+sub-obey c = search needs
+
+part-obey-start : tie.Need-part-obey-start
+part-obey-start c = search needs
+
+part-obey-end : tie.Need-part-obey-end
+part-obey-end c = search needs
+
+obey-requires : tie.Need-obey-requires
+obey-requires c κs = search needs
+
+enum-known-o : tie.Need-enum-known-o
+enum-known-o c = search needs
+
+format-requires : tie.Need-format-requires
+format-requires c κs = search needs
+
+same-length : tie.Need-same-length
+same-length c = search needs
+
+returns : tie.Need-returns
+returns c =
+    let f = c .before .before .format .ensures in
+    let g = c .before .before .before .before .before .before in
+    let o = c .before .before .before .before .before .o .given in
+    let b = g .before .before .before .obey .ensures in
+    (then (record { quiet = λ q. q; same = λ q. part-back _ _ 0 (g .before .before .before .before .before .before .before .args .z .len - 0) (leaves b (subst Leaves (sym (o .1)) tt)); long = λ q. refl; within = search needs }) (f .0), f .1)
+
+after-requires : tie.Need-after-requires
+after-requires c κs = search needs
+
+same-length-2 : tie.Need-same-length-2
+same-length-2 c = search needs
+
+returns-2 : tie.Need-returns-2
+returns-2 c =
+    let a = c .after .ensures in
+    let b = c .before .before .before .before .obey .ensures in
+    (taken-in a (λ l. part-back _ _ 0 (c .before .before .before .before .before .before .before .before .args .z .len - 0) (leaves b l)) (search needs), a .fill)
+
+pub turn-spec : {M : Type 1} → statement M
+turn-spec =
+    tie.close
+    (tie.spec
+    sub-obey
+    part-obey-start
+    part-obey-end
+    obey-requires
+    enum-known-o
+    format-requires
+    same-length
+    returns
+    after-requires
+    same-length-2
+    returns-2)

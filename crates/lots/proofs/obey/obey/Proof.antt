@@ -1,0 +1,259 @@
+-- `lots::obey` meets its contract. Assumes nothing.
+use Prim.Native.Nat.{ℕ}
+use mathlib.Core.List.{List}
+use mathlib.Core.Path.{_≡_, refl, subst}
+use native.Mathlib.Omega.{arith}
+use native.Mathlib.Nat.{sub-zero}
+use denote.Ref.{now}
+use borrow.Author.Needs.{needs}
+use Rattle.store.specs.Tables.{meaning}
+use Rattle.commands.specs.Lines.{Means}
+use Rattle.commands.specs.declared.Command.{Command}
+use Rattle.lots.specs.declared.Outcome.{Outcome}
+use Rattle.lots.specs.Obeys.{Does, Obeys}
+use Rattle.lots.proofs.obey.obey.Statement.{statement}
+use Rattle.lots.proofs.obey.obey.Tie as tie
+
+-- past the parse
+module _ (c : tie.After-code2) where
+  -- the buffer, with the line's code at its start
+  abbrev buffer : List ℕ
+  buffer = c .before .parse .last .1 .0
+
+  abbrev line : List ℕ
+  line = now (c .before .before .before .before .before .before .args .line)
+
+  read : (d : Command) → c .before .parse .result ≡ d → Means line buffer d
+  read d e = subst (Means line buffer) e (c .before .parse .ensures)
+
+  done : {s t : List ℕ} {o : Outcome} (d : Command) → c .before .parse .result ≡ d → Does buffer d s o t → Obeys line s o t
+  done d e x = record { code = buffer; command = d; means = read d e; does = x }
+
+buffer-requires : tie.Need-buffer-requires
+buffer-requires c κs = search needs
+
+slice-aggregate-parse : tie.Need-slice-aggregate-parse
+slice-aggregate-parse c = search needs
+
+parse-requires : tie.Need-parse-requires
+parse-requires c κs = search needs
+
+enum-told : tie.Need-enum-told
+enum-told c = search needs
+
+enum-told-2 : tie.Need-enum-told-2
+enum-told-2 c = search needs
+
+unknown-requires : tie.Need-unknown-requires
+unknown-requires c κs = search needs
+
+enum-known-c : tie.Need-enum-known-c
+enum-known-c c = search needs
+
+enum-known-c-2 : tie.Need-enum-known-c-2
+enum-known-c-2 c = search needs
+
+sub-put : tie.Need-sub-put
+sub-put c = search needs
+
+part-put-start : tie.Need-part-put-start
+part-put-start c = search needs
+
+part-put-end : tie.Need-part-put-end
+part-put-end c = omega (arith, read (c .before .before .before .before .before) _ (c .before .before .before .c2 .given .1) .says .coded .within)
+
+put-requires : tie.Need-put-requires
+put-requires c κs = search needs
+
+wrote-requires : tie.Need-wrote-requires
+wrote-requires c κs = search needs
+
+enum-known-c-3 : tie.Need-enum-known-c-3
+enum-known-c-3 c = search needs
+
+sub-lookup : tie.Need-sub-lookup
+sub-lookup c = search needs
+
+part-lookup-start : tie.Need-part-lookup-start
+part-lookup-start c = search needs
+
+part-lookup-end : tie.Need-part-lookup-end
+part-lookup-end c = omega (arith, read (c .before .before .before .before .before) _ (c .before .before .before .c3 .given .1) .says .within)
+
+lookup-requires : tie.Need-lookup-requires
+lookup-requires c κs = search needs
+
+told-requires : tie.Need-told-requires
+told-requires c κs = search needs
+
+enum-known-c-4 : tie.Need-enum-known-c-4
+enum-known-c-4 c = search needs
+
+sub-remove : tie.Need-sub-remove
+sub-remove c = search needs
+
+part-remove-start : tie.Need-part-remove-start
+part-remove-start c = search needs
+
+part-remove-end : tie.Need-part-remove-end
+part-remove-end c = omega (arith, read (c .before .before .before .before .before) _ (c .before .before .before .c4 .given .1) .says .within)
+
+remove-requires : tie.Need-remove-requires
+remove-requires c κs = search needs
+
+wrote-requires-2 : tie.Need-wrote-requires-2
+wrote-requires-2 c κs = search needs
+
+enum-told-3 : tie.Need-enum-told-3
+enum-told-3 c = search needs
+
+count-requires : tie.Need-count-requires
+count-requires c κs = search needs
+
+told-requires-2 : tie.Need-told-requires-2
+told-requires-2 c κs = search needs
+
+enum-known-c-5 : tie.Need-enum-known-c-5
+enum-known-c-5 c = search needs
+
+row-requires : tie.Need-row-requires
+row-requires c κs = search needs
+
+enum-told-4 : tie.Need-enum-told-4
+enum-told-4 c = search needs
+
+list-requires : tie.Need-list-requires
+list-requires c κs = search needs
+
+enum-told-5 : tie.Need-enum-told-5
+enum-told-5 c = search needs
+
+check-requires : tie.Need-check-requires
+check-requires c κs = search needs
+
+told-requires-3 : tie.Need-told-requires-3
+told-requires-3 c κs = search needs
+
+enum-known-c-6 : tie.Need-enum-known-c-6
+enum-known-c-6 c = search needs
+
+inspect-requires : tie.Need-inspect-requires
+inspect-requires c κs = search needs
+
+returns : tie.Need-returns
+returns c = done (c .before .before) _ (c .enum-told .given .1) (refl, refl)
+
+returns-2 : tie.Need-returns-2
+returns-2 c = done (c .before .before .before) _ (c .before .enum-told2 .given .1) (c .unknown .ensures, refl)
+
+returns-3 : tie.Need-returns-3
+returns-3 c = done (c .before .before .before) _ (c .before .c .given .1) (refl, refl)
+
+same-length : tie.Need-same-length
+same-length c = search needs
+
+returns-4 : tie.Need-returns-4
+returns-4 c = done (c .before .before .before .before .before .before .before .before .before .before) _ (c .before .before .before .before .before .before .before .before .c2 .given .1) (record { answer = meaning (c .before .before .before .put .result); made = simp sub-zero at (c .before .before .before .put .ensures); told = c .wrote .ensures })
+
+same-length-2 : tie.Need-same-length-2
+same-length-2 c = search needs
+
+returns-5 : tie.Need-returns-5
+returns-5 c = done (c .before .before .before .before .before .before .before .before) _ (c .before .before .before .before .before .before .c3 .given .1) (c .told .ensures, refl)
+
+same-length-3 : tie.Need-same-length-3
+same-length-3 c = search needs
+
+returns-6 : tie.Need-returns-6
+returns-6 c = done (c .before .before .before .before .before .before .before .before .before .before) _ (c .before .before .before .before .before .before .before .before .c4 .given .1) (record { answer = meaning (c .before .before .before .remove .result); made = simp sub-zero at (c .before .before .before .remove .ensures); told = c .wrote2 .ensures })
+
+same-length-4 : tie.Need-same-length-4
+same-length-4 c = search needs
+
+returns-7 : tie.Need-returns-7
+returns-7 c = done (c .before .before .before .before .before) _ (c .before .before .before .enum-told3 .given .1) (c .told2 .ensures, refl)
+
+same-length-5 : tie.Need-same-length-5
+same-length-5 c = search needs
+
+returns-8 : tie.Need-returns-8
+returns-8 c = done (c .before .before .before .before .before) _ (c .before .before .before .c5 .given .1) (c .row .ensures, refl)
+
+same-length-6 : tie.Need-same-length-6
+same-length-6 c = search needs
+
+returns-9 : tie.Need-returns-9
+returns-9 c = done (c .before .before .before .before) _ (c .before .before .enum-told4 .given .1) (c .list .ensures, refl)
+
+same-length-7 : tie.Need-same-length-7
+same-length-7 c = search needs
+
+returns-10 : tie.Need-returns-10
+returns-10 c = done (c .before .before .before .before .before) _ (c .before .before .before .enum-told5 .given .1) (c .told3 .ensures, refl)
+
+same-length-8 : tie.Need-same-length-8
+same-length-8 c = search needs
+
+returns-11 : tie.Need-returns-11
+returns-11 c = done (c .before .before .before .before .before) _ (c .before .before .before .c6 .given .1) (c .inspect .ensures, refl)
+
+pub obey-spec : {M : Type 1} → statement M
+obey-spec =
+    tie.close
+    (tie.spec
+    buffer-requires
+    slice-aggregate-parse
+    parse-requires
+    enum-told
+    enum-told-2
+    unknown-requires
+    enum-known-c
+    enum-known-c-2
+    sub-put
+    part-put-start
+    part-put-end
+    put-requires
+    wrote-requires
+    enum-known-c-3
+    sub-lookup
+    part-lookup-start
+    part-lookup-end
+    lookup-requires
+    told-requires
+    enum-known-c-4
+    sub-remove
+    part-remove-start
+    part-remove-end
+    remove-requires
+    wrote-requires-2
+    enum-told-3
+    count-requires
+    told-requires-2
+    enum-known-c-5
+    row-requires
+    enum-told-4
+    list-requires
+    enum-told-5
+    check-requires
+    told-requires-3
+    enum-known-c-6
+    inspect-requires
+    returns
+    returns-2
+    returns-3
+    same-length
+    returns-4
+    same-length-2
+    returns-5
+    same-length-3
+    returns-6
+    same-length-4
+    returns-7
+    same-length-5
+    returns-8
+    same-length-6
+    returns-9
+    same-length-7
+    returns-10
+    same-length-8
+    returns-11)

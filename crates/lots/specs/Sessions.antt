@@ -1,0 +1,40 @@
+-- What a session keeps from line to line. Assumes nothing.
+use Prim.Native.Nat.{ℕ, _≤_}
+use mathlib.Core.Path.{_≡_}
+use mathlib.Core.Bool.{false}
+use mathlib.Core.List.{List}
+use lib.ListN.{length}
+use Rattle.lots.specs.declared.Outcome.{Outcome}
+use Rattle.lots.specs.declared.Outcome.the-variants.{Same, Changed, Format, Stopped}
+use Rattle.lots.specs.declared.Session.{Session}
+
+-- nothing has changed, and every answer could be written
+abbrev pub Quiet : Session → Type 0
+Quiet z = (z .changed ≡ false) × (z .stopped ≡ false)
+
+-- the line has changed nothing so far, and its answer could be written
+abbrev pub Leaves : Outcome → Type 0
+Leaves Same = Unit {0}
+Leaves (Format n) = Unit {0}
+Leaves Changed = ⊥
+Leaves Stopped = ⊥
+
+-- a line's outcome taken into the session z: a change or a stop is marked
+pub record After (z : Session) (o : Outcome) (r : Session) : Type 0 where
+  pub len : r .len ≡ z .len
+  pub fill : r .fill ≡ z .fill
+  pub quiet : Quiet r → Quiet z
+  pub leaves : Quiet r → Leaves o
+
+-- from z with the store s to r with the store t: where r is quiet, z was, and the store is as it was
+pub record Kept (z : Session) (s : List ℕ) (r : Session) (t : List ℕ) : Type 0 where
+  pub quiet : Quiet r → Quiet z
+  pub same : Quiet r → t ≡ s
+  pub long : Quiet r → r .len ≡ z .len
+  pub within : r .len ≤ length t
+
+-- the whole input on the first len bytes of s: where r is quiet, they are as they were
+pub record Ran (len : ℕ) (s : List ℕ) (r : Session) (t : List ℕ) : Type 0 where
+  pub same : Quiet r → t ≡ s
+  pub long : Quiet r → r .len ≡ len
+  pub within : r .len ≤ length t

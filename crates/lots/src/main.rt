@@ -1,0 +1,70 @@
+// The lot index from a shell: commands from standard input, one a line, on the store in the file that the argument names.
+ghost use Prim.Native.Nat.{_≤_};
+ghost use lib.ListN.{length};
+
+mod files;
+mod input;
+mod obey;
+mod say;
+
+use libc::STDERR_FILENO;
+
+// What a line did to the store. Format is still to be done; Stopped: an answer could not be written.
+pub enum Outcome {
+    Same,
+    Changed,
+    Format(usize),
+    Stopped,
+}
+
+pub struct Session {
+    // the store: its length, and whether it has changed since it was read
+    pub len: usize,
+    pub changed: bool,
+    // the line that is being read: how much of it is there, whether it is too long, how many came before it
+    pub fill: usize,
+    pub over: bool,
+    pub number: usize,
+    // the input is at its end; it cannot be read, or an answer cannot be written
+    pub ended: bool,
+    pub stopped: bool,
+}
+
+fn main() {
+    let mut path = io::buffer();
+    let n = os::arg(1, &mut path);
+    if os::arg_count() != 2 {
+        usage();
+        return;
+    }
+    if n == 0 {
+        usage();
+        return;
+    }
+    // 258 pages and one byte more, so that a longer file shows refusal 1
+    let mut store = [0u8; 264193];
+    work(&path[0..n], &mut store);
+}
+
+fn usage() {
+    io::write_all(STDERR_FILENO, b"usage: lots FILE\n");
+}
+
+// Reads the file, if it is there; obeys the input; writes a changed store.
+fn work(path: &[u8], store: &mut [u8])
+    requires { ⌜ length (now path) ≤ 4096 ⌝ }
+{
+    let f = files::load(path, store);
+    if !f.good {
+        return;
+    }
+    let z = input::run(store, f.len);
+    if z.stopped {
+        return;
+    }
+    if !z.changed {
+        return;
+    }
+    let len = z.len;
+    files::save(path, &store[0..len]);
+}

@@ -1,0 +1,212 @@
+// One line obeyed on the store: which call it makes. What the call answers is decided in the libraries.
+ghost use mathlib.Core.Path.{_≡_};
+ghost use Rattle.hash.specs.Fnv.{fnv};
+ghost use Rattle.store.specs.Accepted.{Accepted};
+ghost use Rattle.store.specs.Demands.{ok};
+ghost use Rattle.store.specs.Pages.{S1024};
+ghost use Rattle.store.specs.Tables.{meaning};
+ghost use Rattle.lots.specs.Obeys.{Obeys, Tells, Untouched};
+use super::say;
+use crate::Outcome;
+use commands::Command;
+use store::Answer;
+
+// A line that reads: its answer was written, or could not be.
+fn said(written: bool) -> Outcome
+    ensures { λ r. ⌜ Untouched r ⌝ }
+{
+    if written {
+        Outcome::Same
+    } else {
+        Outcome::Stopped
+    }
+}
+
+fn told(a: Answer) -> Outcome
+    ensures { λ r. ⌜ Untouched r ⌝ }
+{
+    said(say::answer(a, b""))
+}
+
+pub fn unknown(number: usize) -> Outcome
+    ensures { λ r. ⌜ Untouched r ⌝ }
+{
+    said(say::number(b"unknown", number))
+}
+
+// Whether an answer is no refusal.
+fn is_done(a: Answer) -> bool
+    ensures { λ r. ⌜ r ≡ ok (meaning a) ⌝ }
+{
+    match a {
+        Answer::BadLength => false,
+        Answer::BadPage(_) => false,
+        Answer::BadCode => false,
+        Answer::BadPlace => false,
+        Answer::NoCode => false,
+        Answer::PrefixFull => false,
+        Answer::PagesFull => false,
+        Answer::ShortOutput => false,
+        Answer::NoRow => false,
+        Answer::Formatted => true,
+        Answer::Accepted => true,
+        Answer::New => true,
+        Answer::Replaced(_) => true,
+        Answer::Found(_) => true,
+        Answer::Rows(_) => true,
+        Answer::RowOf(_, _) => true,
+    }
+}
+
+// The answer of a call that writes.
+pub fn wrote(a: Answer) -> Outcome
+    ensures { λ r. ⌜ Tells (meaning a) r ⌝ }
+{
+    if !say::answer(a, b"") {
+        return Outcome::Stopped;
+    }
+    if is_done(a) {
+        return Outcome::Changed;
+    }
+    Outcome::Same
+}
+
+fn row(s: &[u8], n: usize) -> Outcome
+    ensures { λ r. ⌜ Untouched r ⌝ }
+{
+    let mut code = [0u8; 64];
+    let a = reading::row_at(s, n, &mut code);
+    said(say::answer(a, &code))
+}
+
+// Row n of an accepted store on a line; whether it could be written.
+fn list_row(s: &[u8], n: usize) -> bool
+    requires { ⌜ Accepted S1024 fnv (now s) ⌝ }
+{
+    let mut code = [0u8; 64];
+    let a = reading::give_row(s, n, &mut code);
+    say::answer(a, &code)
+}
+
+// The first n rows of an accepted store, and how many they are.
+fn list_rows(s: &[u8], n: usize) -> Outcome
+    requires { ⌜ Accepted S1024 fnv (now s) ⌝ }
+    ensures { λ r. ⌜ Untouched r ⌝ }
+{
+    let mut i = 0;
+    while i < n {
+        if !list_row(s, i) {
+            return Outcome::Stopped;
+        }
+        i += 1;
+    }
+    said(say::number(b"rows", n))
+}
+
+// Every row. The count checks the store, once for all of them.
+fn list(s: &[u8]) -> Outcome
+    ensures { λ r. ⌜ Untouched r ⌝ }
+{
+    let a = reading::count(s);
+    if let Answer::Rows(n) = a {
+        return list_rows(s, n);
+    }
+    told(a)
+}
+
+// How many rows a page has, or why it is refused. No page has more than 78.
+fn rows_on(page: &[u8]) -> Answer {
+    let mut code = [0u8; 64];
+    let mut n = 0;
+    while n < 78 {
+        let a = reader::inspect(page, n, &mut code);
+        match a {
+            Answer::RowOf(_, _) => {
+                n += 1;
+            }
+            Answer::NoRow => {
+                return Answer::Rows(n);
+            }
+            _ => {
+                return a;
+            }
+        }
+    }
+    Answer::Rows(n)
+}
+
+// Row n of a page on a line; whether it could be written.
+fn page_row(page: &[u8], n: usize) -> bool {
+    let mut code = [0u8; 64];
+    let a = reader::inspect(page, n, &mut code);
+    say::answer(a, &code)
+}
+
+// The first n rows of a page, and how many they are.
+fn page_rows(page: &[u8], n: usize) -> Outcome
+    ensures { λ r. ⌜ Untouched r ⌝ }
+{
+    let mut i = 0;
+    while i < n {
+        if !page_row(page, i) {
+            return Outcome::Stopped;
+        }
+        i += 1;
+    }
+    said(say::number(b"rows", n))
+}
+
+fn list_page(page: &[u8]) -> Outcome
+    ensures { λ r. ⌜ Untouched r ⌝ }
+{
+    let a = rows_on(page);
+    if let Answer::Rows(n) = a {
+        return page_rows(page, n);
+    }
+    told(a)
+}
+
+// The rows of page p, if the store has it.
+fn inspect(s: &[u8], p: usize, number: usize) -> Outcome
+    ensures { λ r. ⌜ Untouched r ⌝ }
+{
+    if p >= s.len() / 1024 {
+        return unknown(number);
+    }
+    let a = p * 1024;
+    let e = a + 1024;
+    list_page(&s[a..e])
+}
+
+// The line's command on the store. Format is left to the session, which has room for another length.
+pub fn obey(s: &mut [u8], line: &[u8], number: usize) -> Outcome
+    ensures { λ r. ⌜ Obeys (now (line .entry)) (now (s .entry)) r (now (s .exit)) ⌝ }
+{
+    let mut code = io::buffer();
+    let c = commands::parse(line, &mut code);
+    match c {
+        Command::Nothing => Outcome::Same,
+        Command::Unknown => unknown(number),
+        Command::Format(n) => Outcome::Format(n),
+        Command::Put(k, place) => wrote(change::put(s, &code[0..k], place)),
+        Command::Lookup(k) => told(reading::lookup(s, &code[0..k])),
+        Command::Remove(k) => wrote(change::remove(s, &code[0..k])),
+        Command::Count => told(reading::count(s)),
+        Command::Row(n) => row(s, n),
+        Command::Listing => list(s),
+        Command::Check => told(reading::check(s)),
+        Command::Inspect(p) => inspect(s, p, number),
+    }
+}
+
+// A line that the session has no room for: a comment is passed over, any other is unknown.
+pub fn too_long(line: &[u8], number: usize) -> Outcome
+    ensures { λ r. ⌜ Untouched r ⌝ }
+{
+    if line.len() > 0 {
+        if line[0] == 35 {
+            return Outcome::Same;
+        }
+    }
+    unknown(number)
+}
