@@ -40,8 +40,9 @@ abbrev write-below-below : ℕ → In 4 write-below-kinds.ps
 write-below-below t =
     and 4 write-below-kinds.ps (falls 4 write-below-kinds.ps _<_ μ-write-below t) write-below.Pre
 
-abbrev Loaded : ℕ → Type 0
-Loaded t = write-below-lts.After-load (
+-- what is known of the functions called
+abbrev told : ℕ → write-below-lts.Claims
+told t = (
   load-reads.Asked,
   load-reads.Learnt,
   write-bucket-reads.Asked,
@@ -50,7 +51,10 @@ Loaded t = write-below-lts.After-load (
   lowest-free-reads.Learnt,
   write-below-below t,
   write-below.Post,
-) (write-below-at t) write-below.Post
+)
+
+abbrev Loaded : ℕ → Type 0
+Loaded t = write-below-lts.After-load (told t) (write-below-at t) write-below.Post
 
 -- what the rows of the prefix need
 module _ (t : ℕ) (b : Loaded t) where
@@ -103,116 +107,35 @@ module _ (t : ℕ) (b : Loaded t) where
     over : 1016 < needs (rowsOf fnv rs k v)
     over = omega (arith, weight)
 
-write-below-load-requires : (t : ℕ) → write-below-lts.Need-load-requires (
-  load-reads.Asked,
-  load-reads.Learnt,
-  write-bucket-reads.Asked,
-  write-bucket-reads.Learnt,
-  lowest-free-reads.Asked,
-  lowest-free-reads.Learnt,
-  write-below-below t,
-  write-below.Post,
-) (write-below-at t) write-below.Post
+write-below-load-requires : (t : ℕ) → write-below-lts.Need-load-requires (told t) (write-below-at t) write-below.Post
 write-below-load-requires t c κs = let z = c .before .before .before .before in (z .pre .1 .1 .deep, z .pre .1 .0 .page, z .pre .1 .0 .short)
 
-write-below-returns : (t : ℕ) → write-below-lts.Need-returns (
-  load-reads.Asked,
-  load-reads.Learnt,
-  write-bucket-reads.Asked,
-  write-bucket-reads.Learnt,
-  lowest-free-reads.Asked,
-  lowest-free-reads.Learnt,
-  write-below-below t,
-  write-below.Post,
-) (write-below-at t) write-below.Post
+write-below-returns : (t : ℕ) → write-below-lts.Need-returns (told t) (write-below-at t) write-below.Post
 write-below-returns t c = let b = c .before in bare-wrote fnv (rs t b) (k t b) (v t b) (s t b) (at t b) (W t b) (sym (weight t b) ∙ c .if1 .taken)
 
-write-below-mul-a : (t : ℕ) → write-below-lts.Need-mul-a (
-  load-reads.Asked,
-  load-reads.Learnt,
-  write-bucket-reads.Asked,
-  write-bucket-reads.Learnt,
-  lowest-free-reads.Asked,
-  lowest-free-reads.Learnt,
-  write-below-below t,
-  write-below.Post,
-) (write-below-at t) write-below.Post
+write-below-mul-a : (t : ℕ) → write-below-lts.Need-mul-a (told t) (write-below-at t) write-below.Post
 write-below-mul-a t c = let b = c .before .before in omega (arith, there t b (c .before .if1 .left) (c .if2 .taken))
 
-write-below-add-e : (t : ℕ) → write-below-lts.Need-add-e (
-  load-reads.Asked,
-  load-reads.Learnt,
-  write-bucket-reads.Asked,
-  write-bucket-reads.Learnt,
-  lowest-free-reads.Asked,
-  lowest-free-reads.Learnt,
-  write-below-below t,
-  write-below.Post,
-) (write-below-at t) write-below.Post
+write-below-add-e : (t : ℕ) → write-below-lts.Need-add-e (told t) (write-below-at t) write-below.Post
 write-below-add-e t c = let b = c .before .before in omega (arith, there t b (c .before .if1 .left) (c .if2 .taken))
 
-write-below-sub-write-bucket : (t : ℕ) → write-below-lts.Need-sub-write-bucket (
-  load-reads.Asked,
-  load-reads.Learnt,
-  write-bucket-reads.Asked,
-  write-bucket-reads.Learnt,
-  lowest-free-reads.Asked,
-  lowest-free-reads.Learnt,
-  write-below-below t,
-  write-below.Post,
-) (write-below-at t) write-below.Post
+write-below-sub-write-bucket : (t : ℕ) → write-below-lts.Need-sub-write-bucket (told t) (write-below-at t) write-below.Post
 write-below-sub-write-bucket t c = omega arith
 
-write-below-part-write-bucket-start : (t : ℕ) → write-below-lts.Need-part-write-bucket-start (
-  load-reads.Asked,
-  load-reads.Learnt,
-  write-bucket-reads.Asked,
-  write-bucket-reads.Learnt,
-  lowest-free-reads.Asked,
-  lowest-free-reads.Learnt,
-  write-below-below t,
-  write-below.Post,
-) (write-below-at t) write-below.Post
+write-below-part-write-bucket-start : (t : ℕ) → write-below-lts.Need-part-write-bucket-start (told t) (write-below-at t) write-below.Post
 write-below-part-write-bucket-start t c = omega arith
 
-write-below-part-write-bucket-end : (t : ℕ) → write-below-lts.Need-part-write-bucket-end (
-  load-reads.Asked,
-  load-reads.Learnt,
-  write-bucket-reads.Asked,
-  write-bucket-reads.Learnt,
-  lowest-free-reads.Asked,
-  lowest-free-reads.Learnt,
-  write-below-below t,
-  write-below.Post,
-) (write-below-at t) write-below.Post
+write-below-part-write-bucket-end : (t : ℕ) → write-below-lts.Need-part-write-bucket-end (told t) (write-below-at t) write-below.Post
 write-below-part-write-bucket-end t c = let b = c .before .before in omega (arith, there t b (c .before .if1 .left) (c .if2 .taken))
 
-write-below-write-bucket-requires : (t : ℕ) → write-below-lts.Need-write-bucket-requires (
-  load-reads.Asked,
-  load-reads.Learnt,
-  write-bucket-reads.Asked,
-  write-bucket-reads.Learnt,
-  lowest-free-reads.Asked,
-  lowest-free-reads.Learnt,
-  write-below-below t,
-  write-below.Post,
-) (write-below-at t) write-below.Post
+write-below-write-bucket-requires : (t : ℕ) → write-below-lts.Need-write-bucket-requires (told t) (write-below-at t) write-below.Post
 write-below-write-bucket-requires t c κs =
     let b = c .before .before .before in
     let n = c .before .before .if1 .left in
     let l = c .before .if2 .taken in
     (b .before .before .before .before .before .pre .1 .0, ap length (lent (s t b) (at t b)) ∙ page-long S1024 (s t b) (at t b) (there t b n l), W t b .deep, pos t b n l, most t b n l)
 
-write-below-lowest-free-requires : (t : ℕ) → write-below-lts.Need-lowest-free-requires (
-  load-reads.Asked,
-  load-reads.Learnt,
-  write-bucket-reads.Asked,
-  write-bucket-reads.Learnt,
-  lowest-free-reads.Asked,
-  lowest-free-reads.Learnt,
-  write-below-below t,
-  write-below.Post,
-) (write-below-at t) write-below.Post
+write-below-lowest-free-requires : (t : ℕ) → write-below-lts.Need-lowest-free-requires (told t) (write-below-at t) write-below.Post
 write-below-lowest-free-requires t c κs =
     let d = c .before .before .before .before .before in
     let b = d .before .before in
@@ -220,28 +143,10 @@ write-below-lowest-free-requires t c κs =
     let e = ap length (back (s t b) (at t b) (q .last .0)) ∙ set-long S1024 (s t b) (at t b) (q .last .0) (there t b (d .before .if1 .left) (d .if2 .taken)) (q .ensures .size) in
     (omega (arith, e, W t b .long .whole), omega (arith, e, W t b .long .least))
 
-write-below-same-length : (t : ℕ) → write-below-lts.Need-same-length (
-  load-reads.Asked,
-  load-reads.Learnt,
-  write-bucket-reads.Asked,
-  write-bucket-reads.Learnt,
-  lowest-free-reads.Asked,
-  lowest-free-reads.Learnt,
-  write-below-below t,
-  write-below.Post,
-) (write-below-at t) write-below.Post
+write-below-same-length : (t : ℕ) → write-below-lts.Need-same-length (told t) (write-below-at t) write-below.Post
 write-below-same-length t c = search Needs.needs
 
-write-below-returns-2 : (t : ℕ) → write-below-lts.Need-returns-2 (
-  load-reads.Asked,
-  load-reads.Learnt,
-  write-bucket-reads.Asked,
-  write-bucket-reads.Learnt,
-  lowest-free-reads.Asked,
-  lowest-free-reads.Learnt,
-  write-below-below t,
-  write-below.Post,
-) (write-below-at t) write-below.Post
+write-below-returns-2 : (t : ℕ) → write-below-lts.Need-returns-2 (told t) (write-below-at t) write-below.Post
 write-below-returns-2 t c =
     let d = c .before .before .before .before .before .before in
     let b = d .before .before in
@@ -253,54 +158,18 @@ write-below-returns-2 t c =
     subst (λ x. Wrote fnv (rs t b) (k t b) (v t b) (s t b) (at t b) x (f .result)) (sym e)
     (one-wrote fnv (rs t b) (k t b) (v t b) (s t b) (at t b) (W t b) (pos t b n l) (most t b n l) (q .last .0) (q .ensures) (f .result) (subst (λ x. f .result ≡ 2 + find isFree (contents S1024 x)) e (f .ensures .0)))
 
-write-below-returns-3 : (t : ℕ) → write-below-lts.Need-returns-3 (
-  load-reads.Asked,
-  load-reads.Learnt,
-  write-bucket-reads.Asked,
-  write-bucket-reads.Learnt,
-  lowest-free-reads.Asked,
-  lowest-free-reads.Learnt,
-  write-below-below t,
-  write-below.Post,
-) (write-below-at t) write-below.Post
+write-below-returns-3 : (t : ℕ) → write-below-lts.Need-returns-3 (told t) (write-below-at t) write-below.Post
 write-below-returns-3 t c =
     let b = c .before .before .before in
     deep-wrote fnv (rs t b) (k t b) (v t b) (s t b) (at t b) (W t b) (omega (arith, weight t b, c .before .if2 .left)) (c .if3 .taken)
 
-write-below-add-write-below : (t : ℕ) → write-below-lts.Need-add-write-below (
-  load-reads.Asked,
-  load-reads.Learnt,
-  write-bucket-reads.Asked,
-  write-bucket-reads.Learnt,
-  lowest-free-reads.Asked,
-  lowest-free-reads.Learnt,
-  write-below-below t,
-  write-below.Post,
-) (write-below-at t) write-below.Post
+write-below-add-write-below : (t : ℕ) → write-below-lts.Need-add-write-below (told t) (write-below-at t) write-below.Post
 write-below-add-write-below t c = let b = c .before .before .before .before in omega (arith, W t b .deep)
 
-write-below-mul-write-below : (t : ℕ) → write-below-lts.Need-mul-write-below (
-  load-reads.Asked,
-  load-reads.Learnt,
-  write-bucket-reads.Asked,
-  write-bucket-reads.Learnt,
-  lowest-free-reads.Asked,
-  lowest-free-reads.Learnt,
-  write-below-below t,
-  write-below.Post,
-) (write-below-at t) write-below.Post
+write-below-mul-write-below : (t : ℕ) → write-below-lts.Need-mul-write-below (told t) (write-below-at t) write-below.Post
 write-below-mul-write-below t c = let b = c .before .before .before .before in omega (arith, W t b .prefix, small t b)
 
-write-below-write-below-requires : (t : ℕ) → write-below-lts.Need-write-below-requires (
-  load-reads.Asked,
-  load-reads.Learnt,
-  write-bucket-reads.Asked,
-  write-bucket-reads.Learnt,
-  lowest-free-reads.Asked,
-  lowest-free-reads.Learnt,
-  write-below-below t,
-  write-below.Post,
-) (write-below-at t) write-below.Post
+write-below-write-below-requires : (t : ℕ) → write-below-lts.Need-write-below-requires (told t) (write-below-at t) write-below.Post
 write-below-write-below-requires t c κs =
     let b = c .before .before .before .before in
     let z = b .before .before .before .before .before in
@@ -308,52 +177,16 @@ write-below-write-below-requires t c κs =
     let n = c .before .if3 .left in
     (omega (arith, z .pre .0, shallow t b o n), (z .pre .1 .0, half-ready fnv (rs t b) (k t b) (v t b) (s t b) (at t b) (W t b) (shallow t b o n) (over t b o n)))
 
-write-below-add-write-below-2 : (t : ℕ) → write-below-lts.Need-add-write-below-2 (
-  load-reads.Asked,
-  load-reads.Learnt,
-  write-bucket-reads.Asked,
-  write-bucket-reads.Learnt,
-  lowest-free-reads.Asked,
-  lowest-free-reads.Learnt,
-  write-below-below t,
-  write-below.Post,
-) (write-below-at t) write-below.Post
+write-below-add-write-below-2 : (t : ℕ) → write-below-lts.Need-add-write-below-2 (told t) (write-below-at t) write-below.Post
 write-below-add-write-below-2 t c = let b = c .before .before .before .before .before .before .before .before in omega (arith, W t b .deep)
 
-write-below-mul-write-below-2 : (t : ℕ) → write-below-lts.Need-mul-write-below-2 (
-  load-reads.Asked,
-  load-reads.Learnt,
-  write-bucket-reads.Asked,
-  write-bucket-reads.Learnt,
-  lowest-free-reads.Asked,
-  lowest-free-reads.Learnt,
-  write-below-below t,
-  write-below.Post,
-) (write-below-at t) write-below.Post
+write-below-mul-write-below-2 : (t : ℕ) → write-below-lts.Need-mul-write-below-2 (told t) (write-below-at t) write-below.Post
 write-below-mul-write-below-2 t c = let b = c .before .before .before .before .before .before .before .before in omega (arith, W t b .prefix, small t b)
 
-write-below-add-write-below-3 : (t : ℕ) → write-below-lts.Need-add-write-below-3 (
-  load-reads.Asked,
-  load-reads.Learnt,
-  write-bucket-reads.Asked,
-  write-bucket-reads.Learnt,
-  lowest-free-reads.Asked,
-  lowest-free-reads.Learnt,
-  write-below-below t,
-  write-below.Post,
-) (write-below-at t) write-below.Post
+write-below-add-write-below-3 : (t : ℕ) → write-below-lts.Need-add-write-below-3 (told t) (write-below-at t) write-below.Post
 write-below-add-write-below-3 t c = let b = c .before .before .before .before .before .before .before .before in omega (arith, W t b .prefix, small t b)
 
-write-below-write-below-requires-2 : (t : ℕ) → write-below-lts.Need-write-below-requires-2 (
-  load-reads.Asked,
-  load-reads.Learnt,
-  write-bucket-reads.Asked,
-  write-bucket-reads.Learnt,
-  lowest-free-reads.Asked,
-  lowest-free-reads.Learnt,
-  write-below-below t,
-  write-below.Post,
-) (write-below-at t) write-below.Post
+write-below-write-below-requires-2 : (t : ℕ) → write-below-lts.Need-write-below-requires-2 (told t) (write-below-at t) write-below.Post
 write-below-write-below-requires-2 t c κs =
     let d = c .before .before .before .before .before in
     let b = d .before .before .before in
@@ -365,28 +198,10 @@ write-below-write-below-requires-2 t c κs =
       (z .pre .1 .0, other-ready fnv (rs t b) (k t b) (v t b) (s t b) (at t b) (W t b) (shallow t b o n) (over t b o n) (w .last .0) (w .result) (w .ensures)),
     )
 
-write-below-same-length-2 : (t : ℕ) → write-below-lts.Need-same-length-2 (
-  load-reads.Asked,
-  load-reads.Learnt,
-  write-bucket-reads.Asked,
-  write-bucket-reads.Learnt,
-  lowest-free-reads.Asked,
-  lowest-free-reads.Learnt,
-  write-below-below t,
-  write-below.Post,
-) (write-below-at t) write-below.Post
+write-below-same-length-2 : (t : ℕ) → write-below-lts.Need-same-length-2 (told t) (write-below-at t) write-below.Post
 write-below-same-length-2 t c = search Needs.needs
 
-write-below-returns-4 : (t : ℕ) → write-below-lts.Need-returns-4 (
-  load-reads.Asked,
-  load-reads.Learnt,
-  write-bucket-reads.Asked,
-  write-bucket-reads.Learnt,
-  lowest-free-reads.Asked,
-  lowest-free-reads.Learnt,
-  write-below-below t,
-  write-below.Post,
-) (write-below-at t) write-below.Post
+write-below-returns-4 : (t : ℕ) → write-below-lts.Need-returns-4 (told t) (write-below-at t) write-below.Post
 write-below-returns-4 t c =
     let d = c .before .before .before .before .before .before .before .before in
     let b = d .before .before .before in
@@ -397,18 +212,7 @@ write-below-returns-4 t c =
     both-wrote fnv (rs t b) (k t b) (v t b) (s t b) (at t b) (W t b) (shallow t b o n) (over t b o n) (w .last .0) (w .result) (w .ensures) (u .last .0) (u .result) (u .ensures)
 
 pub +write-below-spec : {M : Type 1} → statement M
-+write-below-spec = close μ-write-below λ t. write-below-lts.spec (
-  load-reads.Asked,
-  load-reads.Learnt,
-  write-bucket-reads.Asked,
-  write-bucket-reads.Learnt,
-  lowest-free-reads.Asked,
-  lowest-free-reads.Learnt,
-  write-below-below t,
-  write-below.Post,
-)
-    (write-below-at t)
-    write-below.Post
++write-below-spec = close μ-write-below λ t. write-below-lts.spec (told t) (write-below-at t) write-below.Post
     (write-below-load-requires t)
     (write-below-returns t)
     (write-below-mul-a t)
