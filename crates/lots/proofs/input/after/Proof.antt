@@ -1,7 +1,7 @@
 -- `lots::after` meets its contract. Assumes nothing.
 use mathlib.Core.Path.{refl}
 use borrow.Author.Needs.{needs}
-use Rattle.store.proofs.Kept.{clash}
+use mathlib.Core.Bool.{true≢false}
 use Rattle.lots.proofs.input.after.Statement.{statement}
 use Rattle.lots.proofs.input.after.Tie as tie
 
@@ -18,10 +18,10 @@ enum-told-4 : tie.Need-enum-told-4
 enum-told-4 c = search needs
 
 returns : tie.Need-returns
-returns c = record { len = refl; fill = refl; quiet = λ q. absurd (clash (q .0)); leaves = λ q. absurd (clash (q .0)) }
+returns c = record { len = refl; fill = refl; quiet = λ q. absurd (true≢false (q .0)); leaves = λ q. absurd (true≢false (q .0)) }
 
 returns-2 : tie.Need-returns-2
-returns-2 c = record { len = refl; fill = refl; quiet = λ q. absurd (clash (q .1)); leaves = λ q. absurd (clash (q .1)) }
+returns-2 c = record { len = refl; fill = refl; quiet = λ q. absurd (true≢false (q .1)); leaves = λ q. absurd (true≢false (q .1)) }
 
 returns-3 : tie.Need-returns-3
 returns-3 c = record { len = refl; fill = refl; quiet = λ q. q; leaves = λ q. rw (c .enum-told3 .given .1) tt }

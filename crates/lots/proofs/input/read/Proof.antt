@@ -1,7 +1,7 @@
 -- `lots::read` meets its contract. Assumes nothing.
 use mathlib.Core.Path.{refl}
 use borrow.Author.Needs.{needs}
-use Rattle.store.proofs.Kept.{clash}
+use mathlib.Core.Bool.{true≢false}
 use Rattle.lots.proofs.input.read.Statement.{statement}
 use Rattle.lots.proofs.input.read.Tie as tie
 
@@ -21,7 +21,7 @@ fail-requires : tie.Need-fail-requires
 fail-requires c κs = search needs
 
 returns : tie.Need-returns
-returns c = (record { quiet = λ q. absurd (clash (q .1)); same = λ q. refl; long = λ q. refl; within = search needs }, search needs)
+returns c = (record { quiet = λ q. absurd (true≢false (q .1)); same = λ q. refl; long = λ q. refl; within = search needs }, search needs)
 
 returns-2 : tie.Need-returns-2
 returns-2 c = search needs
