@@ -4,4 +4,6 @@ pub mod Spelling
 pub mod Phrases
 pub mod Adding
 pub mod Shown
+pub mod Unread
+pub mod Unasked
 pub mod Settled

@@ -27,13 +27,13 @@ from-three w i h =
     rw (from w i (i + 1) (omega arith) (omega arith), from w (i + 1) (i + 2) (omega arith) (omega arith), from w (i + 2) (i + 3) (omega arith) (omega arith))
 
 pub of-plain : (w : List ℕ) (i : ℕ) → i < length w → Plain (byte w i) → One w i (record { byte = byte w i; size = 1 })
-of-plain w i h p = record { within = omega arith; spells = λ l. rw (from-one w i h) (plain p none) }
+of-plain w i h p = record { within = omega arith; spells = λ l. rw (from-one w i h) (plain p none); none-here = λ z. absurd (omega arith) }
 
 pub of-escaped : (w : List ℕ) (i x y : ℕ) → i + 3 ≤ length w → byte w i ≡ 37 → Hex (byte w (i + 1)) x → Hex (byte w (i + 2)) y → One w i (record { byte = x * 16 + y; size = 3 })
-of-escaped w i x y h e a b = record { within = h; spells = λ l. rw (from-three w i h, e) (escaped a b none) }
+of-escaped w i x y h e a b = record { within = h; spells = λ l. rw (from-three w i h, e) (escaped a b none); none-here = λ z. absurd (omega arith) }
 
-pub of-none : (w : List ℕ) (i : ℕ) → i < length w → One w i (record { byte = 0; size = 0 })
-of-none w i h = record { within = omega arith; spells = λ l. absurd (omega arith) }
+pub of-none : (w : List ℕ) (i : ℕ) → i < length w → ((c : List ℕ) → Spells (drop i w) c → ⊥) → One w i (record { byte = 0; size = 0 })
+of-none w i h n = record { within = omega arith; spells = λ l. absurd (omega arith); none-here = λ z. n }
 
 -- one byte more
 pub more : (w out : List ℕ) (i n : ℕ) (g : Glyph) → Spells (take i w) (take n out) → One w i g → (g .size ≡ 0 → ⊥) → n < length out

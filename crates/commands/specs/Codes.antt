@@ -20,6 +20,10 @@ pub record Plain (b : ℕ) : Type 0 where
 abbrev pub Hex : ℕ → ℕ → Type 0
 Hex b h = ((b ≡ 48 + h) × (h < 10)) ⊎ (((b ≡ 55 + h) ⊎ (b ≡ 87 + h)) × (10 ≤ h) × (h < 16))
 
+-- b is no hexadecimal digit
+abbrev pub Unhex : ℕ → Type 0
+Unhex b = (h : ℕ) → Hex b h → ⊥
+
 -- the text w writes the bytes c
 pub data Spells : List ℕ → List ℕ → Type 0 where
   none : Spells [] []
@@ -43,17 +47,18 @@ unfoldable pub shown : List ℕ → List ℕ
 shown [] = []
 shown (b ∷ c) = glyphs b ++ shown c
 
--- the size bytes of w from i write one byte, if size is not 0
+-- the size bytes of w from i write one byte; if size is 0, no code's text stands there
 pub record One (w : List ℕ) (i : ℕ) (g : Glyph) : Type 0 where
   pub within : i + g .size ≤ length w
   pub spells : 1 ≤ g .size → Spells (take (g .size) (drop i w)) (g .byte ∷ [])
+  pub none-here : g .size ≡ 0 → (c : List ℕ) → Spells (drop i w) c → ⊥
 
 -- w writes the first n bytes of k
 pub record Coded (w k : List ℕ) (n : ℕ) : Type 0 where
   pub within : n ≤ length k
   pub spells : Spells w (take n k)
 
--- a word is read as a code at the start of the output
+-- a word is read as a code at the start of the output, or it is none that fits there
 abbrev pub Decodes : List ℕ → List ℕ → Decoded → Type 0
 Decodes w out (Code n) = Coded w out n
-Decodes w out Wrong = Unit {0}
+Decodes w out Wrong = (c : List ℕ) → length c ≤ length out → Spells w c → ⊥

@@ -1,5 +1,5 @@
 -- What a line asks. Assumes nothing.
-use Prim.Native.Nat.{ℕ, _≤_, _<_}
+use Prim.Native.Nat.{ℕ, _^_, _≤_, _<_}
 use mathlib.Core.Path.{_≡_}
 use mathlib.Core.Logic.{_⊎_}
 use mathlib.Core.List.{List, [], _∷_, _++_}
@@ -7,6 +7,7 @@ use lib.ListN.{length}
 use lib.IntN.{ℤ}
 use Rattle.ground.specs.Lists.{byte}
 use Rattle.page.specs.declared.Place.{Place}
+use Rattle.page.specs.Places.{InRange}
 use Rattle.commands.specs.Numbers.{Decimal, Integer}
 use Rattle.commands.specs.Codes.{Coded}
 use Rattle.commands.specs.declared.Spot.{Spot}
@@ -19,6 +20,10 @@ pub record FirstSpace (w : List ℕ) (r : ℕ) : Type 0 where
   pub within : r ≤ length w
   pub here : r < length w → byte w r ≡ 32
   pub before : (k : ℕ) → k < r → byte w k ≡ 32 → ⊥
+
+-- no byte of w is a space
+abbrev pub Spaceless : List ℕ → Type 0
+Spaceless w = (k : ℕ) → k < length w → byte w k ≡ 32 → ⊥
 
 -- l is a word, a space, and a rest of which P holds
 pub record After (l word : List ℕ) (P : List ℕ → Type 0) : Type 0 where
@@ -39,7 +44,7 @@ pub record Placed (D : ℤ → List ℕ → Type 0) (p : Place) (w : List ℕ) :
 -- a text is read as a place, or as none
 abbrev pub Places : List ℕ → Spot → Type 0
 Places w (At p) = Placed Integer p w
-Places w Nowhere = Unit {0}
+Places w Nowhere = (p : Place) → InRange p → Placed Integer p w → ⊥
 
 -- w is a code, the first n bytes of k, and a place
 pub record Putting (k : List ℕ) (n : ℕ) (p : Place) (w : List ℕ) : Type 0 where
@@ -83,16 +88,59 @@ checkWord = 99 ∷ 104 ∷ 101 ∷ 99 ∷ 107 ∷ []
 abbrev pub inspectWord : List ℕ
 inspectWord = 105 ∷ 110 ∷ 115 ∷ 112 ∷ 101 ∷ 99 ∷ 116 ∷ []
 
--- the command that a line asks; k begins with its code
+-- the line l asks the command; k begins with its code
+abbrev pub Asks : List ℕ → List ℕ → Command → Type 0
+Asks l k Nothing = (length l ≡ 0) ⊎ (byte l 0 ≡ 35)
+Asks l k (Format n) = After l formatWord (Decimal n)
+Asks l k (Put n p) = After l putWord (Putting k n p)
+Asks l k (Lookup n) = After l lookupWord (λ w. Coded w k n)
+Asks l k (Remove n) = After l removeWord (λ w. Coded w k n)
+Asks l k Count = l ≡ countWord
+Asks l k (Row n) = After l rowWord (Decimal n)
+Asks l k Listing = l ≡ listWord
+Asks l k Check = l ≡ checkWord
+Asks l k (Inspect n) = After l inspectWord (Decimal n)
+Asks l k Unknown = ⊥
+
+-- no number is too large for its field
+abbrev pub Fitting : Command → Type 0
+Fitting Nothing = Unit {0}
+Fitting (Format n) = n < 2 ^ 64
+Fitting (Put n p) = InRange p
+Fitting (Lookup n) = Unit {0}
+Fitting (Remove n) = Unit {0}
+Fitting Count = Unit {0}
+Fitting (Row n) = n < 2 ^ 64
+Fitting Listing = Unit {0}
+Fitting Check = Unit {0}
+Fitting (Inspect n) = n < 2 ^ 64
+Fitting Unknown = Unit {0}
+
+-- the line asks nothing whose numbers fit, with a code no longer than k
+abbrev pub AsksNothing : List ℕ → List ℕ → Type 0
+AsksNothing l k = (j : List ℕ) (c : Command) → length j ≡ length k → Fitting c → Asks l j c → ⊥
+
+-- what a line is taken for: the command that it asks, or unknown where it asks none
 abbrev pub Means : List ℕ → List ℕ → Command → Type 0
-Means l k Nothing = (length l ≡ 0) ⊎ (byte l 0 ≡ 35)
-Means l k (Format n) = After l formatWord (Decimal n)
-Means l k (Put n p) = After l putWord (Putting k n p)
-Means l k (Lookup n) = After l lookupWord (λ w. Coded w k n)
-Means l k (Remove n) = After l removeWord (λ w. Coded w k n)
-Means l k Count = l ≡ countWord
-Means l k (Row n) = After l rowWord (Decimal n)
-Means l k Listing = l ≡ listWord
-Means l k Check = l ≡ checkWord
-Means l k (Inspect n) = After l inspectWord (Decimal n)
-Means l k Unknown = Unit {0}
+Means l k Nothing = Asks l k Nothing
+Means l k (Format n) = Asks l k (Format n)
+Means l k (Put n p) = Asks l k (Put n p)
+Means l k (Lookup n) = Asks l k (Lookup n)
+Means l k (Remove n) = Asks l k (Remove n)
+Means l k Count = Asks l k Count
+Means l k (Row n) = Asks l k (Row n)
+Means l k Listing = Asks l k Listing
+Means l k Check = Asks l k Check
+Means l k (Inspect n) = Asks l k (Inspect n)
+Means l k Unknown = AsksNothing l k
+
+-- a line that is neither empty nor passed over
+pub record Spoken (l : List ℕ) : Type 0 where
+  pub some : length l ≡ 0 → ⊥
+  pub said : byte l 0 ≡ 35 → ⊥
+
+-- the word of no command that takes a code
+pub record Uncoded (w : List ℕ) : Type 0 where
+  pub put : w ≡ putWord → ⊥
+  pub lookup : w ≡ lookupWord → ⊥
+  pub remove : w ≡ removeWord → ⊥

@@ -72,4 +72,4 @@ pub record Shortest (z : ℤ) (w : List ℕ) : Type 0 where
 -- a word is read as a number from -most - 1 to most
 abbrev pub ReadsSigned : List ℕ → ℕ → Signed → Type 0
 ReadsSigned w most (Of z) = Integer z w × (mag z ≤ most)
-ReadsSigned w most Other = Unit {0}
+ReadsSigned w most Other = (z : ℤ) → mag z ≤ most → Integer z w → ⊥

@@ -1,13 +1,14 @@
 // Codes as text.
+ghost use mathlib.Core.Path.{_≡_};
 ghost use Prim.Native.Nat.{_<_, _≤_};
 ghost use lib.ListN.{length};
-ghost use Rattle.commands.specs.Codes.{Hex, One, Decodes};
+ghost use Rattle.commands.specs.Codes.{Hex, Unhex, One, Decodes};
 use crate::Decoded;
 use crate::Glyph;
 
 // What a hexadecimal digit is worth; 16 for any other byte.
 fn hex_digit(b: u8) -> usize
-    ensures { λ r. ⌜ (r < 16 → Hex b r) × (r ≤ 16) ⌝ }
+    ensures { λ r. ⌜ (r < 16 → Hex b r) × (r ≤ 16) × (r ≡ 16 → Unhex b) ⌝ }
 {
     if b < 48 {
         return 16;

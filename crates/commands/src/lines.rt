@@ -3,7 +3,7 @@ ghost use mathlib.Core.Path.{_≡_};
 ghost use mathlib.Core.List.{List, _∷_, _++_};
 ghost use Prim.Native.Nat.{ℕ, _≤_};
 ghost use lib.Signed.{mag};
-ghost use Rattle.commands.specs.Lines.{FirstSpace, Places, Means, putWord};
+ghost use Rattle.commands.specs.Lines.{FirstSpace, Places, Means, Spaceless, Spoken, Uncoded, putWord};
 use super::codes::decode;
 use super::numbers::read_number;
 use super::numbers::read_signed;
@@ -45,6 +45,7 @@ fn narrow16(z: i64) -> i16
 
 // The place of three words.
 fn place_of(page: &[u8], slot: &[u8], volume: &[u8]) -> Spot
+    requires { ⌜ Spaceless (now page) × Spaceless (now slot) ⌝ }
     ensures { λ r. ⌜ Places (now (page .entry) ++ (32 ∷ (now (slot .entry) ++ (32 ∷ now (volume .entry))))) r ⌝ }
 {
     let Signed::Of(p) = read_signed(page, 2147483647) else {
@@ -83,6 +84,7 @@ pub fn read_place(w: &[u8]) -> Spot
 
 // A line of one word.
 fn bare(line: &[u8]) -> Command
+    requires { ⌜ Spaceless (now line) × Spoken (now line) ⌝ }
     ensures { λ r. ⌜ ((k : List ℕ) → Means (now (line .entry)) k r) ⌝ }
 {
     if same(line, b"count") {
@@ -99,6 +101,7 @@ fn bare(line: &[u8]) -> Command
 
 // A word and a number.
 fn numbered(word: &[u8], rest: &[u8]) -> Command
+    requires { ⌜ Spaceless (now word) × Spoken (now word ++ (32 ∷ now rest)) × Uncoded (now word) ⌝ }
     ensures { λ r. ⌜ ((k : List ℕ) → Means (now (word .entry) ++ (32 ∷ now (rest .entry))) k r) ⌝ }
 {
     let Number::Is(n) = read_number(rest) else {
@@ -136,6 +139,7 @@ fn put(rest: &[u8], code: &mut [u8]) -> Command
 
 // A word and what stands after it.
 fn phrase(word: &[u8], rest: &[u8], code: &mut [u8]) -> Command
+    requires { ⌜ Spaceless (now word) × Spoken (now word ++ (32 ∷ now rest)) ⌝ }
     ensures { λ r. ⌜ Means (now (word .entry) ++ (32 ∷ now (rest .entry))) (now (code .exit)) r ⌝ }
 {
     if same(word, b"put") {

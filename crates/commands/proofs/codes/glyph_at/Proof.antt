@@ -2,6 +2,7 @@
 use native.Mathlib.Omega.{arith}
 use borrow.Author.Needs.{needs}
 use Rattle.commands.proofs.Spelling.{of-plain, of-escaped, of-none}
+use Rattle.commands.proofs.Unread.{too-low, too-high, too-short, first-other, second-other}
 use Rattle.commands.proofs.codes.glyph_at.Statement.{statement}
 use Rattle.commands.proofs.codes.glyph_at.Tie as tie
 
@@ -9,10 +10,10 @@ shared-slice-read-b : tie.Need-shared-slice-read-b
 shared-slice-read-b c = search needs
 
 returns : tie.Need-returns
-returns c = of-none _ _ (c .before .before .before .pre)
+returns c = of-none _ _ (c .before .before .before .pre) (too-low _ _ (c .before .before .before .pre) (c .if1 .taken))
 
 returns-2 : tie.Need-returns-2
-returns-2 c = of-none _ _ (c .before .before .before .before .pre)
+returns-2 c = of-none _ _ (c .before .before .before .before .pre) (too-high _ _ (c .before .before .before .before .pre) (c .if2 .taken))
 
 returns-3 : tie.Need-returns-3
 returns-3 c = of-plain _ _ (c .before .before .before .before .before .pre) (record { least = c .before .before .if1 .left; most = c .before .if2 .left; other = c .if3 .taken })
@@ -21,7 +22,7 @@ sub-if4 : tie.Need-sub-if4
 sub-if4 c = search needs
 
 returns-4 : tie.Need-returns-4
-returns-4 c = of-none _ _ (c .before .before .before .before .before .before .pre)
+returns-4 c = of-none _ _ (c .before .before .before .before .before .before .pre) (too-short _ _ (c .before .before .before .before .before .before .pre) (c .before .if3 .left) (c .if4 .taken))
 
 add-hex-digit : tie.Need-add-hex-digit
 add-hex-digit c = search needs
@@ -42,10 +43,10 @@ hex-digit-requires-2 : tie.Need-hex-digit-requires-2
 hex-digit-requires-2 c κs = search needs
 
 returns-5 : tie.Need-returns-5
-returns-5 c = of-none _ _ (c .before .before .before .before .before .before .before .before .before .before .before .pre)
+returns-5 c = of-none _ _ (c .before .before .before .before .before .before .before .before .before .before .before .pre) (first-other _ _ (c .before .before .before .before .before .before .before .before .before .before .before .pre) (c .before .before .before .before .before .before .if3 .left) (c .before .before .before .hex-digit .ensures .2 (omega arith)))
 
 returns-6 : tie.Need-returns-6
-returns-6 c = of-none _ _ (c .before .before .before .before .before .before .before .before .before .before .before .before .pre)
+returns-6 c = of-none _ _ (c .before .before .before .before .before .before .before .before .before .before .before .before .pre) (second-other _ _ (c .before .before .before .before .before .before .before .before .before .before .before .before .pre) (c .before .before .before .before .before .before .before .if3 .left) (c .before .before .hex-digit2 .ensures .2 (omega arith)))
 
 mul-t9 : tie.Need-mul-t9
 mul-t9 c = search needs

@@ -1,5 +1,8 @@
 -- `commands::bare` meets its contract. Assumes nothing.
+use mathlib.Core.Path.{sym, _∙_}
 use borrow.Author.Needs.{needs}
+use Rattle.ground.proofs.Tests.{untrue}
+use Rattle.commands.proofs.Unasked.{no-word}
 use Rattle.commands.proofs.lines.bare.Statement.{statement}
 use Rattle.commands.proofs.lines.bare.Tie as tie
 
@@ -31,7 +34,9 @@ returns-3 : tie.Need-returns-3
 returns-3 c = λ k. c .before .same3 .ensures .0 (c .if3 .taken)
 
 returns-4 : tie.Need-returns-4
-returns-4 c = search needs
+returns-4 c =
+    let s = c .before .before .before .before .before .before .before .before .before .before in
+    no-word (s .args .line .now) (s .pre .0) (s .pre .1) (λ e. untrue (sym (c .before .before .before .before .before .before .if1 .left) ∙ c .before .before .before .before .before .before .before .same .ensures .1 e)) (λ e. untrue (sym (c .before .before .before .if2 .left) ∙ c .before .before .before .before .same2 .ensures .1 e)) (λ e. untrue (sym (c .if3 .left) ∙ c .before .same3 .ensures .1 e))
 
 pub bare-spec : {M : Type 1} → statement M
 bare-spec =

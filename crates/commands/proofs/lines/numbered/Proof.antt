@@ -1,7 +1,10 @@
 -- `commands::numbered` meets its contract. Assumes nothing.
-use mathlib.Core.Path.{subst}
+use mathlib.Core.Logic.{⊎-elim}
+use mathlib.Core.Path.{sym, _∙_, subst}
 use borrow.Author.Needs.{needs}
+use Rattle.ground.proofs.Tests.{untrue}
 use Rattle.commands.specs.Numbers.{Reads}
+use Rattle.commands.proofs.Unasked.{no-number}
 use Rattle.commands.proofs.Phrases.{after-word}
 use Rattle.commands.proofs.lines.numbered.Statement.{statement}
 use Rattle.commands.proofs.lines.numbered.Tie as tie
@@ -16,7 +19,9 @@ enum-told : tie.Need-enum-told
 enum-told c = search needs
 
 returns : tie.Need-returns
-returns c = search needs
+returns c =
+    let s = c .before .before .before .before .before in
+    no-number (s .args .word .now) (s .args .rest .now) (s .pre .0) (s .pre .1) (s .pre .2) (λ n h d _. subst (Reads _) (c .enum-told .given .1) (c .before .before .read-number .ensures) n h d)
 
 slice-aggregate-same : tie.Need-slice-aggregate-same
 slice-aggregate-same c = search needs
@@ -52,7 +57,10 @@ returns-4 c =
     after-word _ _ _ _ (c .before .same3 .ensures .0 (c .if3 .taken)) (subst (Reads _) (n .n .given .1) (n .before .before .read-number .ensures))
 
 returns-5 : tie.Need-returns-5
-returns-5 c = search needs
+returns-5 c =
+    let s = c .before .before .before .before .before .before .before .before .before .before .before .before .before .before .before in
+    no-number (s .args .word .now) (s .args .rest .now) (s .pre .0) (s .pre .1) (s .pre .2)
+    (λ n h d. ⊎-elim (λ e. untrue (sym (c .before .before .before .before .before .before .if1 .left) ∙ c .before .before .before .before .before .before .before .same .ensures .1 e)) (⊎-elim (λ e. untrue (sym (c .before .before .before .if2 .left) ∙ c .before .before .before .before .same2 .ensures .1 e)) (λ e. untrue (sym (c .if3 .left) ∙ c .before .same3 .ensures .1 e))))
 
 pub numbered-spec : {M : Type 1} → statement M
 numbered-spec =

@@ -1,8 +1,10 @@
 -- `commands::parse` meets its contract. Assumes nothing.
+use mathlib.Core.Path.{subst, sym}
 use mathlib.Core.Logic.{inl, inr}
-use mathlib.Core.Path.{sym}
 use lib.Seq.{length-take-le}
 use borrow.Author.Needs.{needs}
+use Rattle.commands.specs.Lines.{Spoken}
+use Rattle.commands.proofs.Unread.{first-spaceless, all-spaceless}
 use Rattle.commands.proofs.Phrases.{cut, of-line}
 use Rattle.commands.proofs.lines.parse.Statement.{statement}
 use Rattle.commands.proofs.lines.parse.Tie as tie
@@ -20,7 +22,7 @@ first-space-requires : tie.Need-first-space-requires
 first-space-requires c κs = search needs
 
 bare-requires : tie.Need-bare-requires
-bare-requires c κs = search needs
+bare-requires c κs = (all-spaceless _ _ (c .before .first-space .ensures) (c .if3 .taken), record { some = c .before .before .before .before .if1 .left; said = c .before .before .if2 .left })
 
 returns-3 : tie.Need-returns-3
 returns-3 c = c .bare .ensures _
@@ -41,7 +43,9 @@ part-phrase-end : tie.Need-part-phrase-end
 part-phrase-end c = search needs
 
 phrase-requires : tie.Need-phrase-requires
-phrase-requires c κs = search needs
+phrase-requires c κs =
+    let f = c .before .before .before .before .first-space in
+    (first-spaceless _ _ (f .ensures), subst Spoken (cut _ _ (f .ensures) (c .before .before .before .if3 .left)) (record { some = c .before .before .before .before .before .before .before .if1 .left; said = c .before .before .before .before .before .if2 .left }))
 
 same-length : tie.Need-same-length
 same-length c = search needs

@@ -1,9 +1,11 @@
 -- `commands::phrase` meets its contract. Assumes nothing.
 use Prim.Native.Nat.{ℕ}
-use mathlib.Core.Path.{ap, subst}
+use mathlib.Core.Path.{sym, _∙_, ap, subst}
 use mathlib.Core.List.{List, _∷_, _++_}
 use borrow.Author.Needs.{needs}
+use Rattle.ground.proofs.Tests.{untrue}
 use Rattle.commands.specs.Codes.{Decodes}
+use Rattle.commands.proofs.Unasked.{no-lookup, no-remove}
 use Rattle.commands.proofs.Phrases.{after-word, of-line}
 use Rattle.commands.proofs.lines.phrase.Statement.{statement}
 use Rattle.commands.proofs.lines.phrase.Tie as tie
@@ -45,7 +47,10 @@ same-length-2 : tie.Need-same-length-2
 same-length-2 c = search needs
 
 returns-2 : tie.Need-returns-2
-returns-2 c = search needs
+returns-2 c =
+    let s = c .before .before .before .before .before .before .before .before .before .before .before .before .before .before .before in
+    let d = c .before .before .before .before .decode in
+    no-lookup (s .args .word .now) (s .args .rest .now) (s .pre .0) (s .pre .1) (d .last .1 .0) (subst (Decodes _ _) (c .enum-told .given .1) (d .ensures)) (c .before .before .before .before .before .before .before .same2 .ensures .0 (c .before .before .before .before .before .before .if2 .taken))
 
 same-length-3 : tie.Need-same-length-3
 same-length-3 c = search needs
@@ -76,7 +81,10 @@ same-length-4 : tie.Need-same-length-4
 same-length-4 c = search needs
 
 returns-4 : tie.Need-returns-4
-returns-4 c = search needs
+returns-4 c =
+    let s = c .before .before .before .before .before .before .before .before .before .before .before .before .before .before .before .before .before .before in
+    let d = c .before .before .before .before .decode2 in
+    no-remove (s .args .word .now) (s .args .rest .now) (s .pre .0) (s .pre .1) (d .last .1 .0) (subst (Decodes _ _) (c .enum-told2 .given .1) (d .ensures)) (c .before .before .before .before .before .before .before .same3 .ensures .0 (c .before .before .before .before .before .before .if3 .taken))
 
 same-length-5 : tie.Need-same-length-5
 same-length-5 c = search needs
@@ -89,7 +97,9 @@ returns-5 c =
     after-word _ _ _ _ (s .before .same3 .ensures .0 (s .if3 .taken)) (subst (Decodes _ _) (n .n2 .given .1) (d .decode2 .ensures))
 
 numbered-requires : tie.Need-numbered-requires
-numbered-requires c κs = search needs
+numbered-requires c κs =
+    let s = c .before .before .before .before .before .before .before .before .before .before .before .before in
+    (s .pre .0, s .pre .1, record { put = λ e. untrue (sym (c .before .before .before .before .before .before .if1 .left) ∙ c .before .before .before .before .before .before .before .same .ensures .1 e); lookup = λ e. untrue (sym (c .before .before .before .if2 .left) ∙ c .before .before .before .before .same2 .ensures .1 e); remove = λ e. untrue (sym (c .if3 .left) ∙ c .before .same3 .ensures .1 e) })
 
 returns-6 : tie.Need-returns-6
 returns-6 c = c .numbered .ensures _

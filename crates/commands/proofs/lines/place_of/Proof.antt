@@ -1,9 +1,11 @@
 -- `commands::place_of` meets its contract. Assumes nothing.
 use mathlib.Core.Path.{refl, subst}
+use native.Mathlib.Omega.{arith}
 use lib.Dec.{lit<}
 use mir.Syntax.{w16, w32}
 use borrow.Author.Needs.{needs}
 use Rattle.commands.specs.Numbers.{ReadsSigned}
+use Rattle.commands.proofs.Unasked.{the-page, the-slot, the-volume}
 use Rattle.commands.proofs.Signs.{part-size, part-is}
 use Rattle.commands.proofs.lines.place_of.Statement.{statement}
 use Rattle.commands.proofs.lines.place_of.Tie as tie
@@ -18,7 +20,7 @@ enum-told : tie.Need-enum-told
 enum-told c = search needs
 
 returns : tie.Need-returns
-returns c = search needs
+returns c = λ p r x. subst (ReadsSigned _ _) (c .enum-told .given .1) (c .before .before .read-signed .ensures) (p .page) (omega (arith, r .page)) (the-page (c .before .before .before .before .before .before .args .page .now) (c .before .before .before .before .before .before .args .slot .now) (c .before .before .before .before .before .before .args .volume .now) (c .before .before .before .before .before .before .pre .0) (c .before .before .before .before .before .before .pre .1) p x)
 
 read-signed-requires-2 : tie.Need-read-signed-requires-2
 read-signed-requires-2 c κs = search needs
@@ -30,7 +32,7 @@ enum-told-2 : tie.Need-enum-told-2
 enum-told-2 c = search needs
 
 returns-2 : tie.Need-returns-2
-returns-2 c = search needs
+returns-2 c = λ p r x. subst (ReadsSigned _ _) (c .enum-told2 .given .1) (c .before .before .read-signed2 .ensures) (p .slot) (omega (arith, r .slot)) (the-slot (c .before .before .before .before .before .before .before .before .before .before .args .page .now) (c .before .before .before .before .before .before .before .before .before .before .args .slot .now) (c .before .before .before .before .before .before .before .before .before .before .args .volume .now) (c .before .before .before .before .before .before .before .before .before .before .pre .0) (c .before .before .before .before .before .before .before .before .before .before .pre .1) p x)
 
 read-signed-requires-3 : tie.Need-read-signed-requires-3
 read-signed-requires-3 c κs = search needs
@@ -42,7 +44,7 @@ enum-told-3 : tie.Need-enum-told-3
 enum-told-3 c = search needs
 
 returns-3 : tie.Need-returns-3
-returns-3 c = search needs
+returns-3 c = λ p r x. subst (ReadsSigned _ _) (c .enum-told3 .given .1) (c .before .before .read-signed3 .ensures) (p .volume) (omega (arith, r .volume)) (the-volume (c .before .before .before .before .before .before .before .before .before .before .before .before .before .before .args .page .now) (c .before .before .before .before .before .before .before .before .before .before .before .before .before .before .args .slot .now) (c .before .before .before .before .before .before .before .before .before .before .before .before .before .before .args .volume .now) (c .before .before .before .before .before .before .before .before .before .before .before .before .before .before .pre .0) (c .before .before .before .before .before .before .before .before .before .before .before .before .before .before .pre .1) p x)
 
 narrow32-requires : tie.Need-narrow32-requires
 narrow32-requires c κs =

@@ -1,9 +1,13 @@
 -- `commands::put` meets its contract. Assumes nothing.
+use Prim.Native.Nat.{_+_, _-_}
 use mathlib.Core.Path.{sym, subst, refl}
+use lib.ListN.{length, take, drop}
 use lib.Seq.{length-take-le}
 use borrow.Author.Needs.{needs}
 use Rattle.commands.specs.Lines.{Places}
 use Rattle.commands.specs.Codes.{Decodes}
+use Rattle.commands.proofs.Unasked.{put-alone, put-nowhere, put-wrong}
+use Rattle.commands.proofs.Unread.{first-spaceless, all-spaceless}
 use Rattle.commands.proofs.Phrases.{cut}
 use Rattle.commands.proofs.lines.put.Statement.{statement}
 use Rattle.commands.proofs.lines.put.Tie as tie
@@ -12,7 +16,7 @@ first-space-requires : tie.Need-first-space-requires
 first-space-requires c κs = search needs
 
 returns : tie.Need-returns
-returns c = search needs
+returns c = put-alone (c .before .before .before .before .args .rest .now) (c .before .before .before .before .args .code .now) (all-spaceless _ _ (c .before .first-space .ensures) (c .if1 .taken))
 
 add-s : tie.Need-add-s
 add-s c = search needs
@@ -36,7 +40,10 @@ enum-told : tie.Need-enum-told
 enum-told c = search needs
 
 returns-2 : tie.Need-returns-2
-returns-2 c = search needs
+returns-2 c =
+    let r = c .before .before .before .before .before .before .before .before .args .rest .now in
+    let f = c .before .before .before .before .before .first-space in
+    put-nowhere r (c .before .before .before .before .before .before .before .before .args .code .now) (take (f .result) r) (take (length r - (f .result + 1)) (drop (f .result + 1) r)) (cut _ _ (f .ensures) (c .before .before .before .before .if1 .left)) (first-spaceless _ _ (f .ensures)) (subst (Places _) (c .enum-told .given .1) (c .before .before .read-place .ensures))
 
 slice-aggregate-decode : tie.Need-slice-aggregate-decode
 slice-aggregate-decode c = sym (length-take-le _ _ (c .before .before .before .before .before .before .before .first-space .ensures .within))
@@ -54,7 +61,11 @@ same-length : tie.Need-same-length
 same-length c = search needs
 
 returns-3 : tie.Need-returns-3
-returns-3 c = search needs
+returns-3 c =
+    let r = c .before .before .before .before .before .before .before .before .before .before .before .before .before .before .before .before .args .rest .now in
+    let f = c .before .before .before .before .before .before .before .before .before .before .before .before .before .first-space in
+    let d = c .before .before .before .before .decode in
+    put-wrong r (d .last .1 .0) (take (f .result) r) (take (length r - (f .result + 1)) (drop (f .result + 1) r)) (cut _ _ (f .ensures) (c .before .before .before .before .before .before .before .before .before .before .before .before .if1 .left)) (first-spaceless _ _ (f .ensures)) (subst (Decodes _ _) (c .enum-told2 .given .1) (d .ensures))
 
 same-length-2 : tie.Need-same-length-2
 same-length-2 c = search needs

@@ -1,11 +1,14 @@
 -- `commands::read_place` meets its contract. Assumes nothing.
-use Prim.Native.Nat.{ℕ}
+use Prim.Native.Nat.{_+_, _-_, ℕ}
 use mathlib.Core.List.{List}
 use mathlib.Core.Path.{sym, subst}
+use lib.ListN.{length, take, drop}
 use lib.Seq.{length-take-le}
 use borrow.Author.Needs.{needs}
 use Rattle.commands.specs.Lines.{Places}
-use Rattle.commands.proofs.Phrases.{cut-twice}
+use Rattle.commands.proofs.Unasked.{one-word, two-words}
+use Rattle.commands.proofs.Unread.{first-spaceless, all-spaceless}
+use Rattle.commands.proofs.Phrases.{cut, cut-twice}
 use Rattle.commands.proofs.lines.read_place.Statement.{statement}
 use Rattle.commands.proofs.lines.read_place.Tie as tie
 
@@ -13,7 +16,7 @@ first-space-requires : tie.Need-first-space-requires
 first-space-requires c κs = search needs
 
 returns : tie.Need-returns
-returns c = search needs
+returns c = one-word (c .before .before .before .args .w .now) (all-spaceless _ _ (c .before .first-space .ensures) (c .if1 .taken))
 
 add-s : tie.Need-add-s
 add-s c = search needs
@@ -31,7 +34,10 @@ first-space-requires-2 : tie.Need-first-space-requires-2
 first-space-requires-2 c κs = search needs
 
 returns-2 : tie.Need-returns-2
-returns-2 c = search needs
+returns-2 c =
+    let w = c .before .before .before .before .before .before .args .w .now in
+    let f = c .before .before .before .before .first-space in
+    two-words w (take (f .result) w) (take (length w - (f .result + 1)) (drop (f .result + 1) w)) (cut _ _ (f .ensures) (c .before .before .before .if1 .left)) (first-spaceless _ _ (f .ensures)) (all-spaceless _ _ (c .before .first-space2 .ensures) (c .if2 .taken))
 
 add-v : tie.Need-add-v
 add-v c = search needs
@@ -52,7 +58,7 @@ part-place-of-end : tie.Need-part-place-of-end
 part-place-of-end c = search needs
 
 place-of-requires : tie.Need-place-of-requires
-place-of-requires c κs = search needs
+place-of-requires c κs = (first-spaceless _ _ (c .before .before .before .before .before .before .before .first-space .ensures), first-spaceless _ _ (c .before .before .before .before .first-space2 .ensures))
 
 returns-3 : tie.Need-returns-3
 returns-3 c =

@@ -2,12 +2,13 @@
 use mathlib.Core.Path.{subst}
 use borrow.Author.Needs.{needs}
 use Rattle.commands.specs.Numbers.{Reads}
+use Rattle.commands.proofs.Unread.{unread-empty, unread-minus, minus-large, unread-plus, plus-large}
 use Rattle.commands.proofs.Signs.{read-minus, read-plus, after-first}
 use Rattle.commands.proofs.numbers.read_signed.Statement.{statement}
 use Rattle.commands.proofs.numbers.read_signed.Tie as tie
 
 returns : tie.Need-returns
-returns c = search needs
+returns c = unread-empty _ _ (c .if1 .taken)
 
 shared-slice-read-if2 : tie.Need-shared-slice-read-if2
 shared-slice-read-if2 c = search needs
@@ -31,13 +32,13 @@ enum-told : tie.Need-enum-told
 enum-told c = search needs
 
 returns-2 : tie.Need-returns-2
-returns-2 c = search needs
+returns-2 c = unread-minus _ _ _ (after-first _ _ (c .before .before .before .before .before .before .if1 .left) (c .before .before .before .before .if2 .taken)) (c .before .before .before .before .before .before .before .before .pre) (subst (Reads _) (c .enum-told .given .1) (c .before .before .read-number .ensures))
 
 add-if3 : tie.Need-add-if3
 add-if3 c = search needs
 
 returns-3 : tie.Need-returns-3
-returns-3 c = search needs
+returns-3 c = minus-large _ _ _ (after-first _ _ (c .before .before .before .before .before .before .before .before .if1 .left) (c .before .before .before .before .before .before .if2 .taken)) _ (subst (Reads _) (c .before .before .n .given .1) (c .before .before .before .before .read-number .ensures)) (c .if3 .taken)
 
 minus-requires : tie.Need-minus-requires
 minus-requires c κs = search needs
@@ -60,10 +61,10 @@ enum-told-2 : tie.Need-enum-told-2
 enum-told-2 c = search needs
 
 returns-5 : tie.Need-returns-5
-returns-5 c = search needs
+returns-5 c = unread-plus _ _ (c .before .before .before .if2 .left) (c .before .before .before .before .before .before .before .pre) (subst (Reads _) (c .enum-told2 .given .1) (c .before .before .read-number2 .ensures))
 
 returns-6 : tie.Need-returns-6
-returns-6 c = search needs
+returns-6 c = plus-large _ _ (c .before .before .before .before .before .if2 .left) _ (subst (Reads _) (c .before .before .n2 .given .1) (c .before .before .before .before .read-number2 .ensures)) (c .if4 .taken)
 
 plus-requires : tie.Need-plus-requires
 plus-requires c κs = search needs
