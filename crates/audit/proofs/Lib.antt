@@ -1,4 +1,6 @@
-pub mod Marks
+pub mod Table
+pub mod Walked
+pub mod Firsts
 pub mod Sweep
 pub mod Whole
 pub mod Prefixes

@@ -5,53 +5,48 @@ use mathlib.Core.List.{List}
 use native.Mathlib.Omega.{arith}
 use native.Mathlib.Numerals.{add-one}
 use borrow.Author.Count.{below-more}
-use lib.ListN.{length}
+use lib.ListN.{length, set}
 use Rattle.ground.specs.Lists.{part, total}
 use Rattle.words.specs.Codes.{Before}
 use Rattle.words.specs.Le.{le32}
-use Rattle.words.specs.Moves.{Cleared}
+use Rattle.words.specs.Zeros.{Zero}
 use Rattle.page.proofs.Sums.{total-more}
-use Rattle.page.specs.Page.{In, off, len, word, code, count, frontier, free, need, slotAt}
+use Rattle.page.specs.Page.{off, len, word, code, count, frontier, free, need, slotAt}
 use Rattle.audit.specs.Rules.{WordOk, SlotsOk, prior, offOf, lenOf}
-use Rattle.audit.specs.Marks.{Covers, NextOk}
-use Rattle.audit.proofs.Marks.{covers-more, apart-none, apart-more, unmarked}
+use Rattle.audit.specs.Table.{Table, NextOk}
+use Rattle.audit.proofs.Table.{table-none, table-more, vacant-of}
 
--- of the first n slots each keeps its rules, they are in code order, no byte is in two records, and the marks are theirs
-pub record Swept (p : List ℕ) (n f : ℕ) (m : List ℕ) : Type 0 where
+-- of the first n slots each keeps its rules, they are in code order, and the table is theirs
+pub record Swept (p : List ℕ) (n f : ℕ) (t : List ℕ) : Type 0 where
   pub words : (i : ℕ) → i < n → WordOk p f (word p i)
   pub ascending : (i : ℕ) → i < n → Before (prior p i) (code p i)
-  pub apart : (i j k : ℕ) → i < n → j < n → In p i k → In p j k → i ≡ j
-  pub covers : Covers p n f m
+  pub table : Table p n f t
 
-pub swept-none : (p m : List ℕ) (f : ℕ) → Covers p 0 f m → Swept p 0 f m
-swept-none p m f c = record { words = λ i h. absurd (omega arith); ascending = λ i h. absurd (omega arith); apart = apart-none p; covers = c }
+pub swept-none : (p t : List ℕ) (f : ℕ) → Zero t → Swept p 0 f t
+swept-none p t f z = record { words = λ i h. absurd (omega arith); ascending = λ i h. absurd (omega arith); table = table-none p t f z }
 
 -- the word of slot i
 pub word-is : (p : List ℕ) (i w : ℕ) → w ≡ le32 p (slotAt p i) → w ≡ word p i
 unfolding word
 word-is p i w e = e
 
-module _ (p m : List ℕ) (f j a b : ℕ) (last : part p a (b - a) ≡ prior p j) (s : Swept p j f m) where
-  pub swept-more : (q : List ℕ) → NextOk p m f a b (word p j) → Cleared m (offOf (word p j)) (offOf (word p j) + lenOf (word p j)) q → Swept p (j + 1) f q
+module _ (p t : List ℕ) (f j a b : ℕ) (last : part p a (b - a) ≡ prior p j) (s : Swept p j f t) where
+  pub swept-more : (q : List ℕ) → f ≤ length t → NextOk p t f a b (word p j) → q ≡ set t (offOf (word p j)) (lenOf (word p j)) → Swept p (j + 1) f q
   unfolding off len code
-  swept-more q n c = record {
+  swept-more q h n e = record {
     words = below-more (λ i. WordOk p f (word p i)) j (s .words) (n .sound);
     ascending = below-more (λ i. Before (prior p i) (code p i)) j (s .ascending) (subst (λ x. Before x (code p j)) last (n .rises));
-    apart = apart-more p m f j (s .covers) (n .sound .after) (n .sound .inside) (n .unmarked) (s .apart);
-    covers = covers-more p m q j f (s .covers) c;
+    table = table-more p t j f (s .table) q (n .sound .after) (omega (arith, n .sound .short)) (n .sound .inside) h (n .vacant) e;
   }
 
   -- where the slots keep their rules, so does the next
-  pub next-of : f ≡ frontier p → j < count p → SlotsOk p → NextOk p m f a b (word p j)
+  pub next-of : f ≡ frontier p → j < count p → SlotsOk p → NextOk p t f a b (word p j)
   unfolding off len code
   next-of e h l = record {
-    sound = w;
+    sound = rw e (l .words j h);
     rises = subst (λ x. Before x (code p j)) (sym last) (l .ascending j h);
-    unmarked = unmarked p m f j (s .covers) (w .after) (w .inside) (count p) h (l .apart);
+    vacant = vacant-of p t j f (s .table) (count p) h (l .starts);
   }
-    where
-      w : WordOk p f (word p j)
-      w = rw e (l .words j h)
 
 -- the code that the next slot's comes after
 pub last-more : (p : List ℕ) (j w : ℕ) → w ≡ word p j → 8 ≤ lenOf w → part p (offOf w + 8) (offOf w + lenOf w - (offOf w + 8)) ≡ prior p (j + 1)
@@ -65,5 +60,5 @@ pub needs-more : (p : List ℕ) (j w : ℕ) → w ≡ word p j → total (need p
 unfolding len
 needs-more p j w e = rw e (omega (arith, total-more (need p) j))
 
-pub slots-all : (p m : List ℕ) (f : ℕ) → f ≡ frontier p → Swept p (count p) f m → free p + total (need p) (count p) ≡ length p - 8 → SlotsOk p
-slots-all p m f e s u = record { words = rw e at (s .words); ascending = s .ascending; apart = s .apart; unused = u }
+pub slots-all : (p t : List ℕ) (f : ℕ) → f ≡ frontier p → Swept p (count p) f t → free p + total (need p) (count p) ≡ length p - 8 → SlotsOk p
+slots-all p t f e s u = record { words = rw e at (s .words); ascending = s .ascending; starts = s .table .starts; unused = u }

@@ -13,10 +13,9 @@ use Rattle.words.proofs.Orders.{before-trans}
 use Rattle.words.specs.Zeros.{Zero}
 use Rattle.words.proofs.Zeros.{zero-all}
 use Rattle.page.proofs.Sums.{len-of-code}
-use Rattle.page.specs.Page.{BucketPage, Natural, In, off, len, kind, word, place, code, count, frontier}
+use Rattle.page.specs.Page.{BucketPage, Natural, off, len, kind, word, place, code, count, frontier}
 use Rattle.audit.specs.Rules.{HeadOk, NaturalAt, WordOk, SlotsOk, prior}
-use Rattle.audit.specs.Marks.{Covers, Clean}
-use Rattle.audit.proofs.Marks.{clean-from, clean-to}
+use Rattle.audit.specs.Table.{Laid}
 
 natural-to : (p : List ℕ) (i : ℕ) → off p i + 8 ≤ length p → NaturalAt p (off p i) → Natural (place p i)
 unfolding place
@@ -81,7 +80,7 @@ pub slots-of : (p : List ℕ) → BucketPage p → SlotsOk p
 slots-of p b = record {
   words = λ i h. word-of p i (slot i h);
   ascending = climbs;
-  apart = b .rules .apart;
+  starts = λ i j h l e. b .rules .apart i j (off p i) h l (record { from = omega arith; to = omega (arith, b .rules .short i h) }) (record { from = omega arith; to = omega (arith, b .rules .short j l) });
   unused = b .rules .unused;
 }
   where
@@ -111,39 +110,28 @@ part-zero p a b z k h l =
     let lt : k - a < b - a = omega arith in
     rw e at (sym (byte-part p a (b - a) (k - a) lt) ∙ z (k - a))
 
--- what is known of a page p once its header and its slots are: m has the marks of its n records, f is its frontier
-pub record Known (p m : List ℕ) (n f : ℕ) : Type 0 where
+-- what is known of a page p once its header and its slots are: n its rows, f its frontier
+pub record Known (p : List ℕ) (n f : ℕ) : Type 0 where
   pub head : HeadOk p
   pub bytes : (k : ℕ) → byte p k < 256
-  pub long : length m ≡ length p
   pub rows : n ≡ count p
   pub front : f ≡ frontier p
   pub slots : SlotsOk p
-  pub marks : Covers p n f m
 
-module _ (p m : List ℕ) (n f : ℕ) (k : Known p m n f) where
-  marks : Covers p (count p) (frontier p) m
-  marks = rw (k .rows, k .front) at (k .marks)
-
-  -- the frontier is a record's end where the byte before it is marked
-  topped : byte m (f - 1) ≡ 0 → (i : ℕ) × (i < count p) × In p i (frontier p - 1)
-  topped z = ⊎-elim (λ u. absurd (omega (arith, u .0, rw (k .front) at z))) (λ u. u .1) (marks .at (frontier p - 1) (omega (arith, k .head .start)) (omega (arith, k .head .start)))
-
-  pub top-of : BucketPage p → byte m (f - 1) ≡ 0
-  top-of b =
-      let u : (i : ℕ) × (i < count p) × (off p i + len p i ≡ frontier p) = b .rules .top (b .some) in
-      let x : In p (u .0) (frontier p - 1) = record { from = omega (arith, u .2, b .rules .short (u .0) (u .1)); to = omega (arith, u .2, b .rules .short (u .0) (u .1)) } in
-      rw (k .front) (⊎-elim (λ v. absurd (v .1 (u .0) (u .1) x)) (λ v. v .0) (marks .at (frontier p - 1) (omega (arith, k .head .start)) (omega (arith, k .head .start))))
-
-  pub clean-of : BucketPage p → Clean p m 8 f
-  clean-of b = rw (k .front) (clean-from p m (count p) (frontier p) marks (λ x h l out. b .rules .clear x h (omega (arith, b .rules .room)) out))
+module _ (p : List ℕ) (n f : ℕ) (k : Known p n f) where
+  pub laid-from : BucketPage p → Laid p n f
+  laid-from b = rw (k .rows, k .front) (record {
+    apart = b .rules .apart;
+    clear = λ x h l out. b .rules .clear x h (omega (arith, b .rules .room)) out;
+    top = b .rules .top (b .some);
+  })
 
   pub zeros-of : BucketPage p → Zero (part p f (length p - 4 * n - f))
   zeros-of b = rw (k .front, k .rows) (zero-part p (frontier p) (length p - 4 * count p) (omega (arith, k .head .room)) (omega arith)
       (λ x h l. b .rules .clear x (omega (arith, b .rules .start)) (omega arith) (λ i h₂ y. omega (arith, y .to, b .rules .inside i h₂))))
 
-  pub whole : byte m (f - 1) ≡ 0 → Clean p m 8 f → Zero (part p f (length p - 4 * n - f)) → BucketPage p
-  whole z c o = record {
+  pub whole : Laid p n f → Zero (part p f (length p - 4 * n - f)) → BucketPage p
+  whole l o = record {
     some = k .head .some;
     rules = record {
       least = k .head .least;
@@ -158,13 +146,13 @@ module _ (p m : List ℕ) (n f : ℕ) (k : Known p m n f) where
       inside = λ i h. slot i h .inside;
       start = omega (arith, k .head .start);
       empty = λ h. absurd (omega (arith, k .head .some));
-      top = λ h. (top .0, top .1, omega (arith, top .2 .to, slot (top .0) (top .1) .inside, k .head .start));
+      top = λ h. laid .top;
       places = λ i h. natural-to p i (omega (arith, slot i h .inside, slot i h .short, k .head .room)) (slot i h .natural);
-      apart = k .slots .apart;
+      apart = laid .apart;
       ascending = ascending-of p (count p) (k .slots .ascending);
       unused = k .slots .unused;
       clear = λ x h l out. ⊎-elim
-          (λ lt. clean-to p m (count p) (frontier p) marks (k .bytes) (rw (k .front) at c) x h lt out)
+          (λ lt. laid .clear x h lt out)
           (λ ge. part-zero p (frontier p) (length p - 4 * count p) high x ge (omega arith))
           (side x (frontier p));
     };
@@ -173,8 +161,8 @@ module _ (p m : List ℕ) (n f : ℕ) (k : Known p m n f) where
       slot : (i : ℕ) → i < count p → Slot p i
       slot i h = slot-of p i (k .slots .words i h)
 
-      top : (i : ℕ) × (i < count p) × In p i (frontier p - 1)
-      top = topped z
+      laid : Laid p (count p) (frontier p)
+      laid = rw (k .rows, k .front) at l
 
       high : Zero (part p (frontier p) (length p - 4 * count p - frontier p))
       high = rw (k .front, k .rows) at o

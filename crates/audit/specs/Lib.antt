@@ -1,3 +1,4 @@
 pub mod Rules
-pub mod Marks
+pub mod Table
+pub mod Big
 pub mod Shared

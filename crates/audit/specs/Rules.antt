@@ -5,7 +5,7 @@ use mathlib.Core.List.{List, []}
 use lib.ListN.{length}
 use Rattle.ground.specs.Lists.{byte, total}
 use Rattle.words.specs.Codes.{Before}
-use Rattle.page.specs.Page.{In, count, frontier, free, code, word, need}
+use Rattle.page.specs.Page.{off, count, frontier, free, code, word, need}
 
 -- the header: the page's size, byte 0, the row count, and a frontier past the first record and not past the slots
 pub record HeadOk (p : List ℕ) : Type 0 where
@@ -43,9 +43,9 @@ abbrev pub prior : List ℕ → ℕ → List ℕ
 prior p zero = []
 prior p (suc i) = code p i
 
--- the slots with their records: each for itself, in code order, no byte in two, and the needs with total free
+-- the slots with their records: each for itself, in code order, no two from one byte, and the needs with total free
 pub record SlotsOk (p : List ℕ) : Type 0 where
   pub words : (i : ℕ) → i < count p → WordOk p (frontier p) (word p i)
   pub ascending : (i : ℕ) → i < count p → Before (prior p i) (code p i)
-  pub apart : (i j k : ℕ) → i < count p → j < count p → In p i k → In p j k → i ≡ j
+  pub starts : (i j : ℕ) → i < count p → j < count p → off p i ≡ off p j → i ≡ j
   pub unused : free p + total (need p) (count p) ≡ length p - 8

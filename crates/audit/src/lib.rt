@@ -1,18 +1,19 @@
 // Whether bytes are a bucket page: the rules of its bytes by page_ok, the shared bits of its hashes slot by slot.
 ghost use mathlib.Core.Path.{_≡_};
-ghost use mathlib.Core.Bool.{true};
-ghost use Prim.Native.Nat.{_+_, _*_, _-_, _≤_, _<_};
-ghost use lib.ListN.{length};
+ghost use mathlib.Core.Bool.{true, false};
+ghost use Prim.Native.Nat.{_+_, _*_, _-_, _^_, _≤_, _<_};
+ghost use lib.ListN.{length, set};
 ghost use Rattle.ground.specs.Says.{Says};
 ghost use Rattle.ground.specs.Lists.{part};
 ghost use Rattle.words.specs.Codes.{Before};
-ghost use Rattle.words.specs.Moves.{Cleared};
+ghost use Rattle.words.specs.Zeros.{Zero};
 ghost use Rattle.hash.specs.Fnv.{fnv};
 ghost use Rattle.partition.specs.Bits.{top};
 ghost use Rattle.page.specs.Page.{BucketPage, depth, count, frontier, code};
 ghost use Rattle.audit.specs.Rules.{HeadOk, NaturalAt, WordOk, SlotsOk, offOf, lenOf};
-ghost use Rattle.audit.specs.Marks.{Filled, Free, Covers, Clean, NextOk};
-ghost use Rattle.audit.specs.Shared.{Share, Keeps};
+ghost use Rattle.audit.specs.Table.{Table, Inside, Laid, NextOk};
+ghost use Rattle.audit.specs.Big.{big};
+ghost use Rattle.audit.specs.Shared.{Alike, Share, Keeps};
 use words::Order;
 
 // Size, byte 0, row count, and a frontier that leaves room for a record and for the slots.
@@ -76,11 +77,74 @@ fn word_ok(page: &[u8], f: usize, w: usize) -> bool
     natural_at(page, o)
 }
 
+fn wide(x: u8) -> u64
+    ensures { λ r. ⌜ (r ≡ x) × (r < 256) ⌝ }
+{
+    x as u64
+}
+
+// q above the k bits of low.
+fn on(q: u64, k: u32, low: u64) -> u64
+    requires { ⌜ (q < 256) × (k ≤ 56) × (low < 2 ^ k) ⌝ }
+    ensures { λ r. ⌜ r ≡ q * 2 ^ k + low ⌝ }
+{
+    q << k | low
+}
+
+// Four bytes as one number, and eight: nested so that they become one load.
+fn join4(a: u64, b: u64, c: u64, d: u64) -> u64
+    requires { ⌜ (a < 256) × (b < 256) × (c < 256) × (d < 256) ⌝ }
+    ensures { λ r. ⌜ (r ≡ a * 16777216 + (b * 65536 + (c * 256 + d))) × (r < 4294967296) ⌝ }
+{
+    on(a, 24, on(b, 16, on(c, 8, d)))
+}
+
+fn join8(a: u64, b: u64, c: u64, d: u64, e: u64, f: u64, g: u64, h: u64) -> u64
+    requires { ⌜ (a < 256) × (b < 256) × (c < 256) × (d < 256) × (e < 256) × (f < 256) × (g < 256) × (h < 256) ⌝ }
+    ensures { λ r. ⌜ r ≡ (a * 16777216 + (b * 65536 + (c * 256 + d))) * 4294967296 + (e * 16777216 + (f * 65536 + (g * 256 + h))) ⌝ }
+{
+    on(a, 56, on(b, 48, on(c, 40, on(d, 32, join4(e, f, g, h)))))
+}
+
+// The eight bytes at k as one number, the first the highest.
+fn be64(s: &[u8], k: usize) -> u64
+    requires { ⌜ k + 8 ≤ length (now s) ⌝ }
+    ensures { λ r. ⌜ r ≡ big 8 (now (s .entry)) k ⌝ }
+{
+    join8(
+        wide(s[k]),
+        wide(s[k + 1]),
+        wide(s[k + 2]),
+        wide(s[k + 3]),
+        wide(s[k + 4]),
+        wide(s[k + 5]),
+        wide(s[k + 6]),
+        wide(s[k + 7]),
+    )
+}
+
+// Whether the first eight bytes alone show that the code from a up to b comes before the one from x up to y.
+fn leads(page: &[u8], a: usize, b: usize, x: usize, y: usize) -> bool
+    requires { ⌜ (a ≤ b) × (b ≤ length (now page)) × (x ≤ y) × (y ≤ length (now page)) ⌝ }
+    ensures { λ r. ⌜ (r ≡ true → Before (part (now (page .entry)) a (b - a)) (part (now (page .entry)) x (y - x))) ⌝ }
+{
+    if b - a < 8 {
+        return false;
+    }
+    if y - x < 8 {
+        return false;
+    }
+    be64(page, a) < be64(page, x)
+}
+
 // Whether the code from a up to b comes before the one from x up to y.
 fn rises(page: &[u8], a: usize, b: usize, x: usize, y: usize) -> bool
     requires { ⌜ (a ≤ b) × (b ≤ length (now page)) × (x ≤ y) × (y ≤ length (now page)) ⌝ }
     ensures { λ r. ⌜ Says r (Before (part (now (page .entry)) a (b - a)) (part (now (page .entry)) x (y - x))) ⌝ }
 {
+    if leads(page, a, b, x, y) {
+        return true;
+    }
     match words::compare(&page[a..b], &page[x..y]) {
         Order::Less => true,
         Order::Equal => false,
@@ -88,39 +152,12 @@ fn rises(page: &[u8], a: usize, b: usize, x: usize, y: usize) -> bool
     }
 }
 
-// No mark from a up to b.
-fn fill(marks: &mut [u8], a: usize, b: usize)
-    requires { ⌜ (a ≤ b) × (b ≤ length (now marks)) ⌝ }
-    ensures { λ _. ⌜ Filled (now (marks .entry)) a b (now (marks .exit)) ⌝ }
-{
-    let mut k = a;
-    while k < b {
-        marks[k] = 255;
-        k += 1;
-    }
-}
-
-// Marks the n bytes from o, and says whether none of them was marked.
-fn mark(marks: &mut [u8], o: usize, n: usize) -> bool
-    requires { ⌜ o + n ≤ length (now marks) ⌝ }
-    ensures says { λ r. ⌜ Says r (Free (now (marks .entry)) o (o + n)) ⌝ }
-    ensures marked { λ r. ⌜ Cleared (now (marks .entry)) o (o + n) (now (marks .exit)) ⌝ }
-{
-    let mut acc: u8 = 255;
-    let mut k = 0;
-    while k < n {
-        acc = acc & marks[o + k];
-        marks[o + k] = 0;
-        k += 1;
-    }
-    acc == 255
-}
-
-// A slot's word after a code from a up to b: its rules, code order, its record's bytes marked for it alone.
-fn next_ok(page: &[u8], marks: &mut [u8], f: usize, a: usize, b: usize, w: usize) -> bool
-    requires { ⌜ (f ≤ length (now page)) × (a ≤ b) × (b ≤ length (now page)) × (length (now marks) ≡ length (now page)) ⌝ }
-    ensures says { λ r. ⌜ Says r (NextOk (now (page .entry)) (now (marks .entry)) f a b w) ⌝ }
-    ensures marked { λ r. ⌜ (r ≡ true → Cleared (now (marks .entry)) (offOf w) (offOf w + lenOf w) (now (marks .exit))) ⌝ }
+// A slot's word after a code from a up to b: its rules, code order, and its length entered at its start, where none was.
+fn next_ok(page: &[u8], tab: &mut [u8], f: usize, a: usize, b: usize, w: usize) -> bool
+    requires { ⌜ (f ≤ length (now page)) × (a ≤ b) × (b ≤ length (now page)) × (length (now tab) ≡ length (now page)) ⌝ }
+    ensures says { λ r. ⌜ Says r (NextOk (now (page .entry)) (now (tab .entry)) f a b w) ⌝ }
+    ensures entered { λ r. ⌜ (r ≡ true → now (tab .exit) ≡ set (now (tab .entry)) (offOf w) (lenOf w)) ⌝ }
+    ensures kept { λ r. ⌜ (r ≡ false → now (tab .exit) ≡ now (tab .entry)) ⌝ }
 {
     if !word_ok(page, f, w) {
         return false;
@@ -130,14 +167,19 @@ fn next_ok(page: &[u8], marks: &mut [u8], f: usize, a: usize, b: usize, w: usize
     if !rises(page, a, b, o + 8, o + l) {
         return false;
     }
-    mark(marks, o, l)
+    if tab[o] != 0 {
+        return false;
+    }
+    tab[o] = l as u8;
+    true
 }
 
 // The slots with their records, in one pass: a up to b is the code before slot i's, none before the first.
-fn slots_ok(page: &[u8], marks: &mut [u8], n: usize, f: usize) -> bool
-    requires { ⌜ HeadOk (now page) × (n ≡ count (now page)) × (f ≡ frontier (now page)) × (length (now marks) ≡ length (now page)) × Covers (now page) 0 f (now marks) ⌝ }
+fn slots_ok(page: &[u8], tab: &mut [u8], n: usize, f: usize) -> bool
+    requires { ⌜ HeadOk (now page) × (n ≡ count (now page)) × (f ≡ frontier (now page)) × (length (now tab) ≡ length (now page)) × Zero (now tab) ⌝ }
     ensures says { λ r. ⌜ Says r (SlotsOk (now (page .entry))) ⌝ }
-    ensures marked { λ r. ⌜ (r ≡ true → Covers (now (page .entry)) n f (now (marks .exit))) ⌝ }
+    ensures entered { λ r. ⌜ (r ≡ true → Table (now (page .entry)) n f (now (tab .exit))) ⌝ }
+    ensures inside { λ r. ⌜ Inside f (now (tab .exit)) ⌝ }
 {
     let mut i = 0;
     let mut a = 8;
@@ -145,7 +187,7 @@ fn slots_ok(page: &[u8], marks: &mut [u8], n: usize, f: usize) -> bool
     let mut needs = 0;
     while i < n {
         let w = words::get32(page, page.len() - 4 * (i + 1));
-        if !next_ok(page, marks, f, a, b, w) {
+        if !next_ok(page, tab, f, a, b, w) {
             return false;
         }
         let l = w / 16384 % 16384;
@@ -157,43 +199,72 @@ fn slots_ok(page: &[u8], marks: &mut [u8], n: usize, f: usize) -> bool
     words::get16(page, 6) + needs == page.len() - 8
 }
 
-// What is not marked is zero, from a up to b.
-fn clean(page: &[u8], marks: &[u8], a: usize, b: usize) -> bool
-    requires { ⌜ (a ≤ b) × (b ≤ length (now page)) × (length (now marks) ≡ length (now page)) ⌝ }
-    ensures { λ r. ⌜ Says r (Clean (now (page .entry)) (now (marks .entry)) a b) ⌝ }
+// From 8 to the frontier by the table: over each record that is met, its entry taken back, and the bytes of none or-ed.
+// Met records lie apart; that all n are met, those bytes are zero and the last ends at f is that the records are laid well.
+fn walk(page: &[u8], tab: &mut [u8], n: usize, f: usize) -> bool
+    requires { ⌜ (17 ≤ f) × (f ≤ length (now page)) × (length (now tab) ≡ length (now page)) × Table (now page) n f (now tab) ⌝ }
+    ensures says { λ r. ⌜ Says r (Laid (now (page .entry)) n f) ⌝ }
+    ensures emptied { λ r. ⌜ (r ≡ true → Zero (now (tab .exit))) ⌝ }
+    ensures inside { λ r. ⌜ Inside f (now (tab .exit)) ⌝ }
 {
+    let mut pos = 8;
+    let mut end = 8;
+    let mut met = 0;
     let mut acc: u8 = 0;
-    let mut k = a;
-    while k < b {
-        acc = acc | (page[k] & marks[k]);
-        k += 1;
+    while pos < f {
+        let l = tab[pos] as usize;
+        if l == 0 {
+            acc = acc | page[pos];
+            pos += 1;
+            continue;
+        }
+        tab[pos] = 0;
+        pos += l;
+        end = pos;
+        met += 1;
     }
-    acc == 0
+    if acc != 0 {
+        return false;
+    }
+    if met != n {
+        return false;
+    }
+    end == f
 }
 
-// Whether the page keeps the rules of a bucket page (but for the hashes' shared bits). marks is scratch of the page's length; any bytes.
-pub fn page_ok(page: &[u8], marks: &mut [u8]) -> bool
-    requires { ⌜ length (now marks) ≡ length (now page) ⌝ }
-    ensures { λ r. ⌜ Says r (BucketPage (now (page .entry))) ⌝ }
+// The rules after the header, of n rows and frontier f: where they hold, the table is zero again.
+fn records_ok(page: &[u8], tab: &mut [u8], n: usize, f: usize) -> bool
+    requires { ⌜ HeadOk (now page) × (n ≡ count (now page)) × (f ≡ frontier (now page)) × (length (now tab) ≡ length (now page)) × Zero (now tab) ⌝ }
+    ensures says { λ r. ⌜ Says r (BucketPage (now (page .entry))) ⌝ }
+    ensures emptied { λ r. ⌜ (r ≡ true → Zero (now (tab .exit))) ⌝ }
+    ensures inside { λ r. ⌜ Inside f (now (tab .exit)) ⌝ }
+{
+    if !slots_ok(page, tab, n, f) {
+        return false;
+    }
+    if !walk(page, tab, n, f) {
+        return false;
+    }
+    let e = page.len() - 4 * n;
+    words::all_zero(&page[f..e])
+}
+
+// Whether the page keeps the rules of a bucket page (but for the hashes' shared bits). tab is scratch of the page's length, zero before and after.
+pub fn page_ok(page: &[u8], tab: &mut [u8]) -> bool
+    requires { ⌜ (length (now tab) ≡ length (now page)) × Zero (now tab) ⌝ }
+    ensures says { λ r. ⌜ Says r (BucketPage (now (page .entry))) ⌝ }
+    ensures zero { λ r. ⌜ Zero (now (tab .exit)) ⌝ }
 {
     if !head_ok(page) {
         return false;
     }
     let n = words::get16(page, 2);
     let f = words::get16(page, 4);
-    fill(marks, 8, f);
-    if !slots_ok(page, marks, n, f) {
-        return false;
+    if records_ok(page, tab, n, f) {
+        return true;
     }
-    // No record ends after the frontier, so one ends at it where the byte before it is marked.
-    if marks[f - 1] != 0 {
-        return false;
-    }
-    if !clean(page, marks, 8, f) {
-        return false;
-    }
-    let e = page.len() - 4 * n;
-    words::all_zero(&page[f..e])
+    words::clear(tab, 8, f);
+    false
 }
 
 // The hash of slot i's code.
@@ -215,30 +286,36 @@ pub fn shares(first: u32, x: u32, k: u8) -> bool
     (k as u32) <= partition::shared_bits(first, x)
 }
 
+// Whether the hashes of a bucket page, the first of them given, share their first k bits: their differences or-ed have none there.
+fn alike(page: &[u8], first: u32, k: u8) -> bool
+    requires { ⌜ BucketPage (now page) × (first ≡ fnv (code (now page) 0)) × (k ≤ 32) ⌝ }
+    ensures { λ r. ⌜ Says r (Alike fnv (now (page .entry)) k) ⌝ }
+{
+    let n = words::get16(page, 2);
+    let mut acc: u32 = 0;
+    let mut i = 1;
+    while i < n {
+        acc = acc | (first ^ hash_slot(page, i));
+        i += 1;
+    }
+    shares(0, acc, k)
+}
+
 // Whether the hashes of a bucket page share the first local-depth bits.
 pub fn share_ok(page: &[u8]) -> bool
     requires { ⌜ BucketPage (now page) × (depth (now page) ≤ 32) ⌝ }
     ensures { λ r. ⌜ Says r (Share fnv (now (page .entry))) ⌝ }
 {
-    let k = page[1];
-    let n = words::get16(page, 2);
-    let first = hash_slot(page, 0);
-    let mut i = 1;
-    while i < n {
-        if !shares(first, hash_slot(page, i), k) {
-            return false;
-        }
-        i += 1;
-    }
-    true
+    alike(page, hash_slot(page, 0), page[1])
 }
 
-// Whether one page alone keeps every rule of a bucket page, with a local depth up to the deepest. marks is as for page_ok.
-pub fn bucket_ok(page: &[u8], marks: &mut [u8], deepest: u8) -> bool
-    requires { ⌜ (length (now marks) ≡ length (now page)) × (deepest ≤ 32) ⌝ }
-    ensures { λ r. ⌜ Says r (Keeps deepest (now (page .entry))) ⌝ }
+// Whether one page alone keeps every rule of a bucket page, with a local depth up to the deepest. tab is as for page_ok.
+pub fn bucket_ok(page: &[u8], tab: &mut [u8], deepest: u8) -> bool
+    requires { ⌜ (length (now tab) ≡ length (now page)) × Zero (now tab) × (deepest ≤ 32) ⌝ }
+    ensures says { λ r. ⌜ Says r (Keeps deepest (now (page .entry))) ⌝ }
+    ensures zero { λ r. ⌜ Zero (now (tab .exit)) ⌝ }
 {
-    if !page_ok(page, marks) {
+    if !page_ok(page, tab) {
         return false;
     }
     if deepest < page[1] {

@@ -41,7 +41,7 @@ frees-end gs i e = ap (λ n. frees (drop n gs)) e ∙ ap frees (drop-length gs)
 module _ (s : List ℕ) (p : ℕ) (two : 2 ≤ p) (to : p < pages S1024 s) where
   reads : getD (contents S1024 s) (p - 2) free ≡ reading (byte s (p * 1024)) (page S1024 s p)
   unfolding read
-  reads = held S1024 s p two to ∙ ap (λ b. reading b (page S1024 s p)) (kind-byte s p)
+  reads = held S1024 s p two to ∙ ap (λ b. reading b (page S1024 s p)) (kind-byte S1024 s p)
 
   pub free-page : byte s (p * 1024) ≡ 0 → getD (contents S1024 s) (p - 2) free ≡ free
   free-page e = reads ∙ ap (λ b. reading b (page S1024 s p)) e

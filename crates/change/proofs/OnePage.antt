@@ -9,7 +9,7 @@ use native.Mathlib.Decide.{ℕ-discrete}
 use lib.ListN.{length, take, drop, set}
 use Rattle.ground.specs.Lists.{byte}
 use Rattle.page.specs.Page.{Record, BucketPage, depth, rows}
-use Rattle.partition.specs.Partition.{Shape}
+use Rattle.partition.specs.declared.Shape.{Shape}
 use Rattle.store.specs.Pages.{S1024, size, pages, page, dirDepth, entryAt, Page, bucket, read, depthOn, deepestIn}
 use Rattle.store.specs.Accepted.{Calls}
 use Rattle.store.specs.Demands.{Sized}
@@ -97,7 +97,7 @@ module _ (S : Shape) (h : List ℕ → ℕ) (sized : Sized S) (s : List ℕ) (gs
 
 module _ (s : List ℕ) (p : ℕ) where
   pub lent : take (p * 1024 + 1024 - p * 1024) (drop (p * 1024) s) ≡ page S1024 s p
-  lent = page-lent s p
+  lent = page-lent S1024 s p
 
   pub back : (q : List ℕ) → take (p * 1024) s ++ (q ++ drop (p * 1024 + 1024 - p * 1024) (drop (p * 1024) s)) ≡ setPage S1024 s p q
   back q = page-back S1024 s q p (p * 1024) (p * 1024 + 1024) refl refl

@@ -42,7 +42,7 @@ within-page h j v g (used b d) e = b
 -- page p, as s[p * 1024 .. p * 1024 + 1024]
 pub lent-whole : (s : List ℕ) (p : ℕ) → p * 1024 + 1024 ≤ length s → (take (p * 1024 + 1024 - p * 1024) (drop (p * 1024) s) ≡ page S1024 s p) × (length (page S1024 s p) ≡ 1024)
 unfolding page
-lent-whole s p l = (page-lent s p, length-part s (p * 1024) 1024 l)
+lent-whole s p l = (page-lent S1024 s p, length-part s (p * 1024) 1024 l)
 
 -- ---- page after page
 

@@ -16,7 +16,8 @@ use Rattle.page.specs.Steps.{Overwritten}
 use Rattle.page.specs.Packed.{Fitting, Added}
 use Rattle.page.specs.Places as Places
 use Rattle.partition.specs.Bits.{top}
-use Rattle.partition.specs.Partition.{Shape, Row, need, needs}
+use Rattle.partition.specs.declared.Shape.{Shape}
+use Rattle.partition.specs.Partition.{Row, need, needs}
 use Rattle.partition.specs.Listing.{insert, without, inOrder, placeOf}
 use Rattle.partition.proofs.Tree.{pfx}
 use Rattle.partition.proofs.Sorted.{by-code, in-order-reordered, order-put}

@@ -236,7 +236,7 @@ module _ (h : List ℕ → ℕ) (hash : Hash h) (s : List ℕ) (A : Accepted S10
         taken =
             let e : needs (map asRow (rows g)) ≡ load h rs (p .bits) (p .value) = ap needs (on .ordered) ∙ needs-same (in-order-reordered (rowsOf h rs (p .bits) (p .value))) in
             let t : byte s (entryAt S1024 s i * 1024 + 6 + 1) ≡ byte s (entryAt S1024 s i * 1024 + 7) = ap (byte s) (omega arith) in
-            omega (arith, e, page-needs g (step .0 .bytes .rules .rules), page-long S1024 s (entryAt S1024 s i) (step .0 .to), page-byte s (entryAt S1024 s i) 6 (omega arith), page-byte s (entryAt S1024 s i) 7 (omega arith))
+            omega (arith, e, page-needs g (step .0 .bytes .rules .rules), page-long S1024 s (entryAt S1024 s i) (step .0 .to), page-byte S1024 s (entryAt S1024 s i) 6 (omega arith), page-byte S1024 s (entryAt S1024 s i) 7 (omega arith))
 
         pub summed-page : Step h s x j i sum (entryAt S1024 s i)
         summed-page = record {
@@ -255,7 +255,7 @@ module _ (h : List ℕ → ℕ) (hash : Hash h) (s : List ℕ) (A : Accepted S10
         }
           where
             at-1 : depth g ≡ byte s (entryAt S1024 s i * 1024 + 1)
-            at-1 = page-byte s (entryAt S1024 s i) 1 (omega arith)
+            at-1 = page-byte S1024 s (entryAt S1024 s i) 1 (omega arith)
 
             lies : (a ≤ first d p) × (after d p ≤ after d q)
             lies = in-run i (p .bits) (p .value) (U .from) l (on .is) (step .0 .calls .bits)

@@ -10,7 +10,8 @@ use lib.ListN.{length, length-map}
 use Rattle.ground.proofs.Sides.{side}
 use Rattle.page.specs.Page.{Record, depth, rows}
 use Rattle.partition.specs.Bits.{top}
-use Rattle.partition.specs.Partition.{Shape, Row, needs, rowsOf}
+use Rattle.partition.specs.declared.Shape.{Shape}
+use Rattle.partition.specs.Partition.{Row, needs, rowsOf}
 use Rattle.partition.proofs.Bits.{top-lt}
 use Rattle.partition.proofs.Laws.{share-fewer, held}
 use Rattle.partition.proofs.Rows.{some-need}

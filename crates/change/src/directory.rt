@@ -51,6 +51,6 @@ pub fn settle(s: &mut [u8], n: usize)
     requires { ⌜ Settling (now s) n ⌝ }
     ensures { λ _. ⌜ Directed fnv (now (s .entry)) (deepestIn (contents S1024 (now (s .entry)))) n (now (s .exit)) ⌝ }
 {
-    let d = store::deepest(s, n);
+    let d = store::deepest(s, partition::S1024, n);
     write_directory(s, n, d as u32);
 }

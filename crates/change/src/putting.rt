@@ -85,7 +85,7 @@ pub fn put_row(s: &mut [u8], key: &[u8], place: &[u8]) -> store::Answer
     ensures { λ r. ⌜ Answers (putAccepted S1024 fnv (now (s .entry)) (record { code = now (key .entry); place = now (place .entry) })) (meaning r, now (s .exit)) ⌝ }
 {
     let x = hash::hash(key);
-    let p = rows::entry_of(s, x);
+    let p = rows::entry_of(s, partition::S1024, x);
     if p == 0 {
         return new_bucket(s, x, key, place);
     }
@@ -96,7 +96,7 @@ pub fn put_row(s: &mut [u8], key: &[u8], place: &[u8]) -> store::Answer
 pub fn put(s: &mut [u8], key: &[u8], place: page::Place) -> store::Answer
     ensures { λ r. ⌜ Answers (putTable S1024 fnv (now (s .entry)) (now (key .entry)) place) (meaning r, now (s .exit)) ⌝ }
 {
-    if !reading::good_length(s) {
+    if !reading::good_length(s, partition::S1024) {
         return store::Answer::BadLength;
     }
     if key.len() == 0 {

@@ -40,7 +40,7 @@ pub fn remove_row(s: &mut [u8], key: &[u8]) -> store::Answer
     requires { ⌜ Accepted S1024 fnv (now s) ⌝ }
     ensures { λ r. ⌜ Answers (removeAccepted S1024 fnv (now (s .entry)) (now (key .entry))) (meaning r, now (s .exit)) ⌝ }
 {
-    match rows::find_row(s, key) {
+    match rows::find_row(s, partition::S1024, key) {
         Spot::Nowhere => store::Answer::NoCode,
         Spot::Here(p, i) => {
             let a = p * 1024;
@@ -56,7 +56,7 @@ pub fn remove_row(s: &mut [u8], key: &[u8]) -> store::Answer
 pub fn remove(s: &mut [u8], key: &[u8]) -> store::Answer
     ensures { λ r. ⌜ Answers (removeTable S1024 fnv (now (s .entry)) (now (key .entry))) (meaning r, now (s .exit)) ⌝ }
 {
-    if !reading::good_length(s) {
+    if !reading::good_length(s, partition::S1024) {
         return store::Answer::BadLength;
     }
     if key.len() == 0 {

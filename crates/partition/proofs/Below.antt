@@ -8,7 +8,8 @@ use native.Mathlib.Nat.{le-refl}
 use native.Mathlib.Decide.{decLe}
 use native.Mathlib.Omega.{arith}
 use Rattle.partition.specs.Bits.{top}
-use Rattle.partition.specs.Partition.{Row, Shape, need, needs, rowsOf, IsBucket, Reordered, front}
+use Rattle.partition.specs.declared.Shape.{Shape}
+use Rattle.partition.specs.Partition.{Row, need, needs, rowsOf, IsBucket, Reordered, front}
 use Rattle.partition.specs.Listing.{inOrder, Once}
 use Rattle.partition.proofs.Bits.{top-step}
 use Rattle.partition.proofs.Tree.{Under, half-shr}

@@ -5,7 +5,8 @@ use mathlib.Core.Logic.{_↔_}
 use mathlib.Core.List.{List, List·Memᴰ}
 use Prim.Native.Nat.{ℕ, _^_, _≤_, _<_}
 use Rattle.partition.specs.Bits.{top}
-use Rattle.partition.specs.Partition.{Row, Shape, Prefix, rowsOf, IsBucket, Fine, buckets}
+use Rattle.partition.specs.declared.Shape.{Shape}
+use Rattle.partition.specs.Partition.{Row, Prefix, rowsOf, IsBucket, Fine, buckets}
 use Rattle.partition.proofs.Tree.{pfx}
 use Rattle.partition.proofs.Sum.{prefix-row}
 use Rattle.partition.proofs.Pages.{Page, gather, Good, prefixes, page-of}

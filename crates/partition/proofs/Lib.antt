@@ -1,4 +1,6 @@
 pub mod Index
+pub mod Table
+pub mod Sizes
 pub mod Bits
 pub mod Tree
 pub mod Path

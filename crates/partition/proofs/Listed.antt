@@ -6,7 +6,8 @@ use Prim.Native.Nat.{ℕ, _+_, _-_, _^_, _≤_, _<_}
 use native.Mathlib.Nat.{zero-add}
 use native.Mathlib.Omega.{arith}
 use lib.ListN.{length}
-use Rattle.partition.specs.Partition.{Row, Shape, Prefix, rowsOf, Fine, Reordered, grade, buckets}
+use Rattle.partition.specs.declared.Shape.{Shape}
+use Rattle.partition.specs.Partition.{Row, Prefix, rowsOf, Fine, Reordered, grade, buckets}
 use Rattle.partition.specs.Listing.{inOrder, listing, Once}
 use Rattle.partition.proofs.Reorders.{turned, length-same}
 use Rattle.partition.proofs.Rows.{mean-of, rows-all}

@@ -9,7 +9,8 @@ use lib.Dec.{eqb}
 use Rattle.words.specs.Codes.{order, Before}
 use Rattle.words.proofs.Orders.{order-refl, order-eq, irrefl}
 use Rattle.partition.specs.Bits.{top}
-use Rattle.partition.specs.Partition.{Shape, Row, Prefix, Reordered, empty, front, swap, chain, keep, rowsOf, buckets}
+use Rattle.partition.specs.declared.Shape.{Shape}
+use Rattle.partition.specs.Partition.{Row, Prefix, Reordered, empty, front, swap, chain, keep, rowsOf, buckets}
 use Rattle.partition.specs.Listing.{by, insert, inOrder, listing, placeOf, Once}
 use Rattle.partition.proofs.Laws.{reordered}
 use Rattle.partition.proofs.Sum.{prefix-row}

@@ -1,4 +1,5 @@
 pub mod Bits
 pub mod Partition
+pub mod Sizes
 pub mod Listing
 pub mod Cases

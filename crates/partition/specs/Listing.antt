@@ -4,7 +4,8 @@ use mathlib.Core.List.{List, [], _∷_, flatMap}
 use mathlib.Core.Option.{Option, some, none}
 use Prim.Native.Nat.{ℕ, Ordering, Ordering·lt, Ordering·eq, Ordering·gt}
 use Rattle.words.specs.Codes.{order}
-use Rattle.partition.specs.Partition.{Shape, Row, Prefix, rowsOf, buckets}
+use Rattle.partition.specs.declared.Shape.{Shape}
+use Rattle.partition.specs.Partition.{Row, Prefix, rowsOf, buckets}
 
 -- one of three by an order
 abbrev pub by {ℓ} : {A : Type ℓ} → Ordering → A → A → A → A

@@ -1,8 +1,64 @@
 // The partition worked out afresh, over any hash: definitions and laws; the top bits of a hash, the bits that two hashes share, and a prefix's run of entries.
 ghost use mathlib.Core.Path.{_≡_};
-ghost use Prim.Native.Nat.{_≤_, _^_};
+ghost use Prim.Native.Nat.{_≤_, _<_, _^_};
+ghost use lib.ListN.{length};
 ghost use Rattle.partition.specs.Bits.{top, shared};
 ghost use Rattle.partition.specs.Partition.{first, after};
+ghost use Rattle.partition.specs.Sizes.{Sized, shapeAt, shapeFor, shapeOf};
+
+// What a page size decides: the bytes that rows may need together (page size less 8), the directory's entry count, the deepest depth.
+pub struct Shape {
+    pub capacity: usize,
+    pub entries: usize,
+    pub deepest: usize,
+}
+
+// The table of the page sizes, 1,024, 4,096 and 16,384.
+const CAPACITIES: [usize; 3] = [1016, 4088, 16376];
+
+const ENTRIES: [usize; 3] = [256, 1024, 4096];
+
+const DEPTHS: [usize; 3] = [8, 10, 12];
+
+// Row i of the table.
+pub fn shape_at(i: usize) -> Shape
+    requires { ⌜ i < 3 ⌝ }
+    ensures { λ r. ⌜ r ≡ shapeAt i ⌝ }
+{
+    Shape {
+        capacity: CAPACITIES[i],
+        entries: ENTRIES[i],
+        deepest: DEPTHS[i],
+    }
+}
+
+// What a size number stands for.
+pub fn shape_for(number: usize) -> Shape
+    ensures { λ r. ⌜ r ≡ shapeFor number ⌝ }
+{
+    if number == 4096 {
+        return shape_at(1);
+    }
+    if number == 16384 {
+        return shape_at(2);
+    }
+    shape_at(0)
+}
+
+// The shape of a store, by the number at 20.
+pub fn shape_of(s: &[u8]) -> Shape
+    requires { ⌜ 24 ≤ length (now s) ⌝ }
+    ensures { λ r. ⌜ (r ≡ shapeOf (now (s .entry))) × Sized r ⌝ }
+{
+    shape_for(words::get32(s, 20))
+}
+
+// Pages of 1,024 bytes.
+pub const S1024: Shape = Shape {
+    capacity: 1016,
+    entries: 256,
+    deepest: 8,
+};
 
 // The number of leading bits in which two hashes agree.
 pub fn shared_bits(a: u32, b: u32) -> u32

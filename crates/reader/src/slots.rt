@@ -18,8 +18,8 @@ fn sound(page: &[u8]) -> bool
     if page.len() != 1024 {
         return false;
     }
-    let mut marks = [0u8; 1024];
-    audit::bucket_ok(page, &mut marks, 8)
+    let mut tab = [0u8; 1024];
+    audit::bucket_ok(page, &mut tab, 8)
 }
 
 // The page, if it is sound; else none of it.

@@ -12,7 +12,8 @@ use Rattle.ground.proofs.Sides.{side, same}
 use Rattle.ground.proofs.Tables.{total-same}
 use Rattle.page.specs.Page.{depth, count, code, rows}
 use Rattle.partition.specs.Bits.{top}
-use Rattle.partition.specs.Partition.{Shape, needs, rowsOf}
+use Rattle.partition.specs.declared.Shape.{Shape}
+use Rattle.partition.specs.Partition.{needs, rowsOf}
 use Rattle.partition.proofs.Laws.{share-fewer}
 use Rattle.partition.proofs.Reorders.{needs-append}
 use Rattle.partition.proofs.Pages.{rows-append, rows-every, rows-none}

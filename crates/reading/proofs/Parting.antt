@@ -33,7 +33,7 @@ depth-small s p d (unused z _) = omega (arith, z 1)
 depth-small s p d (used b k _) = omega arith
 
 pub depth-most : (s : List ℕ) (n p : ℕ) → Standing s n → 2 ≤ p → p < n → byte s (p * 1024 + 1) ≤ 8
-depth-most s n p T a b = omega (arith, page-byte s p 1 (omega arith), depth-small s p (T .deep) (T .each p a b))
+depth-most s n p T a b = omega (arith, page-byte S1024 s p 1 (omega arith), depth-small s p (T .deep) (T .each p a b))
 
 -- a page that stands can be read
 stands-is : (s : List ℕ) (p : ℕ) → Stands S1024 fnv s p → Zero (page S1024 s p) ⊎ BucketPage (page S1024 s p)
@@ -41,7 +41,7 @@ stands-is s p (unused z _) = inl z
 stands-is s p (used b _ _) = inr (b .rules)
 
 pub legible : (s : List ℕ) (n p : ℕ) → Standing s n → 2 ≤ p → p < n → Legible (take (p * 1024 + 1024 - p * 1024) (drop (p * 1024) s))
-legible s n p T a b = subst Legible (sym (page-lent s p)) (record { long = page-long S1024 s p (omega (arith, T .number)); is = stands-is s p (T .each p a b) })
+legible s n p T a b = subst Legible (sym (page-lent S1024 s p)) (record { long = page-long S1024 s p (omega (arith, T .number)); is = stands-is s p (T .each p a b) })
 
 module _ (g : List ℕ) (L : Legible g) where
   pub used-page : (byte g 0 ≡ 0 → ⊥) → BucketPage g

@@ -5,7 +5,7 @@ use mathlib.Core.Logic.{⊎-elim}
 use Prim.Native.Nat.{ℕ}
 use native.Mathlib.Omega.{arith}
 use Rattle.ground.proofs.Sides.{side}
-use Rattle.partition.specs.Partition.{Shape}
+use Rattle.partition.specs.declared.Shape.{Shape}
 use Rattle.store.specs.Pages.{pages}
 use Rattle.store.proofs.Rules.{broken-one, accepted-whole}
 use Rattle.reading.specs.First.{FirstBad, Judged}

@@ -1,7 +1,7 @@
 -- What the check's passes answer. Assumes nothing.
 use mathlib.Core.List.{List}
 use Prim.Native.Nat.{ℕ, _≤_, _<_}
-use Rattle.partition.specs.Partition.{Shape}
+use Rattle.partition.specs.declared.Shape.{Shape}
 use Rattle.store.specs.Pages.{pages}
 use Rattle.store.specs.Accepted.{Accepted, Broken}
 

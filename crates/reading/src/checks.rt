@@ -15,7 +15,7 @@ pub fn first_bad(s: &[u8]) -> usize
     ensures { λ r. ⌜ Judged S1024 fnv (now (s .entry)) r ⌝ }
 {
     let n = s.len() / 1024;
-    if !page0_ok(s, n) {
+    if !page0_ok(s, partition::S1024, n) {
         return 0;
     }
     let d = words::get32(s, 16) as u32;
@@ -32,7 +32,7 @@ pub fn first_bad(s: &[u8]) -> usize
     if q < n {
         return q;
     }
-    if store::deepest(s, n) != d as usize {
+    if store::deepest(s, partition::S1024, n) != d as usize {
         return 0;
     }
     n

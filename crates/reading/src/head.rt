@@ -3,43 +3,48 @@ ghost use mathlib.Core.Path.{_≡_};
 ghost use Prim.Native.Nat.{_≤_};
 ghost use lib.ListN.{length};
 ghost use Rattle.ground.specs.Says.{Says};
-ghost use Rattle.store.specs.Pages.{S1024, pages};
+ghost use Rattle.store.specs.Pages.{size, pages};
 ghost use Rattle.store.specs.Accepted.{GoodLength, Page0};
+ghost use Rattle.store.specs.Demands.{Sized};
+use partition::Shape;
 
-pub fn good_length(s: &[u8]) -> bool
-    ensures { λ r. ⌜ Says r (GoodLength S1024 (now (s .entry))) ⌝ }
+pub fn good_length(s: &[u8], z: Shape) -> bool
+    requires { ⌜ Sized z ⌝ }
+    ensures { λ r. ⌜ Says r (GoodLength z (now (s .entry))) ⌝ }
 {
-    if s.len() % 1024 != 0 {
+    let size = 8 + z.capacity;
+    if s.len() % size != 0 {
         return false;
     }
-    let n = s.len() / 1024;
+    let n = s.len() / size;
     if n < 3 {
         return false;
     }
-    if 258 < n {
+    if z.entries + 2 < n {
         return false;
     }
     true
 }
 
-pub fn page0_ok(s: &[u8], n: usize) -> bool
-    requires { ⌜ (n ≡ pages S1024 (now s)) × (1024 ≤ length (now s)) ⌝ }
-    ensures { λ r. ⌜ Says r (Page0 S1024 (now (s .entry))) ⌝ }
+pub fn page0_ok(s: &[u8], z: Shape, n: usize) -> bool
+    requires { ⌜ Sized z × (n ≡ pages z (now s)) × (size z ≤ length (now s)) ⌝ }
+    ensures { λ r. ⌜ Says r (Page0 z (now (s .entry))) ⌝ }
 {
+    let size = 8 + z.capacity;
     if words::get32(s, 0) != n {
         return false;
     }
-    if words::get32(s, 4) != 1024 {
+    if words::get32(s, 4) != size {
         return false;
     }
-    if words::get32(s, 8) != 256 {
+    if words::get32(s, 8) != z.entries {
         return false;
     }
-    if words::get32(s, 12) != 2048 {
+    if words::get32(s, 12) != 2 * size {
         return false;
     }
-    if 8 < words::get32(s, 16) {
+    if z.deepest < words::get32(s, 16) {
         return false;
     }
-    words::all_zero(&s[20..1024])
+    words::all_zero(&s[20..size])
 }

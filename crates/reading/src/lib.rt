@@ -6,7 +6,9 @@ ghost use Rattle.hash.specs.Fnv.{fnv};
 ghost use Rattle.partition.specs.Listing.{listing};
 ghost use Rattle.store.specs.Pages.{S1024, rowsHeld};
 ghost use Rattle.store.specs.Accepted.{Accepted};
+ghost use Rattle.store.specs.Demands.{Sized};
 ghost use Rattle.store.specs.Tables.{checkTable, countTable, lookedUp, lookupTable, rowOf, rowTable, meaning};
+use partition::Shape;
 use rows::Spot;
 use store::Answer;
 
@@ -23,7 +25,7 @@ pub use head::good_length;
 pub fn check(s: &[u8]) -> Answer
     ensures { λ r. ⌜ Answers (checkTable S1024 fnv (now (s .entry))) (meaning r) ⌝ }
 {
-    if !good_length(s) {
+    if !good_length(s, partition::S1024) {
         return Answer::BadLength;
     }
     let p = first_bad(s);
@@ -37,7 +39,7 @@ pub fn check(s: &[u8]) -> Answer
 pub fn count(s: &[u8]) -> Answer
     ensures { λ r. ⌜ Answers (countTable S1024 fnv (now (s .entry))) (meaning r) ⌝ }
 {
-    if !good_length(s) {
+    if !good_length(s, partition::S1024) {
         return Answer::BadLength;
     }
     let n = s.len() / 1024;
@@ -45,18 +47,19 @@ pub fn count(s: &[u8]) -> Answer
     if p < n {
         return Answer::BadPage(p);
     }
-    Answer::Rows(rows::count_rows(s, n))
+    Answer::Rows(rows::count_rows(s, partition::S1024, n))
 }
 
 // The place of a code, on an accepted store.
-pub fn place_of(s: &[u8], key: &[u8]) -> Answer
-    requires { ⌜ Accepted S1024 fnv (now s) ⌝ }
-    ensures { λ r. ⌜ Answers (lookedUp S1024 (now (s .entry)) (now (key .entry))) (meaning r) ⌝ }
+pub fn place_of(s: &[u8], z: Shape, key: &[u8]) -> Answer
+    requires { ⌜ Sized z × Accepted z fnv (now s) ⌝ }
+    ensures { λ r. ⌜ Answers (lookedUp z (now (s .entry)) (now (key .entry))) (meaning r) ⌝ }
 {
-    match rows::find_row(s, key) {
+    match rows::find_row(s, z, key) {
         Spot::Here(p, i) => {
-            let a = p * 1024;
-            let e = a + 1024;
+            let size = 8 + z.capacity;
+            let a = p * size;
+            let e = a + size;
             Answer::Found(page::read_place(&s[a..e], i))
         }
         Spot::Nowhere => Answer::NoCode,
@@ -67,7 +70,7 @@ pub fn place_of(s: &[u8], key: &[u8]) -> Answer
 pub fn lookup(s: &[u8], key: &[u8]) -> Answer
     ensures { λ r. ⌜ Answers (lookupTable S1024 fnv (now (s .entry)) (now (key .entry))) (meaning r) ⌝ }
 {
-    if !good_length(s) {
+    if !good_length(s, partition::S1024) {
         return Answer::BadLength;
     }
     if key.len() == 0 {
@@ -80,7 +83,7 @@ pub fn lookup(s: &[u8], key: &[u8]) -> Answer
     if p < s.len() / 1024 {
         return Answer::BadPage(p);
     }
-    place_of(s, key)
+    place_of(s, partition::S1024, key)
 }
 
 // The row at place n of the listing, its code to the start of the output, on an accepted store.
@@ -88,7 +91,7 @@ pub fn give_row(s: &[u8], n: usize, out: &mut [u8]) -> Answer
     requires { ⌜ Accepted S1024 fnv (now s) × (64 ≤ length (now out)) ⌝ }
     ensures { λ r. ⌜ Answers (rowOf (listing S1024 fnv (rowsHeld S1024 (now (s .entry)))) n (now (out .entry))) (meaning r, now (out .exit)) ⌝ }
 {
-    match rows::nth_row(s, n) {
+    match rows::nth_row(s, partition::S1024, n) {
         Spot::Here(p, i) => {
             let a = p * 1024;
             let e = a + 1024;
@@ -103,7 +106,7 @@ pub fn give_row(s: &[u8], n: usize, out: &mut [u8]) -> Answer
 pub fn row_at(s: &[u8], n: usize, out: &mut [u8]) -> Answer
     ensures { λ r. ⌜ Answers (rowTable S1024 fnv (now (s .entry)) n (now (out .entry))) (meaning r, now (out .exit)) ⌝ }
 {
-    if !good_length(s) {
+    if !good_length(s, partition::S1024) {
         return Answer::BadLength;
     }
     if out.len() < 64 {

@@ -3,6 +3,7 @@ ghost use mathlib.Core.Path.{_≡_};
 ghost use Prim.Native.Nat.{_≤_, _^_};
 ghost use lib.ListN.{length};
 ghost use Rattle.ground.specs.Says.{Says};
+ghost use Rattle.words.specs.Zeros.{Zero};
 ghost use Rattle.hash.specs.Fnv.{fnv};
 ghost use Rattle.store.specs.Pages.{S1024};
 ghost use Rattle.store.specs.Accepted.{Stands};
@@ -23,12 +24,13 @@ fn free_ok(pg: &[u8], dir: &[u32], d: u32, p: u32) -> bool
     none_is(dir, 0, partition::two_to(d), p)
 }
 
-// Whether a page is a bucket of depth at most d, but for its hashes.
-fn own_ok(pg: &[u8], marks: &mut [u8], d: u32) -> bool
-    requires { ⌜ length (now marks) ≡ length (now pg) ⌝ }
-    ensures { λ r. ⌜ Says r (Own (now (pg .entry)) d) ⌝ }
+// Whether a page is a bucket of depth at most d, but for its hashes. tab is as for audit::page_ok.
+fn own_ok(pg: &[u8], tab: &mut [u8], d: u32) -> bool
+    requires { ⌜ (length (now tab) ≡ length (now pg)) × Zero (now tab) ⌝ }
+    ensures says { λ r. ⌜ Says r (Own (now (pg .entry)) d) ⌝ }
+    ensures zero { λ r. ⌜ Zero (now (tab .exit)) ⌝ }
 {
-    if !audit::page_ok(pg, marks) {
+    if !audit::page_ok(pg, tab) {
         return false;
     }
     (pg[1] as u32) <= d
@@ -39,7 +41,7 @@ pub fn first_unsound(s: &[u8], dir: &[u32], n: usize, d: u32) -> usize
     requires { ⌜ Begun (now s) (now dir) n d ⌝ }
     ensures { λ r. ⌜ FirstBad n (Stands S1024 fnv (now (s .entry))) r ⌝ }
 {
-    let mut marks = [255u8; 1024];
+    let mut tab = [0u8; 1024];
     let mut p = 2;
     'pages: loop {
         if n <= p {
@@ -55,7 +57,7 @@ pub fn first_unsound(s: &[u8], dir: &[u32], n: usize, d: u32) -> usize
             p += 1;
             continue 'pages;
         }
-        if !own_ok(pg, &mut marks, d) {
+        if !own_ok(pg, &mut tab, d) {
             break 'pages p;
         }
         let k = pg[1];

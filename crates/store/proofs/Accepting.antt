@@ -13,7 +13,8 @@ use Rattle.words.specs.Le.{le32}
 use Rattle.words.proofs.Bytes.{le32-same}
 use Rattle.page.specs.Page.{Record, BucketPage, depth, count, code, rows, rowAt}
 use Rattle.partition.specs.Bits.{top}
-use Rattle.partition.specs.Partition.{Shape, Row, needs, rowsOf}
+use Rattle.partition.specs.declared.Shape.{Shape}
+use Rattle.partition.specs.Partition.{Row, needs, rowsOf}
 use Rattle.partition.proofs.Bits.{top-step}
 use Rattle.partition.proofs.Laws.{load-reordered}
 use Rattle.store.specs.Pages.{size, pages, page, dirDepth, entryAt, Page, free, bucket, read, contents, asRow, rowsIn, rowsHeld, deepestIn}

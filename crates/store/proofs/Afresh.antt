@@ -8,7 +8,8 @@ use native.Mathlib.Nat.{le-trans, pow-le-pow-right}
 use lib.ListN.{getD}
 use Rattle.ground.specs.Lists.{tab}
 use Rattle.ground.proofs.Tables.{tab-same}
-use Rattle.partition.specs.Partition.{Shape, Prefix, buckets, depthOf, entry}
+use Rattle.partition.specs.declared.Shape.{Shape}
+use Rattle.partition.specs.Partition.{Prefix, buckets, depthOf, entry}
 use Rattle.store.specs.Pages.{pages, page, dirDepth, entryAt, free, contents, rowsHeld}
 use Rattle.store.specs.Demands.{Sized, Hash, seen, named, directory, seenAfresh, afresh, AfreshAlways, PutIsMap, RemoveIsMap, SameRefusals}
 use Rattle.store.proofs.Rules.{Opened, opened}

@@ -8,7 +8,8 @@ use Prim.Native.Nat.{ℕ, _^_, _≤_, _<_}
 use native.Mathlib.Omega.{arith}
 use Rattle.ground.proofs.Sides.{side}
 use Rattle.partition.specs.Bits.{top}
-use Rattle.partition.specs.Partition.{Shape, Row, Prefix, needs, rowsOf, IsBucket, Fine, buckets}
+use Rattle.partition.specs.declared.Shape.{Shape}
+use Rattle.partition.specs.Partition.{Row, Prefix, needs, rowsOf, IsBucket, Fine, buckets}
 use Rattle.partition.proofs.Bits.{top-step}
 use Rattle.partition.proofs.Laws.{Shallowest, bucket-shallowest}
 use Rattle.partition.proofs.Path.{bucket-on, fit-unique}

@@ -13,7 +13,7 @@ use Rattle.ground.proofs.Sides.{side}
 use Rattle.ground.proofs.Parts.{byte-part}
 use Rattle.ground.specs.Lists.{tab}
 use Rattle.page.specs.Page.{depth}
-use Rattle.partition.specs.Partition.{Shape}
+use Rattle.partition.specs.declared.Shape.{Shape}
 use Rattle.store.specs.Pages.{size, pages, page, entryAt, Page, free, read, contents, rowsIn, rowsOn, rowsHeld, deepestIn}
 use Rattle.store.specs.Accepted.{GoodLength, Zero, unused, Accepted}
 use Rattle.words.specs.Le.{bytes}

@@ -19,7 +19,8 @@ use Rattle.page.specs.Places.{place, stored, InRange}
 use Rattle.page.specs.declared.Place.{Place}
 use Rattle.page.proofs.Sums.{len-of-code}
 use Rattle.page.proofs.Stored.{stored-place, place-stored, natural-page, natural-slot, natural-volume}
-use Rattle.partition.specs.Partition.{Shape, Row}
+use Rattle.partition.specs.declared.Shape.{Shape}
+use Rattle.partition.specs.Partition.{Row}
 use Rattle.partition.specs.Listing.{listing}
 use Rattle.partition.proofs.Maps.{found}
 use Rattle.partition.proofs.Reorders.{mem-reordered, turned, length-same}

@@ -5,7 +5,8 @@ use mathlib.Core.List.{List, _∷_, map}
 use Prim.Native.Nat.{ℕ, _+_}
 use Rattle.page.specs.Page.{Record}
 use Rattle.partition.specs.Bits.{top}
-use Rattle.partition.specs.Partition.{Shape, Row, need, needs, rowsOf, IsBucket, Reordered}
+use Rattle.partition.specs.declared.Shape.{Shape}
+use Rattle.partition.specs.Partition.{Row, need, needs, rowsOf, IsBucket, Reordered}
 use Rattle.partition.specs.Listing.{inOrder}
 use Rattle.partition.proofs.Laws.{Shallowest, bucket-shallowest}
 use Rattle.partition.proofs.Sorted.{in-order-reordered}

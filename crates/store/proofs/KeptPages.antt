@@ -11,7 +11,8 @@ use Rattle.page.specs.Page.{Record}
 use Rattle.page.specs.Places.{stored}
 use Rattle.page.specs.declared.Place.{Place}
 use Rattle.page.proofs.Unique.{unique}
-use Rattle.partition.specs.Partition.{Shape, Row}
+use Rattle.partition.specs.declared.Shape.{Shape}
+use Rattle.partition.specs.Partition.{Row}
 use Rattle.partition.specs.Listing.{placeOf}
 use Rattle.store.specs.Pages.{pages, page, Page, bucket, read, contents, asRow, rowsHeld}
 use Rattle.store.specs.Accepted.{Stands, unused, used, Accepted}

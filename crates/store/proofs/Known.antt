@@ -6,7 +6,8 @@ use mathlib.Core.Option.{some}
 use Prim.Native.Nat.{ℕ}
 use Rattle.page.specs.Page.{Record}
 use Rattle.partition.specs.Bits.{top}
-use Rattle.partition.specs.Partition.{Shape, Row}
+use Rattle.partition.specs.declared.Shape.{Shape}
+use Rattle.partition.specs.Partition.{Row}
 use Rattle.partition.specs.Listing.{placeOf}
 use Rattle.partition.proofs.Maps.{found}
 use Rattle.store.specs.Pages.{Page, asRow}

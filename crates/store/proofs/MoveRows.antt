@@ -4,7 +4,8 @@ use mathlib.Core.Path.{_≡_}
 use mathlib.Core.List.{List, _∷_}
 use mathlib.Core.Option.{some}
 use Prim.Native.Nat.{ℕ}
-use Rattle.partition.specs.Partition.{Shape, Row}
+use Rattle.partition.specs.declared.Shape.{Shape}
+use Rattle.partition.specs.Partition.{Row}
 use Rattle.partition.specs.Listing.{without, placeOf}
 use Rattle.store.specs.Pages.{contents, rowsHeld}
 use Rattle.store.specs.Accepted.{Accepted}

@@ -11,7 +11,8 @@ use lib.ListN.{getD}
 use Rattle.ground.proofs.Sides.{side}
 use Rattle.page.specs.Page.{Record, depth, rows}
 use Rattle.partition.specs.Bits.{top}
-use Rattle.partition.specs.Partition.{Shape, Row, Prefix, first, after, buckets, depthOf, entry}
+use Rattle.partition.specs.declared.Shape.{Shape}
+use Rattle.partition.specs.Partition.{Row, Prefix, first, after, buckets, depthOf, entry}
 use Rattle.partition.proofs.Tree.{pfx}
 use Rattle.partition.proofs.Rows.{listed}
 use Rattle.partition.proofs.Laws.{no-overlap}

@@ -15,7 +15,8 @@ use Rattle.words.specs.Codes.{order}
 use Rattle.words.proofs.Orders.{order-eq}
 use Rattle.page.specs.Page.{Record}
 use Rattle.partition.specs.Bits.{top}
-use Rattle.partition.specs.Partition.{Shape, Row, need, needs, keep, rowsOf, IsBucket, Reordered, empty, front, swap, chain}
+use Rattle.partition.specs.declared.Shape.{Shape}
+use Rattle.partition.specs.Partition.{Row, need, needs, keep, rowsOf, IsBucket, Reordered, empty, front, swap, chain}
 use Rattle.partition.specs.Listing.{by, insert, without, inOrder, placeOf, Once}
 use Rattle.partition.proofs.Rising.{insert-map}
 use Rattle.partition.proofs.Rows.{load, to-load, of-load}

@@ -7,7 +7,7 @@ use native.Mathlib.Nat.{pow-le-pow-right}
 use Rattle.ground.specs.Lists.{byte}
 use Rattle.page.specs.Page.{depth, count, code}
 use Rattle.partition.specs.Bits.{top}
-use Rattle.partition.specs.Partition.{Shape}
+use Rattle.partition.specs.declared.Shape.{Shape}
 use Rattle.partition.proofs.Bits.{top-lt}
 use Rattle.partition.proofs.Directory.{holds-top}
 use Rattle.store.specs.Pages.{pages, page, dirDepth, entryAt}

@@ -15,7 +15,8 @@ use Rattle.ground.proofs.Sides.{side}
 use Rattle.ground.proofs.Tables.{length-tab, tab-same, tab-set, tab-map, total-same}
 use Rattle.words.specs.Codes.{order, Before}
 use Rattle.words.proofs.Orders.{order-refl, irrefl}
-use Rattle.partition.specs.Partition.{Shape, Row, need, needs}
+use Rattle.partition.specs.declared.Shape.{Shape}
+use Rattle.partition.specs.Partition.{Row, need, needs}
 use Rattle.partition.specs.Listing.{by, insert, without, inOrder, placeOf, Once}
 use Rattle.partition.proofs.Rising.{by-ne, unlike, unlike-after, tab-in, tab-member, Rising, rising-tab, insert-tab, without-tab}
 use Rattle.partition.proofs.Sorted.{by-code, rising-once, order-own}

@@ -4,7 +4,8 @@ use mathlib.Core.Bool.{Bool, true, false, true≢false}
 use mathlib.Core.List.{List, [], _∷_}
 use mathlib.Core.Option.{Option, some, none}
 use Prim.Native.Nat.{ℕ}
-use Rattle.partition.specs.Partition.{Shape, Row, Reordered, empty, front, chain, buckets, depthOf}
+use Rattle.partition.specs.declared.Shape.{Shape}
+use Rattle.partition.specs.Partition.{Row, Reordered, empty, front, chain, buckets, depthOf}
 use Rattle.partition.proofs.Laws.{reordered}
 use Rattle.page.specs.declared.Place.{Place}
 use Rattle.ground.specs.Ladder.{Answers}

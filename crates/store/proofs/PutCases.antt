@@ -10,7 +10,8 @@ use native.Mathlib.Omega.{arith}
 use lib.ListN.{length, getD, set}
 use Rattle.page.specs.Page.{Record}
 use Rattle.partition.specs.Bits.{top}
-use Rattle.partition.specs.Partition.{Shape, Row, need, needs, rowsOf, IsBucket, Fine, front, buckets}
+use Rattle.partition.specs.declared.Shape.{Shape}
+use Rattle.partition.specs.Partition.{Row, need, needs, rowsOf, IsBucket, Fine, front, buckets}
 use Rattle.partition.specs.Listing.{insert, inOrder}
 use Rattle.partition.proofs.Bits.{top-step}
 use Rattle.partition.proofs.Tree.{pfx}

@@ -5,7 +5,8 @@ use mathlib.Core.List.{List, _∷_}
 use mathlib.Core.Option.{none}
 use Prim.Native.Nat.{ℕ}
 use native.Mathlib.Omega.{arith}
-use Rattle.partition.specs.Partition.{Shape, Row}
+use Rattle.partition.specs.declared.Shape.{Shape}
+use Rattle.partition.specs.Partition.{Row}
 use Rattle.partition.specs.Listing.{placeOf}
 use Rattle.store.specs.Pages.{contents, rowsHeld}
 use Rattle.store.specs.Accepted.{Accepted}

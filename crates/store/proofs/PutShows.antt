@@ -14,7 +14,8 @@ use lib.ListN.{length, getD, set, length-set}
 use lib.Seq.{set-set, getD-set-same}
 use Rattle.page.specs.Page.{Record}
 use Rattle.partition.specs.Bits.{top}
-use Rattle.partition.specs.Partition.{Shape, Row, Prefix, need, needs, rowsOf, IsBucket, Fine, Reordered, front, buckets}
+use Rattle.partition.specs.declared.Shape.{Shape}
+use Rattle.partition.specs.Partition.{Row, Prefix, need, needs, rowsOf, IsBucket, Fine, Reordered, front, buckets}
 use Rattle.partition.specs.Listing.{insert, inOrder, placeOf, Once}
 use Rattle.partition.proofs.Bits.{top-step}
 use Rattle.partition.proofs.Tree.{Under, pfx}

@@ -9,7 +9,8 @@ use Rattle.ground.specs.Lists.{tab, total}
 use Rattle.ground.proofs.Tables.{length-tab, tab-map}
 use Rattle.page.specs.Page.{Record, BucketPage, depth, count, code, place, rows, rowAt}
 use Rattle.partition.specs.Bits.{top}
-use Rattle.partition.specs.Partition.{Shape, Row, rowsOf}
+use Rattle.partition.specs.declared.Shape.{Shape}
+use Rattle.partition.specs.Partition.{Row, rowsOf}
 use Rattle.partition.specs.Listing.{placeOf, Once}
 use Rattle.partition.proofs.Bits.{top-lt}
 use Rattle.partition.proofs.Laws.{held as of-hash}

@@ -7,7 +7,8 @@ use Prim.Native.Nat.{ℕ, _+_, _*_}
 use lib.Dec.{leb}
 use lib.ListN.{length}
 use Rattle.page.specs.Page.{Record}
-use Rattle.partition.specs.Partition.{Shape, Row, need}
+use Rattle.partition.specs.declared.Shape.{Shape}
+use Rattle.partition.specs.Partition.{Row, need}
 use Rattle.partition.specs.Listing.{insert}
 use Rattle.partition.proofs.Rising.{insert-map}
 use Rattle.store.specs.Pages.{size, asRow}

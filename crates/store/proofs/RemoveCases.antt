@@ -10,7 +10,8 @@ use native.Mathlib.Omega.{arith}
 use lib.Dec.{eqb}
 use lib.ListN.{length, getD, set}
 use Rattle.partition.specs.Bits.{top}
-use Rattle.partition.specs.Partition.{Shape, Row, need, needs, rowsOf, IsBucket, Fine, Reordered, buckets}
+use Rattle.partition.specs.declared.Shape.{Shape}
+use Rattle.partition.specs.Partition.{Row, need, needs, rowsOf, IsBucket, Fine, Reordered, buckets}
 use Rattle.partition.specs.Listing.{without, placeOf}
 use Rattle.partition.proofs.Laws.{Shallowest, load-reordered, reordered}
 use Rattle.partition.proofs.Maps.{cut, cut-same, cut-front, once-remove}

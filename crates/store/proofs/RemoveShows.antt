@@ -15,7 +15,8 @@ use Rattle.ground.proofs.Sides.{side}
 use Rattle.words.proofs.Orders.{order-refl}
 use Rattle.page.specs.Page.{Record}
 use Rattle.partition.specs.Bits.{top}
-use Rattle.partition.specs.Partition.{Shape, Row, needs, rowsOf, IsBucket, Fine, buckets}
+use Rattle.partition.specs.declared.Shape.{Shape}
+use Rattle.partition.specs.Partition.{Row, needs, rowsOf, IsBucket, Fine, buckets}
 use Rattle.partition.specs.Listing.{by, without, inOrder, placeOf}
 use Rattle.partition.proofs.Bits.{top-step}
 use Rattle.partition.proofs.Laws.{share-fewer, Shallowest, no-overlap, bucket-shallowest}

@@ -10,7 +10,8 @@ use native.Mathlib.Decide.{ℕ-discrete}
 use lib.ListN.{length, getD, set, length-append}
 use lib.Seq.{getD-set-same, getD-set-other}
 use Rattle.page.specs.Page.{Record}
-use Rattle.partition.specs.Partition.{Shape, Row, Prefix, IsBucket, Fine, buckets}
+use Rattle.partition.specs.declared.Shape.{Shape}
+use Rattle.partition.specs.Partition.{Row, Prefix, IsBucket, Fine, buckets}
 use Rattle.partition.proofs.Tree.{pfx}
 use Rattle.partition.proofs.Rows.{listed}
 use Rattle.partition.proofs.Laws.{in-order}

@@ -15,7 +15,8 @@ use Rattle.ground.proofs.Tables.{length-tab}
 use Rattle.page.specs.Page.{Record, rows, rowAt, count}
 use Rattle.page.specs.Places.{place, InRange}
 use Rattle.page.specs.declared.Place.{Place}
-use Rattle.partition.specs.Partition.{Shape, Row}
+use Rattle.partition.specs.declared.Shape.{Shape}
+use Rattle.partition.specs.Partition.{Row}
 use Rattle.partition.specs.Listing.{listing, placeOf}
 use Rattle.partition.proofs.Maps.{found as in-map}
 use Rattle.partition.proofs.Reorders.{mem-reordered, turned}

@@ -6,7 +6,8 @@ use mathlib.Core.Option.{Option, some}
 use Prim.Native.Nat.{ℕ, _-_, _/_, _<_}
 use lib.ListN.{length}
 use Rattle.partition.specs.Bits.{top}
-use Rattle.partition.specs.Partition.{Shape, Row, Reordered, front, chain, needs, rowsOf, buckets}
+use Rattle.partition.specs.declared.Shape.{Shape}
+use Rattle.partition.specs.Partition.{Row, Reordered, front, chain, needs, rowsOf, buckets}
 use Rattle.partition.proofs.Pages.{turned as back}
 use Rattle.partition.proofs.Sorted.{same-map}
 use Rattle.partition.proofs.Laws.{load-reordered, reordered}

@@ -12,7 +12,8 @@ use Rattle.ground.proofs.Sides.{side}
 use Rattle.ground.proofs.Tables.{length-tab}
 use Rattle.page.specs.Page.{Record, BucketPage, depth, count, code, rows, rowAt}
 use Rattle.partition.specs.Bits.{top}
-use Rattle.partition.specs.Partition.{Shape, Row, needs, rowsOf, Fine}
+use Rattle.partition.specs.declared.Shape.{Shape}
+use Rattle.partition.specs.Partition.{Row, needs, rowsOf, Fine}
 use Rattle.partition.specs.Listing.{inOrder, Once}
 use Rattle.partition.proofs.Bits.{top-step, top-lt}
 use Rattle.partition.proofs.Tree.{pfx}

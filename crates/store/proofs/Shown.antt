@@ -12,7 +12,8 @@ use lib.Dec.{eqb}
 use lib.ListN.{length, getD, List·getD-eq-default}
 use Rattle.page.specs.Page.{Record}
 use Rattle.partition.specs.Bits.{top}
-use Rattle.partition.specs.Partition.{Shape, Row, Prefix, IsBucket, Fine, Reordered, chain, rowsOf, buckets, orElse}
+use Rattle.partition.specs.declared.Shape.{Shape}
+use Rattle.partition.specs.Partition.{Row, Prefix, IsBucket, Fine, Reordered, chain, rowsOf, buckets, orElse}
 use Rattle.partition.specs.Listing.{inOrder, Once}
 use Rattle.partition.proofs.Tree.{pfx}
 use Rattle.partition.proofs.Rows.{same-bucket, listed}

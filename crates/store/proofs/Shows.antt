@@ -6,7 +6,8 @@ use Prim.Native.Nat.{ℕ, _<_}
 use lib.ListN.{length, getD}
 use Rattle.page.specs.Page.{Record}
 use Rattle.partition.specs.Bits.{top}
-use Rattle.partition.specs.Partition.{Shape, Row, IsBucket, Fine, Reordered, rowsOf}
+use Rattle.partition.specs.declared.Shape.{Shape}
+use Rattle.partition.specs.Partition.{Row, IsBucket, Fine, Reordered, rowsOf}
 use Rattle.partition.specs.Listing.{inOrder, Once}
 use Rattle.store.specs.Pages.{Page, free, bucket, asRow, rowsIn}
 

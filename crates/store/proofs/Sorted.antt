@@ -4,7 +4,8 @@ use mathlib.Core.List.{List}
 use mathlib.Core.Option.{Option, some, none}
 use Prim.Native.Nat.{ℕ, _^_}
 use Rattle.ground.specs.Lists.{tab}
-use Rattle.partition.specs.Partition.{Shape, Row, Prefix, Reordered, buckets, depthOf, entry}
+use Rattle.partition.specs.declared.Shape.{Shape}
+use Rattle.partition.specs.Partition.{Row, Prefix, Reordered, buckets, depthOf, entry}
 use Rattle.ground.proofs.Tables.{tab-same}
 use Rattle.partition.proofs.Sorted.{bucket-same}
 use Rattle.partition.proofs.Laws.{reordered}

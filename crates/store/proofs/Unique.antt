@@ -16,7 +16,7 @@ use Rattle.page.specs.Page.{BucketPage, depth, rows, code}
 use Rattle.ground.proofs.Tables.{getD-tab}
 use Rattle.page.proofs.Unique.{unique}
 use Rattle.words.proofs.Bytes.{le32-byte}
-use Rattle.partition.specs.Partition.{Shape}
+use Rattle.partition.specs.declared.Shape.{Shape}
 use Rattle.store.specs.Pages.{size, pages, page, dirDepth, entryAt, Page, free, bucket, read, reading, contents, deepestIn}
 use Rattle.store.specs.Accepted.{Bucket, Zero, Calls, Stands, unused, used}
 use Rattle.store.specs.Tables.{Becomes}

@@ -12,8 +12,8 @@ use Rattle.ground.proofs.Parts.{byte-part, lent-part, lent-back, splice-length,
 use Rattle.ground.proofs.Tables.{tab-set}
 use Rattle.words.specs.Le.{le32}
 use Rattle.words.proofs.Bytes.{le32-same}
-use Rattle.partition.specs.Partition.{Shape}
-use Rattle.store.specs.Pages.{S1024, size, pages, page, dirDepth, entryAt, read, contents}
+use Rattle.partition.specs.declared.Shape.{Shape}
+use Rattle.store.specs.Pages.{size, pages, page, dirDepth, entryAt, read, contents}
 use Rattle.store.proofs.Unique.{within}
 
 -- the store with ys for page p
@@ -25,9 +25,9 @@ pub lent-page : (S : Shape) (s : List ℕ) (p a e : ℕ) → a ≡ p * size S �
 unfolding page
 lent-page S s p a e f g = lent-part s a e (size S) g ∙ ap (λ k. part s k (size S)) f
 
--- pages of 1,024 bytes: as s[p * 1024 .. p * 1024 + 1024]
-pub page-lent : (s : List ℕ) (p : ℕ) → take (p * 1024 + 1024 - p * 1024) (drop (p * 1024) s) ≡ page S1024 s p
-page-lent s p = lent-page S1024 s p (p * 1024) (p * 1024 + 1024) refl refl
+-- as s[a..e] with a = p * size and e = a + size
+pub page-lent : (S : Shape) (s : List ℕ) (p : ℕ) → take (p * size S + size S - p * size S) (drop (p * size S) s) ≡ page S s p
+page-lent S s p = lent-page S s p (p * size S) (p * size S + size S) refl refl
 
 pub page-back : (S : Shape) (s ys : List ℕ) (p a e : ℕ) → a ≡ p * size S → e ≡ a + size S → take a s ++ (ys ++ drop (e - a) (drop a s)) ≡ setPage S s p ys
 unfolding setPage

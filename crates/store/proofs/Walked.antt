@@ -12,7 +12,8 @@ use lib.Dec.{leb}
 use lib.ListN.{length, getElem?}
 use Rattle.ground.proofs.Sides.{side}
 use Rattle.page.specs.Page.{depth, count, rows, rowAt}
-use Rattle.partition.specs.Partition.{Shape, Row, Prefix, rowsOf, buckets, first, after, Ascending}
+use Rattle.partition.specs.declared.Shape.{Shape}
+use Rattle.partition.specs.Partition.{Row, Prefix, rowsOf, buckets, first, after, Ascending}
 use Rattle.partition.specs.Listing.{inOrder, listing}
 use Rattle.partition.proofs.Tree.{pfx}
 use Rattle.partition.proofs.Order.{asc-first, asc-last, asc-apart, first-lt-after}

@@ -10,7 +10,8 @@ use lib.ListN.{getD}
 use Rattle.ground.proofs.Sides.{side}
 use Rattle.page.specs.Page.{Record}
 use Rattle.partition.specs.Bits.{top}
-use Rattle.partition.specs.Partition.{Shape, Row, rowsOf, IsBucket}
+use Rattle.partition.specs.declared.Shape.{Shape}
+use Rattle.partition.specs.Partition.{Row, rowsOf, IsBucket}
 use Rattle.partition.proofs.Bits.{top-step}
 use Rattle.partition.proofs.Laws.{share-fewer, no-overlap}
 use Rattle.partition.proofs.Pages.{rows-append, rows-every, rows-none}

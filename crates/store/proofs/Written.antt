@@ -9,7 +9,8 @@ use native.Mathlib.Omega.{arith}
 use lib.ListN.{length, getD, set, take, length-set}
 use lib.Seq.{set-set}
 use Rattle.page.specs.Page.{Record}
-use Rattle.partition.specs.Partition.{Shape, Row, Prefix, IsBucket, Fine, rowsOf, buckets}
+use Rattle.partition.specs.declared.Shape.{Shape}
+use Rattle.partition.specs.Partition.{Row, Prefix, IsBucket, Fine, rowsOf, buckets}
 use Rattle.partition.specs.Listing.{inOrder}
 use Rattle.partition.proofs.Tree.{pfx}
 use Rattle.partition.proofs.Members.{Distinct}

@@ -10,7 +10,8 @@ pub use Rattle.words.specs.Zeros.{Zero}
 use Rattle.ground.specs.Lists.{tab}
 use Rattle.page.specs.Page.{BucketPage, depth, count, code}
 use Rattle.partition.specs.Bits.{top}
-use Rattle.partition.specs.Partition.{Shape, rowsOf, needs}
+use Rattle.partition.specs.declared.Shape.{Shape}
+use Rattle.partition.specs.Partition.{rowsOf, needs}
 use Rattle.store.specs.Pages.{size, pages, page, dirDepth, entryAt, contents, rowsHeld, deepestIn}
 
 -- a multiple of the page size, 3 to 258 pages

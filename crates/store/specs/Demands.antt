@@ -9,7 +9,9 @@ use Prim.Native.Nat.{ℕ, zero, suc, _-_, _*_, _^_, _≤_, _<_}
 use lib.ListN.{length, getElem?}
 use Rattle.ground.specs.Lists.{byte, tab}
 use Rattle.page.specs.Page.{Record, depth, rows}
-use Rattle.partition.specs.Partition.{Shape, Row, Prefix, Reordered, rowsOf, buckets, depthOf, entry}
+use Rattle.partition.specs.declared.Shape.{Shape}
+pub use Rattle.partition.specs.Sizes.{Sized}
+use Rattle.partition.specs.Partition.{Row, Prefix, Reordered, rowsOf, buckets, depthOf, entry}
 use Rattle.page.specs.declared.Place.{Place}
 use Rattle.ground.specs.Ladder.{Answers}
 use Rattle.words.specs.Codes.{order}
@@ -19,13 +21,6 @@ use Rattle.store.specs.Accepted.{GoodLength, Zero, Bucket, Accepted}
 use Rattle.store.specs.Moves.{pick}
 use Rattle.page.specs.Places.{place, stored, Negative, InRange}
 use Rattle.store.specs.Tables.{Out, refused, refusedAt, formatted, accepted, new, replaced, found, counted, row, Refusal4, Refusal6, Refusal7, formatTable, checkTable, countTable, lookupTable, putTable, removeTable, rowTable, inspectTable}
-
--- what holds of the three page sizes
-pub record Sized (S : Shape) : Type 0 where
-  pub whole : 4 * S .entries ≡ size S
-  pub deep : 2 ^ S .deepest ≡ S .entries
-  pub least : 76 ≤ S .capacity
-  pub most : size S ≤ 16384
 
 -- a function from codes to 32 bits
 abbrev pub Hash : (List ℕ → ℕ) → Type 0

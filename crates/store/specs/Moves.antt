@@ -7,7 +7,8 @@ use lib.Dec.{leb, eqb}
 use lib.ListN.{length, getD, set}
 use Rattle.page.specs.Page.{Record}
 use Rattle.partition.specs.Bits.{top}
-use Rattle.partition.specs.Partition.{Shape, Row, Prefix, need, needs, rowsOf, buckets, orElse}
+use Rattle.partition.specs.declared.Shape.{Shape}
+use Rattle.partition.specs.Partition.{Row, Prefix, need, needs, rowsOf, buckets, orElse}
 use Rattle.words.specs.Codes.{order}
 use Rattle.partition.specs.Listing.{by, insert, without, inOrder}
 use Rattle.store.specs.Pages.{size, Page, free, bucket, asRow, depthOn, rowsIn}

@@ -6,13 +6,11 @@ use Rattle.ground.specs.Lists.{byte, part}
 use Rattle.words.specs.Le.{le32}
 use Rattle.ground.specs.Lists.{tab}
 use Rattle.page.specs.Page.{Record, depth, rows}
-use Rattle.partition.specs.Partition.{Shape, Row}
+use Rattle.partition.specs.declared.Shape.{Shape}
+use Rattle.partition.specs.Partition.{Row}
 -- pages of 1,024 bytes
 pub use Rattle.partition.specs.Partition.{S1024}
-
--- Capacity is page size less 8.
-abbrev pub size : Shape → ℕ
-size S = 8 + S .capacity
+pub use Rattle.partition.specs.Sizes.{size}
 
 abbrev pub pages : Shape → List ℕ → ℕ
 pages S s = length s / size S

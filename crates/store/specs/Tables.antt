@@ -9,7 +9,8 @@ use Rattle.ground.specs.Lists.{byte}
 use Rattle.words.specs.Le.{bytes}
 use Rattle.page.specs.Page.{depth}
 use Rattle.partition.specs.Bits.{top}
-use Rattle.partition.specs.Partition.{Shape, Row, needs, rowsOf, buckets}
+use Rattle.partition.specs.declared.Shape.{Shape}
+use Rattle.partition.specs.Partition.{Row, needs, rowsOf, buckets}
 use Rattle.page.specs.declared.Place.{Place}
 use Rattle.page.specs.Places.{place, stored, Negative}
 use Rattle.store.specs.declared.Answer.{Answer}

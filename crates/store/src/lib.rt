@@ -2,8 +2,9 @@
 ghost use mathlib.Core.Path.{_≡_};
 ghost use Prim.Native.Nat.{_+_, _*_, _≤_, _<_};
 ghost use lib.ListN.{length};
-ghost use Rattle.store.specs.Pages.{S1024, page, read, depthOn, contents, deepestIn};
+ghost use Rattle.store.specs.Pages.{size, page, read, depthOn, contents, deepestIn};
 use page::Place;
+use partition::Shape;
 
 pub enum Answer {
     BadLength,
@@ -25,11 +26,11 @@ pub enum Answer {
 }
 
 // The local depth of page p, 0 for a free page.
-fn depth_of(s: &[u8], p: usize) -> usize
-    requires { ⌜ p * 1024 + 1024 ≤ length (now s) ⌝ }
-    ensures { λ r. ⌜ (r ≡ depthOn (read (page S1024 (now (s .entry)) p))) × (r < 256) ⌝ }
+fn depth_of(s: &[u8], z: Shape, p: usize) -> usize
+    requires { ⌜ p * size z + size z ≤ length (now s) ⌝ }
+    ensures { λ r. ⌜ (r ≡ depthOn (read (page z (now (s .entry)) p))) × (r < 256) ⌝ }
 {
-    let a = p * 1024;
+    let a = p * (8 + z.capacity);
     if s[a] == 0 {
         return 0;
     }
@@ -37,14 +38,14 @@ fn depth_of(s: &[u8], p: usize) -> usize
 }
 
 // The largest bucket depth of a store of n pages, 0 for no rows.
-pub fn deepest(s: &[u8], n: usize) -> usize
-    requires { ⌜ (length (now s) ≡ n * 1024) × (2 ≤ n) ⌝ }
-    ensures { λ r. ⌜ (r ≡ deepestIn (contents S1024 (now (s .entry)))) × (r < 256) ⌝ }
+pub fn deepest(s: &[u8], z: Shape, n: usize) -> usize
+    requires { ⌜ (length (now s) ≡ n * size z) × (2 ≤ n) ⌝ }
+    ensures { λ r. ⌜ (r ≡ deepestIn (contents z (now (s .entry)))) × (r < 256) ⌝ }
 {
     let mut best = 0;
     let mut p = 2;
     while p < n {
-        let k = depth_of(s, p);
+        let k = depth_of(s, z, p);
         if best < k {
             best = k;
         }

@@ -8,7 +8,7 @@ use Rattle.audit.proofs.bucket_ok.Statement.{statement}
 use Rattle.audit.proofs.bucket_ok.Tie as tie
 
 rules : (c : tie.Else1) → BucketPage (c .before .before .before .before .before .before .before .args .page .now)
-rules c = says-true (c .before .before .before .page-ok .result) (not-false _ (c .if1 .left)) (c .before .before .before .page-ok .ensures)
+rules c = says-true (c .before .before .before .page-ok .result) (not-false _ (c .if1 .left)) (c .before .before .before .page-ok .ensures .0)
 
 page-ok-requires : tie.Need-page-ok-requires
 page-ok-requires c κs = search needs
@@ -17,7 +17,7 @@ same-length : tie.Need-same-length
 same-length c = search needs
 
 returns : tie.Need-returns
-returns c = λ k. says-false (c .before .before .before .page-ok .result) (not-true _ (c .if1 .taken)) (c .before .before .before .page-ok .ensures) (k .rules)
+returns c = let p = c .before .before .before .page-ok in ((λ k. says-false (p .result) (not-true _ (c .if1 .taken)) (p .ensures .0) (k .rules)), p .ensures .1)
 
 shared-slice-read-if2 : tie.Need-shared-slice-read-if2
 shared-slice-read-if2 c = omega (arith, rules (c .before) .rules .least)
@@ -35,9 +35,13 @@ same-length-3 : tie.Need-same-length-3
 same-length-3 c = search needs
 
 returns-3 : tie.Need-returns-3
-returns-3 c = says-same (c .share-ok .result) (c .share-ok .ensures)
-    (λ s. record { rules = rules (c .before .before .before); deep = c .before .if2 .left; share = s })
-    (λ k. k .share)
+returns-3 c =
+    let d = c .before .before .before in (
+      says-same (c .share-ok .result) (c .share-ok .ensures)
+          (λ s. record { rules = rules d; deep = c .before .if2 .left; share = s })
+          (λ k. k .share),
+      d .before .before .before .page-ok .ensures .1,
+    )
 
 pub bucket-ok-spec : {M : Type 1} → statement M
 bucket-ok-spec =

@@ -3,7 +3,7 @@ use borrow.Author.Needs.{needs}
 use lib.Bits.{or-lt}
 use Rattle.ground.proofs.Tests.{says-ltb}
 use Rattle.audit.specs.Rules.{NaturalAt}
-use Rattle.audit.proofs.Marks.{or-small}
+use Rattle.audit.proofs.Table.{or-small}
 use Rattle.audit.proofs.natural_at.Statement.{statement}
 use Rattle.audit.proofs.natural_at.Tie as tie
 

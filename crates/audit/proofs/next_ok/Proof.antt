@@ -1,13 +1,14 @@
 -- `audit::next_ok` meets its contract. Assumes nothing.
 use Prim.Native.Nat.{ℕ, _+_, _-_}
-use mathlib.Core.Path.{_≡_}
+use mathlib.Core.Path.{_≡_, refl}
+use mathlib.Core.Bool.{true≢false}
 use mathlib.Core.List.{List}
 use native.Mathlib.Omega.{arith}
 use borrow.Author.Tests.{not-true, not-false}
 use borrow.Author.Needs.{needs}
 use Rattle.ground.specs.Lists.{part}
 use Rattle.ground.specs.Says.{Says}
-use Rattle.ground.proofs.Tests.{says-true, says-false, says-same, untrue}
+use Rattle.ground.proofs.Tests.{says-true, says-false, untrue}
 use Rattle.words.specs.Codes.{Before}
 use Rattle.audit.specs.Rules.{WordOk, offOf, lenOf}
 use Rattle.audit.proofs.next_ok.Statement.{statement}
@@ -24,7 +25,7 @@ word-ok-requires : tie.Need-word-ok-requires
 word-ok-requires c κs = search needs
 
 returns : tie.Need-returns
-returns c = ((λ n. says-false (c .before .word-ok .result) (not-true _ (c .if1 .taken)) (c .before .word-ok .ensures) (n .sound)), (λ e. untrue e))
+returns c = ((λ n. says-false (c .before .word-ok .result) (not-true _ (c .if1 .taken)) (c .before .word-ok .ensures) (n .sound)), ((λ e. untrue e), (λ _. refl)))
 
 add-rises : tie.Need-add-rises
 add-rises c = search needs
@@ -40,22 +41,28 @@ rises-requires : tie.Need-rises-requires
 rises-requires c κs = let w = sound c in omega (arith, w)
 
 returns-2 : tie.Need-returns-2
-returns-2 c = ((λ n. says-false (c .before .rises .result) (not-true _ (c .if2 .taken)) (climbs (c .before)) (n .rises)), (λ e. untrue e))
+returns-2 c = ((λ n. says-false (c .before .rises .result) (not-true _ (c .if2 .taken)) (climbs (c .before)) (n .rises)), ((λ e. untrue e), (λ _. refl)))
 
-mark-requires : tie.Need-mark-requires
-mark-requires c κs = let w = sound (c .before .before .before) in omega (arith, w)
+slice-read-if3 : tie.Need-slice-read-if3
+slice-read-if3 c = let w = sound (c .before .before .before) in omega (arith, w)
+
+returns-3 : tie.Need-returns-3
+returns-3 c = ((λ n. c .if3 .taken (n .vacant)), ((λ e. untrue e), (λ _. refl)))
+
+cast-tab : tie.Need-cast-tab
+cast-tab c = let w = sound (c .before .before .before .before) in record { fits = omega (arith, w) }
+
+slice-write-tab : tie.Need-slice-write-tab
+slice-write-tab c = let w = sound (c .before .before .before .before) in omega (arith, w)
 
 same-length : tie.Need-same-length
 same-length c = search needs
 
-returns-3 : tie.Need-returns-3
-returns-3 c =
-    let m = c .before .before .mark in
-    let d = c .before .before .before .before in (
-      says-same (m .result) (m .ensures .0)
-          (λ h. record { sound = sound (d .before .before); rises = says-true (d .before .rises .result) (not-false _ (d .if2 .left)) (climbs (d .before)); unmarked = h })
-          (λ n. n .unmarked),
-      (λ _. m .ensures .1),
+returns-4 : tie.Need-returns-4
+returns-4 c =
+    let d = c .before .before in (
+      record { sound = sound (d .before .before); rises = says-true (d .before .rises .result) (not-false _ (d .if2 .left)) (climbs (d .before)); vacant = c .if3 .left },
+      ((λ _. refl), (λ e. absurd (true≢false e))),
     )
 
 pub next-ok-spec : {M : Type 1} → statement M
@@ -68,6 +75,9 @@ next-ok-spec =
     add-rises-2
     rises-requires
     returns-2
-    mark-requires
+    slice-read-if3
+    returns-3
+    cast-tab
+    slice-write-tab
     same-length
-    returns-3)
+    returns-4)

@@ -9,6 +9,12 @@ use Rattle.words.specs.declared.Order.{Order}
 use Rattle.audit.proofs.rises.Statement.{statement}
 use Rattle.audit.proofs.rises.Tie as tie
 
+leads-requires : tie.Need-leads-requires
+leads-requires c κs = search needs
+
+returns : tie.Need-returns
+returns c = c .before .leads .ensures (c .if1 .taken)
+
 sub-compare : tie.Need-sub-compare
 sub-compare c = search needs
 
@@ -39,27 +45,27 @@ enum-told-2 c = search needs
 enum-told-3 : tie.Need-enum-told-3
 enum-told-3 c = search needs
 
-returns : tie.Need-returns
+returns-2 : tie.Need-returns-2
 unfolding part
-returns c =
-    let s = c .before .before .before .before .before .before .args in
+returns-2 c =
+    let s = c .before .before .before .before .before .before .before .before .args in
     let x = part (s .page .now) (s .a) (s .b - s .a) in
     let y = part (s .page .now) (s .x) (s .y - s .x) in
     subst (λ (r : Order). Ordered x y r) (c .enum-told .given .1) (c .before .before .compare .ensures)
 
-returns-2 : tie.Need-returns-2
+returns-3 : tie.Need-returns-3
 unfolding part
-returns-2 c =
-    let s = c .before .before .before .before .before .before .args in
+returns-3 c =
+    let s = c .before .before .before .before .before .before .before .before .args in
     let x = part (s .page .now) (s .a) (s .b - s .a) in
     let y = part (s .page .now) (s .x) (s .y - s .x) in
     let h : x ≡ y = subst (λ (r : Order). Ordered x y r) (c .enum-told2 .given .1) (c .before .before .compare .ensures) in
     λ b. irrefl y (subst (λ z. Before z y) h b)
 
-returns-3 : tie.Need-returns-3
+returns-4 : tie.Need-returns-4
 unfolding part
-returns-3 c =
-    let s = c .before .before .before .before .before .before .args in
+returns-4 c =
+    let s = c .before .before .before .before .before .before .before .before .args in
     let x = part (s .page .now) (s .a) (s .b - s .a) in
     let y = part (s .page .now) (s .x) (s .y - s .x) in
     let h : Before y x = subst (λ (r : Order). Ordered x y r) (c .enum-told3 .given .1) (c .before .before .compare .ensures) in
@@ -69,6 +75,8 @@ pub rises-spec : {M : Type 1} → statement M
 rises-spec =
     tie.close
     (tie.spec
+    leads-requires
+    returns
     sub-compare
     part-compare-start
     part-compare-end
@@ -79,6 +87,6 @@ rises-spec =
     enum-told
     enum-told-2
     enum-told-3
-    returns
     returns-2
-    returns-3)
+    returns-3
+    returns-4)

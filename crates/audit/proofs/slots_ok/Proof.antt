@@ -9,16 +9,17 @@ use Rattle.ground.proofs.Tests.{says-true, says-false, says-eqb, untrue}
 use Rattle.ground.specs.Lists.{part, total}
 use Rattle.page.specs.Page.{need, word, count}
 use Rattle.audit.specs.Rules.{SlotsOk, prior}
-use Rattle.audit.specs.Marks.{NextOk}
+use Rattle.audit.specs.Table.{NextOk}
+use Rattle.audit.proofs.Table.{inside-of}
 use Rattle.audit.proofs.Sweep.{Swept, swept-none, swept-more, next-of, last-more, needs-more, word-is, slots-all}
 use Rattle.audit.proofs.slots_ok.Statement.{statement}
 use Rattle.audit.proofs.slots_ok.Tie as tie
 
 abbrev Inv-loop : tie.InvT-loop
-Inv-loop page marks₀ n f i₀ a₀ b₀ needs₀ marks i a b needs = (i ≤ n) × (a ≤ b) × (b ≤ length page) × (length marks ≡ length marks₀) × (needs ≡ total (need page) i) × (needs ≤ 76 * i) × Swept page i f marks × (part page a (b - a) ≡ prior page i)
+Inv-loop page tab₀ n f i₀ a₀ b₀ needs₀ tab i a b needs = (i ≤ n) × (a ≤ b) × (b ≤ length page) × (length tab ≡ length tab₀) × (needs ≡ total (need page) i) × (needs ≤ 76 * i) × Swept page i f tab × (part page a (b - a) ≡ prior page i)
 
 abbrev μ-loop : tie.MeasureT-loop
-μ-loop page marks₀ n f i₀ a₀ b₀ needs₀ marks i a b needs = n - i
+μ-loop page tab₀ n f i₀ a₀ b₀ needs₀ tab i a b needs = n - i
 
 loop-holds : tie.Need-loop-holds Inv-loop μ-loop
 unfolding total part
@@ -52,11 +53,11 @@ returns c =
     let w : g .result ≡ word (s .args .page .now) (l .i) = word-is _ _ _ (g .ensures .0) in
     let n = c .before .before .before .next-ok in (
       (λ h. says-false (n .result) (not-true _ (c .if1 .taken)) (n .ensures .0) (rw w (next-of _ _ (s .args .f) (l .i) (l .a) (l .b) (l .inv .7) (l .inv .6) (s .pre .2) (omega arith) h))),
-      (λ e. untrue e),
+      ((λ e. untrue e), rw (n .ensures .1 .1 (not-true _ (c .if1 .taken))) (inside-of _ _ _ _ (l .inv .6 .table))),
     )
 
 -- the slot that was just taken
-next : (c : tie.Else1 Inv-loop μ-loop) → let s = c .before .before .before .before .before .before .before .before .before .before .args in let l = c .before .before .before .before .before .before .before .loop in NextOk (s .page .now) (l .marks) (s .f) (l .a) (l .b) (c .before .before .before .before .before .get32 .result)
+next : (c : tie.Else1 Inv-loop μ-loop) → let s = c .before .before .before .before .before .before .before .before .before .before .args in let l = c .before .before .before .before .before .before .before .loop in NextOk (s .page .now) (l .tab) (s .f) (l .a) (l .b) (c .before .before .before .before .before .get32 .result)
 next c = says-true (c .before .before .before .next-ok .result) (not-false _ (c .if1 .left)) (c .before .before .before .next-ok .ensures .0)
 
 add-a : tie.Need-add-a Inv-loop μ-loop
@@ -91,7 +92,7 @@ loop-again c =
       k .kept .1 .0 ∙ l .inv .3,
       omega (arith, needs-more (s .args .page .now) (l .i) (g .result) w),
       omega (arith, x .sound),
-      swept-more _ _ (s .args .f) (l .i) (l .a) (l .b) (l .inv .7) (l .inv .6) _ (rw w at x) (rw w at (k .ensures .1 (not-false _ (c .if1 .left)))),
+      swept-more _ _ (s .args .f) (l .i) (l .a) (l .b) (l .inv .7) (l .inv .6) _ (omega (arith, s .pre)) (rw w at x) (rw w at (k .ensures .1 .0 (not-false _ (c .if1 .left)))),
       last-more _ (l .i) (g .result) w (omega (arith, x .sound)),
     )
 
@@ -114,9 +115,9 @@ returns-2 c =
     let l = c .before .before .loop in
     let e : l .i ≡ count p = omega arith in
     let u : l .needs ≡ total (need p) (count p) = rw e at (l .inv .4) in
-    let w : Swept p (count p) (s .args .f) (l .marks) = rw e at (l .inv .6) in (
-      says-eqb {P = SlotsOk p} (c .get16 .result + l .needs) (length p - 8) (λ z. slots-all p (l .marks) (s .args .f) (s .pre .2) w (omega arith)) (λ h. omega (arith, h .unused)),
-      (λ _. rw (s .pre .1) (w .covers)),
+    let w : Swept p (count p) (s .args .f) (l .tab) = rw e at (l .inv .6) in (
+      says-eqb {P = SlotsOk p} (c .get16 .result + l .needs) (length p - 8) (λ z. slots-all p (l .tab) (s .args .f) (s .pre .2) w (omega arith)) (λ h. omega (arith, h .unused)),
+      ((λ _. rw (s .pre .1) (w .table)), inside-of _ _ _ _ (w .table)),
     )
 
 pub slots-ok-spec : {M : Type 1} → statement M

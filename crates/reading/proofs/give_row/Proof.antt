@@ -13,6 +13,7 @@ use Rattle.page.specs.Page.{place, rowAt}
 use Rattle.page.specs.Found.{CodeOut}
 use Rattle.page.specs.Places as Places
 use Rattle.store.specs.Pages.{S1024, page, asRow}
+use Rattle.store.specs.Demands.{sized-1024}
 use Rattle.store.specs.Tables.{row}
 use Rattle.store.proofs.Views.{page-lent}
 use Rattle.reading.proofs.give_row.Statement.{statement}
@@ -32,11 +33,11 @@ module _ (b : tie.After-p) where
   abbrev slot-no : ℕ
   slot-no = b .p .given .0 .1 .0
 
-  here : Listed store n (Here page-no slot-no)
-  here = subst (Listed store n) (b .p .given .1) (b .before .before .nth-row .ensures)
+  here : Listed S1024 store n (Here page-no slot-no)
+  here = subst (Listed S1024 store n) (b .p .given .1) (b .before .before .nth-row .ensures)
 
 nth-row-requires : tie.Need-nth-row-requires
-nth-row-requires c κs = search needs
+nth-row-requires c κs = (sized-1024, c .before .before .pre .0)
 
 enum-known-p : tie.Need-enum-known-p
 enum-known-p c = search needs
@@ -59,7 +60,7 @@ part-read-code-end c = omega (arith, here (c .before) .0 .within)
 read-code-requires : tie.Need-read-code-requires
 read-code-requires c κs = let b = c .before .before .before in
     let w = here b .0 in
-    rw (page-lent (store b) (page-no b)) (w .rules .rules, w .slot, b .before .before .before .before .before .pre .1)
+    rw (page-lent S1024 (store b) (page-no b)) (w .rules .rules, w .slot, b .before .before .before .before .before .pre .1)
 
 sub-read-place : tie.Need-sub-read-place
 sub-read-place c = search needs
@@ -74,7 +75,7 @@ read-place-requires : tie.Need-read-place-requires
 read-place-requires c κs =
     let b = c .before .before .before .before .before .before .before in
     let w = here b .0 in
-    rw (page-lent (store b) (page-no b)) (w .rules .rules, w .slot)
+    rw (page-lent S1024 (store b) (page-no b)) (w .rules .rules, w .slot)
 
 enum-told : tie.Need-enum-told
 enum-told c = search needs
@@ -86,14 +87,14 @@ returns : tie.Need-returns
 returns c =
     let b = c .before .before .before .before .before .before .before .before in
     let g = page S1024 (store b) (page-no b) in
-    let l = page-lent (store b) (page-no b) in
+    let l = page-lent S1024 (store b) (page-no b) in
     let k : CodeOut g (slot-no b) _ (c .before .before .before .before .read-code .result) (c .before .before .before .before .read-code .last .1 .1 .0) = rw l at (c .before .before .before .before .read-code .ensures) in
     let e : c .read-place .result ≡ Places.place (place g (slot-no b)) = c .read-place .ensures ∙ ap (λ q. Places.place (place q (slot-no b))) l in
     inl (asRow (rowAt g (slot-no b)), (here b .1, (λ i. (row (k .size i) (e i), k .wrote i))))
 
 returns-2 : tie.Need-returns-2
 returns-2 c = let f = c .before .before in
-    let e = subst (Listed _ _) (c .enum-told .given .1) (f .nth-row .ensures) in
+    let e = subst (Listed _ _ _) (c .enum-told .given .1) (f .nth-row .ensures) in
     inr ((λ r q. none-some e q), refl)
 
 pub give-row-spec : {M : Type 1} → statement M

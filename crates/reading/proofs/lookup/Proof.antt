@@ -8,6 +8,7 @@ use native.Mathlib.Omega.{arith}
 use Rattle.ground.proofs.Tests.{says-true, says-false}
 use Rattle.hash.specs.Fnv.{fnv}
 use Rattle.store.specs.Tables.{Refusal3, lookupTable}
+use Rattle.store.specs.Demands.{sized-1024}
 use Rattle.store.specs.Pages.{S1024}
 use Rattle.store.specs.Accepted.{GoodLength}
 use Rattle.store.proofs.Rules.{accepted-whole}
@@ -27,7 +28,7 @@ short : (c : tie.Else3) → Refusal3 (now (c .before .before .before .before .be
 short c = ⊎-elim (λ e. c .before .if2 .left e) (λ l. omega (arith, c .if3 .left))
 
 good-length-requires : tie.Need-good-length-requires
-good-length-requires c κs = search needs
+good-length-requires c κs = sized-1024
 
 returns : tie.Need-returns
 unfolding lookupTable
@@ -49,7 +50,7 @@ unfolding lookupTable
 returns-4 c = inr ((λ _ n. n (good (c .before .before .before .before))), inr ((λ _ r. short (c .before .before) r), inl (c .before .first-bad .result, (c .before .first-bad .ensures .bad (c .if4 .taken), refl))))
 
 place-of-requires : tie.Need-place-of-requires
-place-of-requires c κs = c .before .first-bad .ensures .sound (c .if4 .left)
+place-of-requires c κs = (sized-1024, c .before .first-bad .ensures .sound (c .if4 .left))
 
 returns-5 : tie.Need-returns-5
 unfolding lookupTable

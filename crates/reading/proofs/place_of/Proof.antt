@@ -10,10 +10,11 @@ use mathlib.Core.Logic.{inl, inr}
 use mathlib.Core.Option.{none}
 use Prim.Native.Nat.{ℕ}
 use native.Mathlib.Omega.{arith}
+use Rattle.partition.specs.declared.Shape.{Shape}
 use Rattle.partition.specs.Listing.{placeOf}
 use Rattle.page.specs.Page.{place}
 use Rattle.page.specs.Places as Places
-use Rattle.store.specs.Pages.{S1024, page}
+use Rattle.store.specs.Pages.{page}
 use Rattle.store.specs.Tables.{found}
 use Rattle.store.proofs.Views.{page-lent}
 use Rattle.reading.proofs.place_of.Statement.{statement}
@@ -21,6 +22,9 @@ use Rattle.reading.proofs.place_of.Tie as tie
 
 -- where the row was found
 module _ (b : tie.After-p) where
+  abbrev S : Shape
+  S = b .before .before .before .before .before .args .z
+
   abbrev store : List ℕ
   store = now (b .before .before .before .before .before .args .s)
 
@@ -33,8 +37,8 @@ module _ (b : tie.After-p) where
   abbrev slot-no : ℕ
   slot-no = b .p .given .0 .1 .0
 
-  here : Stands store key (Here page-no slot-no)
-  here = subst (Stands store key) (b .p .given .1) (b .before .before .find-row .ensures)
+  here : Stands S store key (Here page-no slot-no)
+  here = subst (Stands S store key) (b .p .given .1) (b .before .before .find-row .ensures)
 
 find-row-requires : tie.Need-find-row-requires
 find-row-requires c κs = search needs
@@ -42,11 +46,14 @@ find-row-requires c κs = search needs
 enum-known-p : tie.Need-enum-known-p
 enum-known-p c = search needs
 
+add-size : tie.Need-add-size
+add-size c = omega (arith, here (c .before .before) .0 .within)
+
 mul-a : tie.Need-mul-a
-mul-a c = omega (arith, here (c .before) .0 .within)
+mul-a c = omega (arith, here (c .before .before) .0 .within)
 
 add-e : tie.Need-add-e
-add-e c = omega (arith, here (c .before) .0 .within)
+add-e c = omega (arith, here (c .before .before) .0 .within)
 
 sub-read-place : tie.Need-sub-read-place
 sub-read-place c = search needs
@@ -55,25 +62,25 @@ part-read-place-start : tie.Need-part-read-place-start
 part-read-place-start c = search needs
 
 part-read-place-end : tie.Need-part-read-place-end
-part-read-place-end c = omega (arith, here (c .before) .0 .within)
+part-read-place-end c = omega (arith, here (c .before .before) .0 .within)
 
 read-place-requires : tie.Need-read-place-requires
-read-place-requires c κs = let b = c .before .before in
+read-place-requires c κs = let b = c .before .before .before in
     let w = here b .0 in
-    rw (page-lent (store b) (page-no b)) (w .rules .rules, w .slot)
+    rw (page-lent (S b) (store b) (page-no b)) (w .rules .rules, w .slot)
 
 enum-told : tie.Need-enum-told
 enum-told c = search needs
 
 returns : tie.Need-returns
-returns c = let b = c .before .before .before in
-    let e : c .read-place .result ≡ Places.place (place (page S1024 (store b) (page-no b)) (slot-no b)) =
-    c .read-place .ensures ∙ ap (λ g. Places.place (place g (slot-no b))) (page-lent (store b) (page-no b)) in
-    inl (place (page S1024 (store b) (page-no b)) (slot-no b), (here b .2, ap found e))
+returns c = let b = c .before .before .before .before in
+    let e : c .read-place .result ≡ Places.place (place (page (S b) (store b) (page-no b)) (slot-no b)) =
+    c .read-place .ensures ∙ ap (λ g. Places.place (place g (slot-no b))) (page-lent (S b) (store b) (page-no b)) in
+    inl (place (page (S b) (store b) (page-no b)) (slot-no b), (here b .2, ap found e))
 
 returns-2 : tie.Need-returns-2
 returns-2 c = let f = c .before .before in
-    let e : placeOf _ _ ≡ none = subst (Stands _ _) (c .enum-told .given .1) (f .find-row .ensures) in
+    let e : placeOf _ _ ≡ none = subst (Stands _ _ _) (c .enum-told .given .1) (f .find-row .ensures) in
     inr ((λ b q. none-some e q), refl)
 
 pub place-of-spec : {M : Type 1} → statement M
@@ -82,6 +89,7 @@ place-of-spec =
     (tie.spec
     find-row-requires
     enum-known-p
+    add-size
     mul-a
     add-e
     sub-read-place

@@ -8,6 +8,7 @@ use native.Mathlib.Omega.{arith}
 use Rattle.ground.proofs.Tests.{says-true, says-false}
 use Rattle.hash.specs.Fnv.{fnv}
 use Rattle.store.specs.Tables.{rowTable}
+use Rattle.store.specs.Demands.{sized-1024}
 use Rattle.store.specs.Pages.{S1024}
 use Rattle.store.specs.Accepted.{GoodLength}
 use Rattle.store.proofs.Rules.{accepted-whole}
@@ -23,7 +24,7 @@ module _ (c : tie.Else1) where
   good = says-true {P = GoodLength S1024 (now (z .args .s))} (c .before .good-length .result) (not-false _ (c .if1 .left)) (c .before .good-length .ensures)
 
 good-length-requires : tie.Need-good-length-requires
-good-length-requires c κs = search needs
+good-length-requires c κs = sized-1024
 
 returns : tie.Need-returns
 unfolding rowTable

@@ -27,10 +27,10 @@ module _ (c : tie.Start) where
   p = c .args .p
 
   kind : byte (page S1024 s p) 0 ≡ byte s (p * 1024)
-  kind = kind-byte s p
+  kind = kind-byte S1024 s p
 
   deep : depth (page S1024 s p) ≡ byte s (p * 1024 + 1)
-  deep = page-byte s p 1 (omega arith)
+  deep = page-byte S1024 s p 1 (omega arith)
 
 mul-a : tie.Need-mul-a
 mul-a c = search needs
@@ -64,7 +64,7 @@ hash-slot-requires c κs =
     let z = c .before .before .before .before .before .before in
     let t = c .before .before .before .if1 .taken in
     let b = z .pre .4 .rules (kind z ∙ t) in
-    rw (page-lent (s z) (p z)) (b, b .some)
+    rw (page-lent S1024 (s z) (p z)) (b, b .some)
 
 run-of-requires : tie.Need-run-of-requires
 run-of-requires c κs =
@@ -88,7 +88,7 @@ returns c =
     let t = c .before .before .before .before .before .before .before .before .before .if1 .taken in
     let f = c .before .before .before .before .before .hash-slot .ensures in
     let e = c .before .before .before .before .run-of .ensures in
-    let x = f ∙ ap (λ g. fnv (code g 0)) (page-lent (s z) (p z)) in
+    let x = f ∙ ap (λ g. fnv (code g 0)) (page-lent S1024 (s z) (p z)) in
     named-page fnv (s z) (z .args .d) (p z) (z .pre .3) (c .before .before .set-run .last .0) (c .before .before .before .before .run-of .result .from) (c .before .before .before .before .run-of .result .to)
     (kind z ∙ t)
     (e .0 ∙ sym (λ i. first (z .args .d) (record { bits = deep z i; value = top (deep z i) (sym x i) })))

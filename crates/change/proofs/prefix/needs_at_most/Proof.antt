@@ -11,8 +11,9 @@ use Rattle.partition.specs.Bits.{top}
 use Rattle.partition.specs.Partition.{first, after}
 use Rattle.partition.proofs.Tree.{pfx}
 use Rattle.store.specs.Pages.{S1024, dirDepth, entryAt}
+use Rattle.store.specs.Demands.{sized-1024}
 use Rattle.store.specs.Accepted.{Accepted}
-use Rattle.rows.proofs.Finds.{long-enough, shallow, entries-256}
+use Rattle.rows.proofs.Finds.{long-enough, shallow, entry-low}
 use Rattle.change.specs.Prefix.{Above}
 use Rattle.change.proofs.Runs.{Summed, Step, short, summed-first, summed-most, summed-all, summed-none, summed-page}
 use Rattle.change.proofs.prefix.needs_at_most.Statement.{statement}
@@ -65,7 +66,7 @@ module _ (b : tie.At-loop Inv-loop μ-loop) where
   below l = subst (λ m. b .loop .i < m) (ends r) l
 
   low : b .loop .i < r .run-of .result .to → b .loop .i < 256
-  low l = entries-256 (s r) (acc r) 0 (b .loop .i) (omega (arith, below l, most r))
+  low l = entry-low S1024 sized-1024 (s r) (acc r) 0 (b .loop .i) (omega (arith, below l, most r))
 
 -- where the entry names a page
 at-page : (e : tie.Else1 Inv-loop μ-loop)
@@ -78,7 +79,7 @@ at-page e =
     (summed-page fnv fnv-lt (s r) (acc r) (x r) (j r) (held r) (most r) (b .loop .i) (b .loop .sum) (below b (e .before .before .loop-test .taken)) (b .loop .inv .0) (λ q. e .if1 .left (its ∙ q)))
 
 get32-requires : tie.Need-get32-requires Inv-loop μ-loop
-get32-requires c κs = omega (arith, long-enough _ (c .before .pre .0))
+get32-requires c κs = omega (arith, long-enough S1024 sized-1024 _ (c .before .pre .0))
 
 cast-d : tie.Need-cast-d Inv-loop μ-loop
 cast-d c = omega (arith, c .get32 .ensures .1)
@@ -86,7 +87,7 @@ cast-d c = omega (arith, c .get32 .ensures .1)
 run-of-requires : tie.Need-run-of-requires Inv-loop μ-loop
 run-of-requires c κs = let z = c .before .before in
     let e : c .get32 .result ≡ dirDepth (now (z .args .s)) = c .get32 .ensures .0 in
-    (omega (arith, e, short fnv fnv-lt (now (z .args .s)) (z .pre .0) (z .args .x) (z .args .j) (z .pre .1)), omega (arith, e, shallow (now (z .args .s)) (z .pre .0)))
+    (omega (arith, e, short fnv fnv-lt (now (z .args .s)) (z .pre .0) (z .args .x) (z .args .j) (z .pre .1)), omega (arith, e, shallow S1024 sized-1024 (now (z .args .s)) (z .pre .0)))
 
 loop-holds : tie.Need-loop-holds Inv-loop μ-loop
 loop-holds c = (subst (λ i. Summed fnv (s c) (x c) (j c) i 0) (sym (begins c)) (summed-first fnv fnv-lt (s c) (acc c) (x c) (j c) (held c) (most c)), omega arith, omega arith)
@@ -98,7 +99,7 @@ add-get32 : tie.Need-add-get32 Inv-loop μ-loop
 add-get32 c = omega (arith, low (c .before) (c .loop-test .taken))
 
 get32-requires-2 : tie.Need-get32-requires-2 Inv-loop μ-loop
-get32-requires-2 c κs = omega (arith, low (c .before) (c .loop-test .taken), long-enough _ (acc (c .before .before)))
+get32-requires-2 c κs = omega (arith, low (c .before) (c .loop-test .taken), long-enough S1024 sized-1024 _ (acc (c .before .before)))
 
 add-i : tie.Need-add-i Inv-loop μ-loop
 add-i c = omega (arith, low (c .before .before .before) (c .before .before .loop-test .taken))
@@ -119,7 +120,7 @@ mul-a c = omega (arith, c .before .get322 .ensures .1)
 
 entries-of-requires : tie.Need-entries-of-requires Inv-loop μ-loop
 entries-of-requires c κs = let r = c .before .before .before .before in
-    (at-page c .inside, omega (arith, at-page c .deep, deep r), omega (arith, deep r, shallow _ (acc r)))
+    (omega (arith, at-page c .inside), omega (arith, at-page c .deep, deep r), omega (arith, deep r, shallow S1024 sized-1024 _ (acc r)))
 
 add-get16 : tie.Need-add-get16 Inv-loop μ-loop
 add-get16 c = omega (arith, c .before .before .get322 .ensures .1)
@@ -157,7 +158,7 @@ returns c = let r = b (c .before) .before in
 
 add-i-2 : tie.Need-add-i-2 Inv-loop μ-loop
 add-i-2 c = let r = b (c .before) .before in
-    let m : 2 ^ dirDepth (s r) ≤ 2 ^ 8 = pow-mono (shallow (s r) (acc r)) in
+    let m : 2 ^ dirDepth (s r) ≤ 2 ^ 8 = pow-mono (shallow S1024 sized-1024 (s r) (acc r)) in
     omega (arith, past (c .before) _ refl .to, most r, m)
 
 loop-less-2 : tie.Need-loop-less-2 Inv-loop μ-loop

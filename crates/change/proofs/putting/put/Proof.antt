@@ -2,6 +2,7 @@
 use Rattle.store.proofs.Rules.{accepted-whole}
 use Rattle.store.specs.Tables.{Refusal3, putAccepted, putTable, meaning}
 use Rattle.store.specs.Accepted.{GoodLength}
+use Rattle.store.specs.Demands.{sized-1024}
 use Rattle.store.specs.Pages.{S1024}
 use Rattle.page.proofs.Stored.{stored-natural}
 use Rattle.page.specs.Places.{Negative, InRange}
@@ -46,7 +47,7 @@ module _ (c : tie.Else4) where
   ranged = let g = start .good .1 .1 .0 .1 .1 in record { page = g .0 .1; slot = g .1 .0 .1; volume = g .1 .1 .0 .1 }
 
 good-length-requires : tie.Need-good-length-requires
-good-length-requires c κs = search needs
+good-length-requires c κs = sized-1024
 
 same-length : tie.Need-same-length
 same-length c = search needs

@@ -34,7 +34,7 @@ hash-requires c κs = search needs
 entry-of-requires : tie.Need-entry-of-requires
 entry-of-requires c κs =
     let z = c .before .before .before .before .before in
-    (omega (arith, z .pre .accepted .long .least), opened S1024 fnv (now (z .args .s)) (z .pre .accepted) .page0 .depth)
+    (sized-1024, omega (arith, z .pre .accepted .long .least), opened S1024 fnv (now (z .args .s)) (z .pre .accepted) .page0 .depth)
 
 new-bucket-requires : tie.Need-new-bucket-requires
 new-bucket-requires c κs =

@@ -10,6 +10,7 @@ use Rattle.hash.specs.Fnv.{fnv}
 use Rattle.store.proofs.Rules.{accepted-whole}
 use Rattle.store.specs.Tables.{Refusal3, removeTable}
 use Rattle.store.specs.Accepted.{GoodLength}
+use Rattle.store.specs.Demands.{sized-1024}
 use Rattle.store.specs.Pages.{S1024}
 use Rattle.change.proofs.removal.remove.Statement.{statement}
 use Rattle.change.proofs.removal.remove.Tie as tie
@@ -27,7 +28,7 @@ short : (c : tie.Else3) → Refusal3 (now (z (c .before .before) .args .key)) �
 short c = ⊎-elim (λ e. c .before .if2 .left e) (λ l. omega (arith, c .if3 .left))
 
 good-length-requires : tie.Need-good-length-requires
-good-length-requires c κs = search needs
+good-length-requires c κs = sized-1024
 
 same-length : tie.Need-same-length
 same-length c = search needs

@@ -13,6 +13,7 @@ use Rattle.page.specs.Places as Places
 use Rattle.page.specs.Page.{code, place}
 use Rattle.partition.specs.Listing.{placeOf}
 use Rattle.store.specs.Tables.{found}
+use Rattle.store.specs.Demands.{sized-1024}
 use Rattle.store.specs.Pages.{S1024, page, rowsHeld}
 use Rattle.change.specs.Remove.{Leaving}
 use Rattle.change.proofs.OnePage.{lent}
@@ -38,8 +39,8 @@ module _ (d : tie.After-p) where
   abbrev i : ℕ
   i = d .p .given .0 .1 .0
 
-  stands : OnPage s p i × (code (page S1024 s p) i ≡ key) × (placeOf (rowsHeld S1024 s) key ≡ some (place (page S1024 s p) i))
-  stands = subst (λ (r : Spot). Stands s key r) (d .p .given .1) (d .before .before .find-row .ensures)
+  stands : OnPage S1024 s p i × (code (page S1024 s p) i ≡ key) × (placeOf (rowsHeld S1024 s) key ≡ some (place (page S1024 s p) i))
+  stands = subst (λ (r : Spot). Stands S1024 s key r) (d .p .given .1) (d .before .before .find-row .ensures)
 
   leaving : Leaving fnv s p i key
   leaving =
@@ -47,7 +48,7 @@ module _ (d : tie.After-p) where
       record { accepted = z .pre; from = o .from; to = omega (arith, o .within); rules = o .rules; slot = o .slot; coded = stands .1; known = stands .2 }
 
 find-row-requires : tie.Need-find-row-requires
-find-row-requires c κs = search needs
+find-row-requires c κs = let z = c .before .before .before in (sized-1024, z .pre)
 
 enum-told : tie.Need-enum-told
 enum-told c = search needs
@@ -81,7 +82,7 @@ same-length c = search needs
 
 returns : tie.Need-returns
 returns c = let z = c .before .before .before .before .before .before in
-    let w = subst (λ (r : Spot). Stands (now (z .args .s)) (now (z .args .key)) r) (c .enum-told .given .1) (c .before .before .find-row .ensures) in
+    let w = subst (λ (r : Spot). Stands S1024 (now (z .args .s)) (now (z .args .key)) r) (c .enum-told .given .1) (c .before .before .find-row .ensures) in
     inr ((λ _. none-some w), refl)
 
 same-length-2 : tie.Need-same-length-2

@@ -54,7 +54,7 @@ module _ (z : tie.Start) where
   sound = settling fnv fnv-lt s (z .pre .accepted) s (unwritten fnv fnv-lt s (z .pre .accepted))
 
   deep : depth g ≡ byte s (p * 1024 + 1)
-  deep = page-byte s p 1 (omega arith)
+  deep = page-byte S1024 s p 1 (omega arith)
 
   short : length key ≤ 64
   short = omega (arith, ap length (z .pre .coded), len-of-code g (z .args .i) (z .pre .rules .rules) (z .pre .slot), z .pre .rules .rules .long (z .args .i) (z .pre .slot))

@@ -2,6 +2,7 @@
 use native.Mathlib.Omega.{arith}
 use borrow.Author.Needs.{needs}
 use Rattle.ground.proofs.Tests.{says-same}
+use Rattle.store.proofs.PageTies.{zeros}
 use Rattle.reader.proofs.slots.sound.Statement.{statement}
 use Rattle.reader.proofs.slots.sound.Tie as tie
 
@@ -12,12 +13,12 @@ slice-aggregate-bucket-ok : tie.Need-slice-aggregate-bucket-ok
 slice-aggregate-bucket-ok c = search needs
 
 bucket-ok-requires : tie.Need-bucket-ok-requires
-bucket-ok-requires c κs = search needs
+bucket-ok-requires c κs = (omega arith, zeros 1024, omega arith)
 
 returns-2 : tie.Need-returns-2
 returns-2 c =
     let b = c .before .bucket-ok in
-    says-same (b .result) (b .ensures) (λ k. record { long = omega arith; keeps = k }) (λ s. s .keeps)
+    says-same (b .result) (b .ensures .0) (λ k. record { long = omega arith; keeps = k }) (λ s. s .keeps)
 
 pub sound-spec : {M : Type 1} → statement M
 sound-spec = tie.close (tie.spec returns slice-aggregate-bucket-ok bucket-ok-requires returns-2)

@@ -7,6 +7,7 @@ use Prim.Native.Nat.{ℕ, _^_, _≤_, _<_}
 use native.Mathlib.Omega.{arith}
 use Rattle.ground.proofs.Tests.{says-true, says-false}
 use Rattle.hash.specs.Fnv.{fnv}
+use Rattle.store.specs.Demands.{sized-1024}
 use Rattle.store.specs.Pages.{S1024, pages, dirDepth}
 use Rattle.store.specs.Accepted.{Page0, Page1, Stands, Parted}
 use Rattle.reading.specs.Directory.{Ranges}
@@ -53,7 +54,7 @@ parted : (c : tie.Else4) → (q : ℕ) → 2 ≤ q → q < pages S1024 (store (c
 parted c = none-bad _ _ (c .before .first-joinable .result) (c .before .first-joinable .ensures) (c .if4 .left)
 
 page0-ok-requires : tie.Need-page0-ok-requires
-page0-ok-requires c κs = search needs
+page0-ok-requires c κs = (sized-1024, search needs, search needs)
 
 returns : tie.Need-returns
 returns c = bad-0 S1024 fnv _ (c .before .before .before .pre) (says-false {P = Page0 S1024 (c .before .before .before .args .s .now)} (c .before .page0-ok .result) (not-true _ (c .if1 .taken)) (c .before .page0-ok .ensures))

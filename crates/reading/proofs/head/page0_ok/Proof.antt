@@ -1,13 +1,17 @@
 -- `reading::head::page0_ok` meets its contract. Assumes nothing.
 use borrow.Author.Needs.{needs}
-use Prim.Native.Nat.{_-_}
+use Prim.Native.Nat.{_-_, _≤_}
 use native.Mathlib.Omega.{arith}
 use lib.ListN.{take, drop}
 use Rattle.ground.proofs.Tests.{says-same}
+use Rattle.store.specs.Pages.{size}
 use Rattle.words.specs.Zeros.{Zero}
 use Rattle.reading.proofs.Heads.{lent-zero, zero-lent}
 use Rattle.reading.proofs.head.page0_ok.Statement.{statement}
 use Rattle.reading.proofs.head.page0_ok.Tie as tie
+
+add-size : tie.Need-add-size
+add-size c = search needs
 
 get32-requires : tie.Need-get32-requires
 get32-requires c κs = search needs
@@ -29,6 +33,9 @@ returns-3 c = search needs
 
 get32-requires-4 : tie.Need-get32-requires-4
 get32-requires-4 c κs = search needs
+
+mul-if4 : tie.Need-mul-if4
+mul-if4 c = search needs
 
 returns-4 : tie.Need-returns-4
 returns-4 c = search needs
@@ -53,16 +60,19 @@ all-zero-requires c κs = search needs
 
 returns-6 : tie.Need-returns-6
 returns-6 c =
-    let a = c .before .before .before .before .before .before .before .before .before .before .before .before .before in
+    let a = c .before .before .before .before .before .before .before .before .before .before .before .before .before .before .before .before in
     let s = a .args .s .now in
-    says-same {P = Zero (take (1024 - 20) (drop 20 s))} (c .all-zero .result) (c .all-zero .ensures)
-    (λ z. record { number = omega arith; directory = omega arith; entries = omega arith; first = omega arith; depth = omega arith; rest = lent-zero s 20 1024 (omega arith) (a .pre .1) z })
-    (λ g. zero-lent s 20 1024 (omega arith) (a .pre .1) (g .rest))
+    let n = size (a .args .z) in
+    let m : 20 ≤ n = omega (arith, a .pre .0 .least) in
+    says-same {P = Zero (take (n - 20) (drop 20 s))} (c .all-zero .result) (c .all-zero .ensures)
+    (λ z. record { number = omega arith; directory = omega arith; entries = omega arith; first = omega arith; depth = omega arith; rest = lent-zero s 20 n m (a .pre .2) z })
+    (λ g. zero-lent s 20 n m (a .pre .2) (g .rest))
 
 pub page0-ok-spec : {M : Type 1} → statement M
 page0-ok-spec =
     tie.close
     (tie.spec
+    add-size
     get32-requires
     returns
     get32-requires-2
@@ -70,6 +80,7 @@ page0-ok-spec =
     get32-requires-3
     returns-3
     get32-requires-4
+    mul-if4
     returns-4
     get32-requires-5
     returns-5

@@ -9,11 +9,13 @@ use native.Mathlib.Omega.{arith}
 use lib.ListN.{take, drop, length}
 use Rattle.ground.specs.Says.{Says}
 use Rattle.ground.proofs.Tests.{says-true, says-false}
+use Rattle.words.specs.Zeros.{Zero}
 use Rattle.hash.specs.Fnv.{fnv}
 use Rattle.partition.specs.Bits.{top}
 use Rattle.page.specs.Page.{depth, code, count}
 use Rattle.store.specs.Accepted.{Stands}
 use Rattle.store.specs.Pages.{S1024}
+use Rattle.store.proofs.PageTies.{zeros}
 use Rattle.store.proofs.Views.{page-lent}
 use Rattle.reading.specs.Directory.{Named}
 use Rattle.reading.specs.Begun.{Free, Own}
@@ -22,16 +24,16 @@ use Rattle.reading.proofs.pages.first_unsound.Statement.{statement}
 use Rattle.reading.proofs.pages.first_unsound.Tie as tie
 
 abbrev Inv-slots : tie.InvT-slots
-Inv-slots s dir n d marks p a e pg k first count i₀ i = (1 ≤ i) × (i ≤ count) × ((j : ℕ) → j < i → Like pg j)
+Inv-slots s dir n d tab p a e pg k first count i₀ i = (1 ≤ i) × (i ≤ count) × ((j : ℕ) → j < i → Like pg j)
 
 abbrev μ-slots : tie.MeasureT-slots
-μ-slots s dir n d marks p a e pg k first count i₀ i = count - i
+μ-slots s dir n d tab p a e pg k first count i₀ i = count - i
 
 abbrev Inv-pages : tie.InvT-pages
-Inv-pages s dir n d marks₀ p₀ marks p = (length marks ≡ 1024) × (2 ≤ p) × (p ≤ n) × ((q : ℕ) → q < p → 2 ≤ q → Stands S1024 fnv s q)
+Inv-pages s dir n d tab₀ p₀ tab p = (length tab ≡ 1024) × Zero tab × (2 ≤ p) × (p ≤ n) × ((q : ℕ) → q < p → 2 ≤ q → Stands S1024 fnv s q)
 
 abbrev μ-pages : tie.MeasureT-pages
-μ-pages s dir n d marks₀ p₀ marks p = n - p
+μ-pages s dir n d tab₀ p₀ tab p = n - p
 
 -- past the page's own rules
 abbrev Past : Type 0
@@ -44,7 +46,7 @@ pg-of c =
     take (p * 1024 + 1024 - p * 1024) (drop (p * 1024) (c .before .before .before .before .before .before .before .before .before .before .before .args .s .now))
 
 own : (c : Past) → Own (pg-of c) (c .before .before .before .before .before .before .before .before .before .before .before .args .d)
-own c = says-true {P = Own (pg-of c) (c .before .before .before .before .before .before .before .before .before .before .before .args .d)} (c .before .before .own-ok .result) (not-false _ (c .if4 .left)) (c .before .before .own-ok .ensures)
+own c = says-true {P = Own (pg-of c) (c .before .before .before .before .before .before .before .before .before .before .before .args .d)} (c .before .before .own-ok .result) (not-false _ (c .if4 .left)) (c .before .before .own-ok .ensures .0)
 
 -- what the test of slot i says
 slot-said : (c : tie.After-shares Inv-slots μ-slots Inv-pages μ-pages) → let g = pg-of (c .before .before .before .before .before .before .before) in Says (c .shares .result) (Like g (c .before .before .before .slots .i))
@@ -64,7 +66,7 @@ name-said c =
     (c .before .before .before .before .hash-slot .ensures) (c .named .ensures)
 
 pages-holds : tie.Need-pages-holds Inv-slots μ-slots Inv-pages μ-pages
-pages-holds c = (refl, omega arith, omega (arith, c .before .before .pre .least), λ q l h. absurd (omega arith))
+pages-holds c = (refl, zeros 1024, omega arith, omega (arith, c .before .before .pre .least), λ q l h. absurd (omega arith))
 
 mul-a : tie.Need-mul-a Inv-slots μ-slots Inv-pages μ-pages
 mul-a c = search needs
@@ -103,10 +105,11 @@ pages-again c =
     let s = a .args .s .now in
     let g = take (l .p * 1024 + 1024 - l .p * 1024) (drop (l .p * 1024) s) in (
       l .inv .0,
+      l .inv .1,
       omega arith,
       omega arith,
-      below-more (λ q. 2 ≤ q → Stands S1024 fnv s q) _ (l .inv .3)
-          (λ _. free-stands s (a .args .dir .now) (a .args .n) (a .args .d) (l .p) (a .pre) g (page-lent s (l .p))
+      below-more (λ q. 2 ≤ q → Stands S1024 fnv s q) _ (l .inv .4)
+          (λ _. free-stands s (a .args .dir .now) (a .args .n) (a .args .d) (l .p) (a .pre) g (page-lent S1024 s (l .p))
           (says-true {P = Free g (a .args .dir .now) (l .p)} (c .before .free-ok .result) (not-false _ (c .if3 .left)) (c .before .free-ok .ensures))),
     )
 
@@ -178,16 +181,17 @@ pages-again-2 c =
     let l = x .before .before .before .before .before .before .before .before .pages in
     let s = a .args .s .now in (
       x .before .before .own-ok .kept .1 .0 ∙ l .inv .0,
+      x .before .before .own-ok .ensures .1,
       omega arith,
       omega arith,
-      below-more (λ q. 2 ≤ q → Stands S1024 fnv s q) _ (l .inv .3)
-          (λ _. used-stands s (a .args .dir .now) (a .args .n) (a .args .d) (l .p) (a .pre) (pg-of x) (page-lent s (l .p)) (own x)
+      below-more (λ q. 2 ≤ q → Stands S1024 fnv s q) _ (l .inv .4)
+          (λ _. used-stands s (a .args .dir .now) (a .args .n) (a .args .d) (l .p) (a .pre) (pg-of x) (page-lent S1024 s (l .p)) (own x)
           (λ i m. c .before .before .before .slots .inv .2 i (omega (arith, c .before .before .slots-test .left, c .before .before .before .before .get16 .ensures .0)))
           (says-true {P = Named (a .args .dir .now) (a .args .d) (depth (pg-of x)) (prefixOf (pg-of x)) (l .p)} (c .before .named .result) (not-false _ (c .if6 .left)) (name-said (c .before)))),
     )
 
 returns : tie.Need-returns Inv-slots μ-slots Inv-pages μ-pages
-returns c = let l = c .before .pages in ends-fine _ _ (l .p) (l .inv .1) (l .inv .2) (c .if1 .taken) (l .inv .3)
+returns c = let l = c .before .pages in ends-fine _ _ (l .p) (l .inv .2) (l .inv .3) (c .if1 .taken) (l .inv .4)
 
 returns-2 : tie.Need-returns-2 Inv-slots μ-slots Inv-pages μ-pages
 returns-2 c =
@@ -195,9 +199,9 @@ returns-2 c =
     let l = c .before .before .before .before .before .before .pages in
     let s = a .args .s .now in
     let g = take (l .p * 1024 + 1024 - l .p * 1024) (drop (l .p * 1024) s) in
-    ends-bad _ _ (l .p) (l .inv .1) (l .inv .2) (l .inv .3)
+    ends-bad _ _ (l .p) (l .inv .2) (l .inv .3) (l .inv .4)
     (λ st. says-false {P = Free g (a .args .dir .now) (l .p)} (c .before .free-ok .result) (not-true _ (c .if3 .taken)) (c .before .free-ok .ensures)
-    (stands-free s (a .args .dir .now) (a .args .n) (a .args .d) (l .p) (a .pre) g (page-lent s (l .p)) (c .before .before .if2 .taken) st))
+    (stands-free s (a .args .dir .now) (a .args .n) (a .args .d) (l .p) (a .pre) g (page-lent S1024 s (l .p)) (c .before .before .if2 .taken) st))
 
 returns-3 : tie.Need-returns-3 Inv-slots μ-slots Inv-pages μ-pages
 returns-3 c =
@@ -205,9 +209,9 @@ returns-3 c =
     let l = c .before .before .before .before .before .before .before .before .pages in
     let s = a .args .s .now in
     let g = take (l .p * 1024 + 1024 - l .p * 1024) (drop (l .p * 1024) s) in
-    ends-bad _ _ (l .p) (l .inv .1) (l .inv .2) (l .inv .3)
-    (λ st. says-false {P = Own g (a .args .d)} (c .before .before .own-ok .result) (not-true _ (c .if4 .taken)) (c .before .before .own-ok .ensures)
-    (stands-own s (a .args .dir .now) (a .args .n) (a .args .d) (l .p) (a .pre) g (page-lent s (l .p)) (c .before .before .before .before .if2 .left) st))
+    ends-bad _ _ (l .p) (l .inv .2) (l .inv .3) (l .inv .4)
+    (λ st. says-false {P = Own g (a .args .d)} (c .before .before .own-ok .result) (not-true _ (c .if4 .taken)) (c .before .before .own-ok .ensures .0)
+    (stands-own s (a .args .dir .now) (a .args .n) (a .args .d) (l .p) (a .pre) g (page-lent S1024 s (l .p)) (c .before .before .before .before .if2 .left) st))
 
 returns-4 : tie.Need-returns-4 Inv-slots μ-slots Inv-pages μ-pages
 returns-4 c =
@@ -215,9 +219,9 @@ returns-4 c =
     let a = x .before .before .before .before .before .before .before .before .before .before .before in
     let l = x .before .before .before .before .before .before .before .before .pages in
     let s = a .args .s .now in
-    ends-bad _ _ (l .p) (l .inv .1) (l .inv .2) (l .inv .3)
+    ends-bad _ _ (l .p) (l .inv .2) (l .inv .3) (l .inv .4)
     (λ st. says-false {P = Like (pg-of x) (c .before .before .before .before .slots .i)} (c .before .shares .result) (not-true _ (c .if5 .taken)) (slot-said (c .before))
-    (stands-like s (a .args .dir .now) (a .args .n) (a .args .d) (l .p) (a .pre) (pg-of x) (page-lent s (l .p)) (x .before .before .before .before .if2 .left) st (c .before .before .before .before .slots .i)
+    (stands-like s (a .args .dir .now) (a .args .n) (a .args .d) (l .p) (a .pre) (pg-of x) (page-lent S1024 s (l .p)) (x .before .before .before .before .if2 .left) st (c .before .before .before .before .slots .i)
     (omega (arith, c .before .before .before .before .before .get16 .ensures .0))))
 
 returns-5 : tie.Need-returns-5 Inv-slots μ-slots Inv-pages μ-pages
@@ -226,9 +230,9 @@ returns-5 c =
     let a = x .before .before .before .before .before .before .before .before .before .before .before in
     let l = x .before .before .before .before .before .before .before .before .pages in
     let s = a .args .s .now in
-    ends-bad _ _ (l .p) (l .inv .1) (l .inv .2) (l .inv .3)
+    ends-bad _ _ (l .p) (l .inv .2) (l .inv .3) (l .inv .4)
     (λ st. says-false {P = Named (a .args .dir .now) (a .args .d) (depth (pg-of x)) (prefixOf (pg-of x)) (l .p)} (c .before .named .result) (not-true _ (c .if6 .taken)) (name-said (c .before))
-    (stands-named s (a .args .dir .now) (a .args .n) (a .args .d) (l .p) (a .pre) (pg-of x) (page-lent s (l .p)) (x .before .before .before .before .if2 .left) st))
+    (stands-named s (a .args .dir .now) (a .args .n) (a .args .d) (l .p) (a .pre) (pg-of x) (page-lent S1024 s (l .p)) (x .before .before .before .before .if2 .left) st))
 
 pub first-unsound-spec : {M : Type 1} → statement M
 first-unsound-spec =

@@ -65,8 +65,8 @@ loop-again c =
     let l = c .before .before .before .before .loop in
     let s = a .args .s .now in (
       omega arith,
-      filled-more _ (l .inv .1) (omega (arith, a .pre .0 .most)) (subst (λ g. TopOf g (c .before .page-top .result)) (page-lent s (l .p)) (c .before .page-top .ensures)),
-      filled-more _ (l .inv .2) (omega (arith, a .pre .0 .most)) (subst (λ g. LoadOf g (c .page-load .result)) (page-lent s (l .p)) (c .page-load .ensures)),
+      filled-more _ (l .inv .1) (omega (arith, a .pre .0 .most)) (subst (λ g. TopOf g (c .before .page-top .result)) (page-lent S1024 s (l .p)) (c .before .page-top .ensures)),
+      filled-more _ (l .inv .2) (omega (arith, a .pre .0 .most)) (subst (λ g. LoadOf g (c .page-load .result)) (page-lent S1024 s (l .p)) (c .page-load .ensures)),
     )
 
 same-length : tie.Need-same-length Inv-loop μ-loop

@@ -5,6 +5,7 @@ use Prim.Native.Nat.{_+_, _*_, _-_}
 use native.Mathlib.Omega.{arith}
 use Rattle.ground.specs.Lists.{byte}
 use Rattle.ground.proofs.Tests.{says-ltb}
+use Rattle.store.specs.Pages.{S1024}
 use Rattle.store.proofs.Depths.{page-byte}
 use Rattle.reading.proofs.Parting.{depth-most, parted-flat, parted-by}
 use Rattle.reading.proofs.parted.parted_ok.Statement.{statement}
@@ -24,7 +25,7 @@ cast-d c = let a = c .before .before .before .before in record { fits = omega (a
 
 returns : tie.Need-returns
 returns c = let a = c .before .before .before .before .before in
-    parted-flat (a .args .s .now) (a .args .tops .now) (a .args .loads .now) (a .args .n) (a .pre .0) (a .pre .1) (a .args .p) (a .pre .2) (a .pre .3) (page-byte (a .args .s .now) (a .args .p) 1 (omega arith) ∙ c .if1 .taken)
+    parted-flat (a .args .s .now) (a .args .tops .now) (a .args .loads .now) (a .args .n) (a .pre .0) (a .pre .1) (a .args .p) (a .pre .2) (a .pre .3) (page-byte S1024 (a .args .s .now) (a .args .p) 1 (omega arith) ∙ c .if1 .taken)
 
 sub-k : tie.Need-sub-k
 sub-k c = let a = c .before .before .before .before .before in omega (arith, depth-most (a .args .s .now) (a .args .n) (a .args .p) (a .pre .0) (a .pre .2) (a .pre .3))
@@ -48,7 +49,7 @@ returns-2 : tie.Need-returns-2
 returns-2 c = let a = c .before .before .before .before .before .before .before in
     let s = a .args .s .now in
     let d = byte s (a .args .p * 1024 + 1) in
-    let y = parted-by s (a .args .tops .now) (a .args .loads .now) (a .args .n) (a .pre .0) (a .pre .1) (a .args .p) (a .pre .2) (a .pre .3) d (9 - d) (c .load-of .result) (sym (page-byte s (a .args .p) 1 (omega arith))) (c .before .before .if1 .left) (omega arith) (c .load-of .ensures) in
+    let y = parted-by s (a .args .tops .now) (a .args .loads .now) (a .args .n) (a .pre .0) (a .pre .1) (a .args .p) (a .pre .2) (a .pre .3) d (9 - d) (c .load-of .result) (sym (page-byte S1024 s (a .args .p) 1 (omega arith))) (c .before .before .if1 .left) (omega arith) (c .load-of .ensures) in
     says-ltb 1016 (c .load-of .result) (y .0) (y .1)
 
 pub parted-ok-spec : {M : Type 1} → statement M
