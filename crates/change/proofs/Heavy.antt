@@ -1,7 +1,7 @@
 -- PUT of a new code that does not fit the page that holds its hash: refusals 6 and 7 from that page's rows, else the page is split. Over any hash.
 -- Assumes nothing.
 use mathlib.Core.Path.{_≡_, refl, sym, ap, subst, _∙_}
-use mathlib.Core.List.{List, [], _∷_, map}
+use mathlib.Core.List.{List, [], _∷_, map, List·Memᴰ, List·Memᴰ·cases-cons}
 use mathlib.Core.Logic.{inl, inr, ⊎-elim, _↔_}
 use mathlib.Core.Option.{some, none}
 use Prim.Native.Nat.{ℕ, suc, _+_, _-_, _/_, _≤_, _<_}
@@ -16,6 +16,7 @@ use Rattle.page.specs.Page as InPage
 use Rattle.partition.specs.Bits.{top}
 use Rattle.partition.specs.Partition.{Row, need, needs, rowsOf, buckets}
 use Rattle.partition.specs.Listing.{placeOf}
+use Rattle.partition.proofs.Bits.{top-lt}
 use Rattle.partition.proofs.Rows.{same-load}
 use Rattle.store.specs.Pages.{S1024, pages, page, dirDepth, Page, contents, asRow, rowsHeld, deepestIn}
 use Rattle.store.specs.Accepted.{Accepted}
@@ -23,7 +24,8 @@ use Rattle.store.specs.Moves.{find, isFree, packed, written, putNew}
 use Rattle.store.specs.Tables.{new, refused, Refusal6, Refusal7, putAccepted}
 use Rattle.store.specs.Demands.{Hash, sized-1024}
 use Rattle.store.proofs.Shows.{prefixOn, Shows}
-use Rattle.store.proofs.Shown.{within-pages}
+use Rattle.store.proofs.Rules.{opened}
+use Rattle.store.proofs.Shown.{within-pages, page-row}
 use Rattle.store.proofs.Showing.{accepted-shows, pages-held}
 use Rattle.store.proofs.Unique.{page-long}
 use Rattle.store.proofs.Rooms.{frees}
@@ -37,7 +39,7 @@ use Rattle.change.specs.Directory.{Directed}
 use Rattle.change.specs.Put.{Puttable}
 use Rattle.change.specs.Split.{keyed, below, Source, Room, pagesBelow, Writable, Wrote}
 use Rattle.change.proofs.Puts.{begins}
-use Rattle.change.proofs.Weighs.{load-any, below-all}
+use Rattle.change.proofs.Weighs.{load-any, below-shared, below-all}
 use Rattle.change.proofs.Settles.{unwritten, settled}
 
 -- where each page taken is free, each is there
@@ -83,6 +85,27 @@ module _ (h : List ℕ → ℕ) (hash : Hash h) (s c pl : List ℕ) (P : Puttabl
   unfolding need
   heavy = ⊎-elim (λ l. l) (λ l. absurd (omega (arith, tight, fits-needs g slotted S1024 r (page-long S1024 s p (U .to)) .1 l))) (side 1016 (needs rs))
 
+  pub shallow : depth (page S1024 s p) ≤ 8
+  shallow = omega (arith, U .low, opened S1024 h s A .page0 .depth)
+
+  -- the page's rows and the new one, whatever its place: they share the page's bits, and so their buckets lie below these
+  module _ (o : List ℕ) where
+    abbrev os : List Row
+    os = record { code = c; place = o } ∷ map asRow (rows g)
+
+    shared : (q : Row) → List·Memᴰ q os → top (depth g) (h (q .code)) ≡ top (depth g) (h c)
+    shared q m = ⊎-elim
+        (λ e. ap (λ y. top (depth g) (h (y .code))) e)
+        (λ t. page-row S1024 h (rowsHeld S1024 s) (depth g) (rows g) (shows .page (p - 2) (depth g) (rows g) (U .holding)) q .0 t .1 ∙ starts)
+        (List·Memᴰ·cases-cons m)
+
+    over : 1016 < needs os
+    unfolding needs need
+    over = heavy
+
+    lower : below h os (depth g) (top (depth g) (h c)) ≡ below h os 0 0
+    lower = below-shared h os (h c) (depth g) (hash c) shallow shared over
+
   -- refusal 6
   deep : needs (rowsOf h (r ∷ rowsHeld S1024 s) 8 (top 8 (h c))) ≡ needs (rowsOf h (keyed c ∷ map asRow (rows g)) 8 (top 8 (h c)))
   deep =
@@ -97,15 +120,15 @@ module _ (h : List ℕ → ℕ) (hash : Hash h) (s c pl : List ℕ) (P : Puttabl
     six x = omega (arith, deep, fine)
 
     -- refusal 7
-    many : length (buckets S1024 h rs) ≡ length (below h (keyed c ∷ map asRow (rows g)) 0 0)
+    many : length (buckets S1024 h rs) ≡ length (below h (keyed c ∷ map asRow (rows g)) (depth g) (top (depth g) (h c)))
     many =
         ap length (same-load S1024 h rs (keyed c ∷ map asRow (rows g)) (λ k v. load-any h r (keyed c) refl (map asRow (rows g)) (map asRow (rows g)) k v refl)
-        ∙ sym (below-all h (keyed c ∷ map asRow (rows g))))
+        ∙ sym (below-all h (keyed c ∷ map asRow (rows g))) ∙ sym (lower []))
 
     seven-is : (length (buckets S1024 h (r ∷ rowsHeld S1024 s)) ≤ length gs) ↔ (length (buckets S1024 h rs) ≤ suc (frees gs))
     seven-is = splits-seven S1024 h hash (rowsHeld S1024 s) gs shows r (p - 2) (depth g) (rows g) (U .holding) starts heavy
 
-    pub heavy-seven : frees (contents S1024 s) + 1 < length (below h (keyed c ∷ map asRow (rows (page S1024 s p))) 0 0) → Answers (putAccepted S1024 h s (record { code = c; place = pl })) (refused 7, s)
+    pub heavy-seven : frees (contents S1024 s) + 1 < length (below h (keyed c ∷ map asRow (rows (page S1024 s p))) (depth (page S1024 s p)) (top (depth (page S1024 s p)) (h c))) → Answers (putAccepted S1024 h s (record { code = c; place = pl })) (refused 7, s)
     heavy-seven o =
         let full : pages S1024 s - 2 < length (buckets S1024 h (r ∷ rowsHeld S1024 s)) = ⊎-elim
         (λ l. l)
@@ -113,23 +136,23 @@ module _ (h : List ℕ → ℕ) (hash : Hash h) (s c pl : List ℕ) (P : Puttabl
         (side (pages S1024 s - 2) (length (buckets S1024 h (r ∷ rowsHeld S1024 s)))) in
         inr ((λ _. none-some absent), inr ((λ _. six), inl (tt, (full, refl))))
 
-    module _ (room : length (below h (keyed c ∷ map asRow (rows (page S1024 s p))) 0 0) ≤ frees (contents S1024 s) + 1) where
+    module _ (room : length (below h (keyed c ∷ map asRow (rows (page S1024 s p))) (depth (page S1024 s p)) (top (depth (page S1024 s p)) (h c))) ≤ frees (contents S1024 s) + 1) where
       fits : length (buckets S1024 h (r ∷ rowsHeld S1024 s)) ≤ length gs
       fits = seven-is .1 (omega (arith, many, room))
 
       seven : Refusal7 S1024 h s (rowsHeld S1024 s) r → ⊥
       seven x = omega (arith, fits, pages-held S1024 s)
 
-      news : pagesBelow h rs 0 0 ≡ map (packed h rs) (buckets S1024 h rs)
-      news = ap (map (packed h rs)) (below-all h rs)
+      news : pagesBelow h rs (depth g) (top (depth g) (h c)) ≡ map (packed h rs) (buckets S1024 h rs)
+      news = ap (map (packed h rs)) (lower pl ∙ below-all h rs)
 
       pub source : Source (page S1024 s p) i c pl
       source = record { page = slotted; belongs = B; natural = P .natural; some = P .some; short = P .short }
 
-      pub writable : Writable h (record { code = c; place = pl } ∷ map asRow (rows (page S1024 s p))) 0 0 s p
+      pub writable : Writable h (record { code = c; place = pl } ∷ map asRow (rows (page S1024 s p))) (depth (page S1024 s p)) (top (depth (page S1024 s p)) (h c)) s p
       writable = record {
-        deep = omega arith;
-        prefix = omega arith;
+        deep = shallow;
+        prefix = top-lt (h c) (depth g) (hash c);
         long = A .long;
         sound = unwritten h hash s A;
         from = U .from;
@@ -138,7 +161,7 @@ module _ (h : List ℕ → ℕ) (hash : Hash h) (s c pl : List ℕ) (P : Puttabl
             (put-found S1024 h hash (rowsHeld S1024 s) r gs shows absent (omega (arith, deep, fine)) fits (p - 2) (depth g) (rows g) (U .holding) starts heavy));
       }
 
-      module _ (t : List ℕ) (n : ℕ) (W : Wrote h (record { code = c; place = pl } ∷ map asRow (rows (page S1024 s p))) 0 0 s p t n) where
+      module _ (t : List ℕ) (n : ℕ) (W : Wrote h (record { code = c; place = pl } ∷ map asRow (rows (page S1024 s p))) (depth (page S1024 s p)) (top (depth (page S1024 s p)) (h c)) s p t n) where
         holds : contents S1024 t ≡ putNew S1024 h gs r
         holds =
             W .held ∙ ap (written gs (p - 2)) news

@@ -1,25 +1,61 @@
 -- What rows of a prefix need, row by row, and the buckets below a prefix, case by case. Over any hash. Assumes nothing.
 use mathlib.Core.Path.{_≡_, refl, sym, ap, subst, _∙_}
 use mathlib.Core.Bool.{Bool, true, false}
-use mathlib.Core.List.{List, [], _∷_, _++_, map}
-use Prim.Native.Nat.{ℕ, zero, suc, _+_, _-_, _*_, _^_, _≤_, _<_}
+use mathlib.Core.List.{List, [], _∷_, _++_, map, append-nil, List·Memᴰ}
+use mathlib.Core.Logic.{⊎-elim}
+use Prim.Native.Nat.{ℕ, zero, suc, _+_, _-_, _*_, _/_, _^_, _≤_, _<_}
 use native.Mathlib.Omega.{arith}
 use native.Mathlib.Nat.{pow-suc}
 use native.Mathlib.Numerals.{add-one}
 use lib.Dec.{eqb}
 use lib.Pow.{pow-pos, pow-mono}
-use lib.ListN.{length, getD, drop, length-append, length-map}
-use lib.Seq.{drop-cons, drop-length}
+use lib.ListN.{length, getD, drop, set, length-append, length-map, length-set}
+use lib.Seq.{drop-cons, drop-length, getD-set-same, getD-set-other}
 use Rattle.ground.proofs.Tables.{length-tab, getD-tab}
-use Rattle.page.specs.Page.{count, code, rows, rowAt}
+use Rattle.ground.specs.Lists.{total}
+use Rattle.page.specs.Page.{Slotted, count, code, rows, rowAt}
+use Rattle.page.specs.Page as InPage
+use Rattle.page.proofs.Sums.{total-more, len-of-code}
 use Rattle.partition.specs.Bits.{top}
 use Rattle.partition.specs.Partition.{Row, Grade, bare, fits, over, keep, need, needs, rowsOf, grade, walk, buckets}
 use Rattle.partition.proofs.Tree.{pfx, Means}
-use Rattle.partition.proofs.Rows.{load, load-on, load-off, mean-of, mean-one}
+use Rattle.partition.proofs.Rows.{load, mean-of, mean-one}
+use Rattle.ground.proofs.Sides.{side}
+use Rattle.partition.proofs.Bits.{top-step, top-lt}
+use Rattle.partition.proofs.Laws.{share-fewer}
+use Rattle.partition.proofs.Sum.{rows-halves}
+use Rattle.partition.proofs.Pages.{rows-every}
+use Rattle.partition.proofs.Reorders.{needs-same, needs-append}
 use Rattle.partition.proofs.Splice.{walk-bare, walk-fits}
 use Rattle.store.specs.Pages.{S1024, asRow}
 use Rattle.store.proofs.PageTies.{rows-tab}
-use Rattle.change.specs.Split.{keyed, below}
+use Rattle.store.specs.Moves.{pick}
+use Rattle.reading.proofs.Fills.{Filled}
+use Rattle.change.specs.Split.{weight, keyed, Told, below}
+
+-- ---- what is told of a page's codes and a new one
+
+-- a list that is filled for the slots, and then set for the new code
+pub told : (f : List ℕ → ℕ) (g c : List ℕ) {m i : ℕ} {l : List ℕ} → Filled (λ j x. x ≡ f (code g j)) m 0 i l → (n : ℕ) → n ≡ count g → n ≤ i → n < m → (x : ℕ) → x ≡ f c → Told f g c (set l n x)
+told f g c {l = l} F n e a b x q = record {
+  rows = record {
+    long = omega (arith, length-set l n x, F .long);
+    at = λ i s. getD-set-other l n i x 0 (λ w. omega arith) ∙ F .each i (omega arith) (omega arith);
+  };
+  new = ap (λ k. getD (set l n x) k 0) (sym e) ∙ getD-set-same l n x 0 (omega (arith, F .long)) ∙ q;
+}
+
+-- a row of a page needs 13 at least and 76 at most
+pub light : (g : List ℕ) (i : ℕ) → Slotted g → i < count g → weight (code g i) ≤ 76
+light g i Z l = omega (arith, len-of-code g i Z l, Z .long i l)
+
+most-rows : (f : ℕ → ℕ) (n : ℕ) → ((i : ℕ) → i < n → 13 ≤ f i) → 13 * n ≤ total f n
+most-rows f zero e = omega arith
+most-rows f (suc n) e = let o : suc n ≡ n + 1 = omega arith in omega (arith, ap (total f) o, total-more f n, e n (omega arith), most-rows f n (λ i l. e i (omega arith)))
+
+-- so a page has few
+pub few : (g : List ℕ) → Slotted g → 13 * count g + 8 ≤ length g
+few g Z = omega (arith, Z .unused, Z .least, most-rows (InPage.need g) (count g) (λ i l. omega (arith, Z .short i l)))
 
 module _ (h : List ℕ → ℕ) where
   -- a row's place does not weigh
@@ -46,12 +82,21 @@ module _ (h : List ℕ → ℕ) where
   unfolding rowsOf needs
   load-none k v = refl
 
-  pub load-yes : (c : List ℕ) (k v : ℕ) → top k (h c) ≡ v → load h (keyed c ∷ []) k v ≡ 12 + length c
-  unfolding need
-  load-yes c k v e = subst (λ w. load h (keyed c ∷ []) k w ≡ 12 + length c) e (load-on h (keyed c) [] k ∙ omega (arith, load-none k (top k (h c))))
+  keep-pick : (b : Bool) (c : List ℕ) → needs (keep b (keyed c) []) ≡ pick b (weight c) 0
+  unfolding needs need
+  keep-pick true c = omega arith
+  keep-pick false c = refl
 
-  pub load-no : (c : List ℕ) (k v : ℕ) → (top k (h c) ≡ v → ⊥) → load h (keyed c ∷ []) k v ≡ 0
-  load-no c k v n = load-off h (keyed c) [] k v n ∙ load-none k v
+  load-pick : (c : List ℕ) (k v : ℕ) → load h (keyed c ∷ []) k v ≡ pick (eqb (top k (h c)) v) (weight c) 0
+  unfolding rowsOf
+  load-pick c k v = keep-pick (eqb (top k (h c)) v) c
+
+  -- as it is told: that of a slot, and that of the new row
+  pub slot-told : (g c hs ns : List ℕ) (k v : ℕ) → Told h g c hs → Told weight g c ns → (i : ℕ) → i < count g → pick (eqb (top k (getD hs i 0)) v) (getD ns i 0) 0 ≡ load h (keyed (code g i) ∷ []) k v
+  slot-told g c hs ns k v H N i l = (λ x. pick (eqb (top k (H .rows .at i l x)) v) (N .rows .at i l x) 0) ∙ sym (load-pick (code g i) k v)
+
+  pub new-told : (g c hs ns : List ℕ) (k v : ℕ) → Told h g c hs → Told weight g c ns → (n : ℕ) → n ≡ count g → pick (eqb (top k (getD hs n 0)) v) (getD ns n 0) 0 ≡ load h (keyed c ∷ []) k v
+  new-told g c hs ns k v H N n e = ap (λ m. pick (eqb (top k (getD hs m 0)) v) (getD ns m 0) 0) e ∙ (λ x. pick (eqb (top k (H .new x)) v) (N .new x) 0) ∙ sym (load-pick c k v)
 
   -- ---- a page's rows, slot by slot
 
@@ -112,6 +157,36 @@ module _ (h : List ℕ → ℕ) where
     pub below-most : (k v : ℕ) → length (below h rs k v) ≤ 256
     unfolding below
     below-most k v = let l : 8 - k ≤ 8 = omega arith in let m : 2 ^ (8 - k) ≤ 2 ^ 8 = pow-mono l in omega (arith, grown (8 - k) (G k v) k v)
+
+    -- ---- rows that share their first bits
+
+    halved : (k v : ℕ) → load h rs k v ≡ load h rs (k + 1) (2 * v) + load h rs (k + 1) (2 * v + 1)
+    halved k v =
+        needs-same (rows-halves h rs k v) ∙ needs-append (rowsOf h rs (suc k) (2 * v)) (rowsOf h rs (suc k) (2 * v + 1))
+        ∙ (λ i. load h rs (sym (add-one k) i) (2 * v) + load h rs (sym (add-one k) i) (2 * v + 1))
+
+    -- where one half has all that do not fit, the buckets are that half's
+    one-half : (k v u : ℕ) → k < 8 → u / 2 ≡ v → 1016 < load h rs k v → load h rs (k + 1) u ≡ load h rs k v → below h rs k v ≡ below h rs (k + 1) u
+    one-half k v u l e o s = ⊎-elim
+        (λ a.
+        let q : u ≡ 2 * v = omega arith in
+        let z : load h rs (k + 1) (2 * v + 1) ≡ 0 = omega (arith, halved k v, s, ap (load h rs (k + 1)) q) in
+        below-two k v l o ∙ ap (λ b. below h rs (k + 1) (2 * v) ++ b) (below-none (k + 1) (2 * v + 1) z) ∙ append-nil (below h rs (k + 1) (2 * v)) ∙ ap (below h rs (k + 1)) (sym q))
+        (λ a.
+        let q : u ≡ 2 * v + 1 = omega arith in
+        let z : load h rs (k + 1) (2 * v) ≡ 0 = omega (arith, halved k v, s, ap (load h rs (k + 1)) q) in
+        below-two k v l o ∙ ap (λ b. b ++ below h rs (k + 1) (2 * v + 1)) (below-none (k + 1) (2 * v) z) ∙ ap (below h rs (k + 1)) (sym q))
+        (side u (2 * v + 1))
+
+    -- where all share k bits and do not fit together, all buckets are those below these bits
+    pub below-shared : (x k : ℕ) → x < 2 ^ 32 → k ≤ 8 → ((q : Row) → List·Memᴰ q rs → top k (h (q .code)) ≡ top k x) → 1016 < needs rs → below h rs k (top k x) ≡ below h rs 0 0
+    below-shared x zero m l s o = let z : top 0 x < 1 = top-lt x 0 m in let e : top 0 x ≡ 0 = omega arith in ap (below h rs 0) e
+    below-shared x (suc k) m l s o =
+        let f : (q : Row) → List·Memᴰ q rs → top k (h (q .code)) ≡ top k x = λ q b. share-fewer (h (q .code)) x k (suc k) (omega arith) (s q b) in
+        let a : load h rs k (top k x) ≡ needs rs = ap needs (rows-every h rs k (top k x) f) in
+        let b : load h rs (k + 1) (top (suc k) x) ≡ needs rs = ap (λ n. load h rs n (top (suc k) x)) (add-one k) ∙ ap needs (rows-every h rs (suc k) (top (suc k) x) s) in
+        ap (λ n. below h rs n (top (suc k) x)) (sym (add-one k))
+        ∙ sym (one-half k (top k x) (top (suc k) x) (omega arith) (top-step x k) (omega (arith, a, o)) (b ∙ sym a)) ∙ below-shared x k m (omega arith) f o
 
     pub below-all : below h rs 0 0 ≡ buckets S1024 h rs
     unfolding below buckets

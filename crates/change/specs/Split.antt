@@ -2,9 +2,9 @@
 use mathlib.Core.Path.{_≡_}
 use mathlib.Core.List.{List, [], _∷_, _++_, map}
 use Prim.Native.Nat.{ℕ, _+_, _-_, _^_, _≤_, _<_}
-use lib.ListN.{length, take, drop, set}
+use lib.ListN.{length, getD, take, drop, set}
 use Rattle.ground.specs.Lists.{byte}
-use Rattle.page.specs.Page.{Slotted, BucketPage, Belongs, Natural, depth, rows}
+use Rattle.page.specs.Page.{Slotted, BucketPage, Belongs, Natural, depth, count, code, rows}
 use Rattle.partition.specs.Partition.{Row, Prefix, needs, rowsOf, grade, walk}
 use Rattle.partition.specs.Listing.{inOrder}
 use Rattle.partition.proofs.Rising.{Rising}
@@ -16,6 +16,20 @@ use Rattle.change.specs.Directory.{Sound}
 -- a row of the code, its place left aside
 abbrev pub keyed : List ℕ → Row
 keyed c = record { code = c; place = [] }
+
+-- what a row of the code needs
+abbrev pub weight : List ℕ → ℕ
+weight c = 12 + length c
+
+-- l has what f says of the code of each slot of the page g
+pub record Each (f : List ℕ → ℕ) (g l : List ℕ) : Type 0 where
+  pub long : count g < length l
+  pub at : (i : ℕ) → i < count g → getD l i 0 ≡ f (code g i)
+
+-- and behind them what it says of the code c
+pub record Told (f : List ℕ → ℕ) (g c l : List ℕ) : Type 0 where
+  pub rows : Each f g l
+  pub new : getD l (count g) 0 ≡ f c
 
 -- the buckets of rows at the prefix v of k bits and below it, in prefix order
 unfoldable pub below : (List ℕ → ℕ) → List Row → ℕ → ℕ → List Prefix

@@ -10,12 +10,13 @@ ghost use Rattle.store.specs.Pages.{S1024, page, dirDepth, asRow};
 ghost use Rattle.store.specs.Tables.{putAccepted, meaning};
 ghost use Rattle.store.proofs.Reading.{Naming};
 ghost use Rattle.change.specs.Put.{Puttable};
-ghost use Rattle.change.specs.Split.{Source, Writable, Wrote};
+ghost use Rattle.change.specs.Split.{Source, weight, Told, Writable, Wrote};
 use super::bucket::write_bucket;
 use super::directory::settle;
 use super::pages::free_pages;
 use super::pages::lowest_free;
 use super::weigh::count_below;
+use super::weigh::gather;
 use super::weigh::load;
 
 // The buckets at the prefix v of k bits and below it are written packed, the first to page at, each next to the lowest free page. The page that comes next.
@@ -25,29 +26,31 @@ fn write_below(
     i: usize,
     key: &[u8],
     place: &[u8],
+    hs: &[u32],
+    ns: &[u32],
     k: u32,
     v: u64,
     at: usize,
 ) -> usize
-    requires { ⌜ Source (now from) i (now key) (now place) × Writable fnv (record { code = now key; place = now place } ∷ map asRow (rows (now from))) k v (now s) at ⌝ }
+    requires { ⌜ Source (now from) i (now key) (now place) × Told fnv (now from) (now key) (now hs) × Told weight (now from) (now key) (now ns) × Writable fnv (record { code = now key; place = now place } ∷ map asRow (rows (now from))) k v (now s) at ⌝ }
     ensures { λ r. ⌜ Wrote fnv (record { code = now (key .entry); place = now (place .entry) } ∷ map asRow (rows (now (from .entry)))) k v (now (s .entry)) at (now (s .exit)) r ⌝ }
 {
-    let need = load(from, key, k, v);
+    let need = load(from, key, hs, ns, k, v);
     if need == 0 {
         return at;
     }
     if need <= 1016 {
         let a = at * 1024;
         let e = a + 1024;
-        write_bucket(&mut s[a..e], from, i, key, place, k, v);
+        write_bucket(&mut s[a..e], from, i, key, place, hs, k, v);
         let n = s.len() / 1024;
         return lowest_free(s, n);
     }
     if k == 8 {
         return at;
     }
-    let next = write_below(s, from, i, key, place, k + 1, 2 * v, at);
-    write_below(s, from, i, key, place, k + 1, 2 * v + 1, next)
+    let next = write_below(s, from, i, key, place, hs, ns, k + 1, 2 * v, at);
+    write_below(s, from, i, key, place, hs, ns, k + 1, 2 * v + 1, next)
 }
 
 // The new code, which belongs at slot i of page p, does not fit there: the page is split into the buckets of its rows and the new one.
@@ -59,15 +62,20 @@ pub fn split(s: &mut [u8], p: usize, i: usize, key: &[u8], place: &[u8]) -> stor
     let e = a + 1024;
     let mut from = [0u8; 1024];
     words::copy_at(&mut from, 0, &s[a..e]);
-    let v = partition::top_bits(hash::hash(key), 8);
-    if 1016 < load(&from, key, 8, v) {
+    let mut hs = [0u32; 80];
+    let mut ns = [0u32; 80];
+    gather(&from, key, &mut hs, &mut ns);
+    let x = hash::hash(key);
+    if 1016 < load(&from, key, &hs, &ns, 8, partition::top_bits(x, 8)) {
         return store::Answer::PrefixFull;
     }
     let n = s.len() / 1024;
-    if free_pages(s, n) + 1 < count_below(&from, key, 0, 0) {
+    let k = from[1] as u32;
+    let v = partition::top_bits(x, k);
+    if free_pages(s, n) + 1 < count_below(&from, key, &hs, &ns, k, v) {
         return store::Answer::PagesFull;
     }
-    write_below(s, &from, i, key, place, 0, 0, p);
+    write_below(s, &from, i, key, place, &hs, &ns, k, v, p);
     settle(s, n);
     store::Answer::New
 }

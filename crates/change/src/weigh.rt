@@ -1,57 +1,66 @@
-// A page's rows and a new row together: what those of a prefix need, and how many buckets they make.
+// A page's rows and a new row together: their hashes and needs, what those of a prefix need, and how many buckets they make.
 ghost use mathlib.Core.Path.{_≡_};
-ghost use mathlib.Core.List.{[], _∷_, map};
+ghost use mathlib.Core.List.{_∷_, map};
 ghost use Prim.Native.Nat.{_^_, _≤_, _<_};
+ghost use lib.Dec.{eqb};
 ghost use lib.ListN.{length};
 ghost use Rattle.hash.specs.Fnv.{fnv};
-ghost use Rattle.page.specs.Page.{Slotted, count, code, rows};
+ghost use Rattle.page.specs.Page.{Slotted, count, rows};
+ghost use Rattle.partition.specs.Bits.{top};
 ghost use Rattle.partition.specs.Partition.{needs, rowsOf};
 ghost use Rattle.store.specs.Pages.{asRow};
-ghost use Rattle.change.specs.Split.{keyed, below};
+ghost use Rattle.store.specs.Moves.{pick};
+ghost use Rattle.change.specs.Split.{weight, keyed, below, Told};
 
-// The need of a row of the code, 0 where its hash does not begin with the k bits of v.
-fn need_of(key: &[u8], k: u32, v: u64) -> usize
-    requires { ⌜ (k ≤ 8) × (length (now key) ≤ 64) ⌝ }
-    ensures { λ r. ⌜ (r ≡ needs (rowsOf fnv (keyed (now (key .entry)) ∷ []) k v)) × (r ≤ 76) ⌝ }
+// The hashes and needs of the page's rows, slot by slot, and then of a row of the code.
+pub fn gather(page: &[u8], key: &[u8], hs: &mut [u32], ns: &mut [u32])
+    requires { ⌜ Slotted (now page) × (length (now key) ≤ 64) × (count (now page) < 80) × (length (now hs) ≡ 80) × (length (now ns) ≡ 80) ⌝ }
+    ensures { λ _. ⌜ Told fnv (now (page .entry)) (now (key .entry)) (now (hs .exit)) × Told weight (now (page .entry)) (now (key .entry)) (now (ns .exit)) ⌝ }
 {
-    if partition::top_bits(hash::hash(key), k) != v {
-        return 0;
+    let n = words::get16(page, 2);
+    let mut i = 0;
+    while i < n {
+        let e = page::extent_of(page, i);
+        hs[i] = audit::hash_slot(page, i);
+        ns[i] = (4 + e.len) as u32;
+        i += 1;
     }
-    12 + key.len()
+    hs[n] = hash::hash(key);
+    ns[n] = (12 + key.len()) as u32;
 }
 
-// That of slot i's row.
-fn slot_need(page: &[u8], i: usize, k: u32, v: u64) -> usize
-    requires { ⌜ (k ≤ 8) × Slotted (now page) × (i < count (now page)) ⌝ }
-    ensures { λ r. ⌜ (r ≡ needs (rowsOf fnv (keyed (code (now (page .entry)) i) ∷ []) k v)) × (r ≤ 76) ⌝ }
+// The need w of a row of the hash x, 0 where the hash does not begin with the k bits of v.
+fn need_of(x: u32, w: u32, k: u32, v: u64) -> u32
+    requires { ⌜ k ≤ 8 ⌝ }
+    ensures { λ r. ⌜ (r ≡ pick (eqb (top k x) v) w 0) × (r ≤ w) ⌝ }
 {
-    let e = page::extent_of(page, i);
-    let a = e.off + 8;
-    let b = e.off + e.len;
-    need_of(&page[a..b], k, v)
+    if partition::top_bits(x, k) != v {
+        return 0;
+    }
+    w
 }
 
 // What the page's rows and a row of the code need whose hashes begin with the k bits of v.
-pub fn load(page: &[u8], key: &[u8], k: u32, v: u64) -> usize
-    requires { ⌜ (k ≤ 8) × Slotted (now page) × (length (now key) ≤ 64) ⌝ }
+pub fn load(page: &[u8], key: &[u8], hs: &[u32], ns: &[u32], k: u32, v: u64) -> u32
+    requires { ⌜ (k ≤ 8) × Slotted (now page) × (length (now key) ≤ 64) × Told fnv (now page) (now key) (now hs) × Told weight (now page) (now key) (now ns) ⌝ }
     ensures { λ r. ⌜ r ≡ needs (rowsOf fnv (keyed (now (key .entry)) ∷ map asRow (rows (now (page .entry)))) k v) ⌝ }
 {
     let n = words::get16(page, 2);
-    let mut sum = need_of(key, k, v);
+    let mut sum = need_of(hs[n], ns[n], k, v);
     let mut i = 0;
     while i < n {
-        sum += slot_need(page, i, k, v);
+        sum += need_of(hs[i], ns[i], k, v);
         i += 1;
     }
     sum
 }
 
 // The number of buckets at the prefix v of k bits and below it.
-pub fn count_below(page: &[u8], key: &[u8], k: u32, v: u64) -> usize
-    requires { ⌜ (k ≤ 8) × (v < 2 ^ k) × Slotted (now page) × (length (now key) ≤ 64) ⌝ }
+pub fn count_below(page: &[u8], key: &[u8], hs: &[u32], ns: &[u32], k: u32, v: u64) -> usize
+    requires { ⌜ (k ≤ 8) × (v < 2 ^ k) × Slotted (now page) × (length (now key) ≤ 64) × Told fnv (now page) (now key) (now hs) × Told weight (now page) (now key) (now ns) ⌝ }
     ensures { λ r. ⌜ r ≡ length (below fnv (keyed (now (key .entry)) ∷ map asRow (rows (now (page .entry)))) k v) ⌝ }
 {
-    let n = load(page, key, k, v);
+    let n = load(page, key, hs, ns, k, v);
     if n == 0 {
         return 0;
     }
@@ -61,7 +70,7 @@ pub fn count_below(page: &[u8], key: &[u8], k: u32, v: u64) -> usize
     if k == 8 {
         return 0;
     }
-    let left = count_below(page, key, k + 1, 2 * v);
-    let right = count_below(page, key, k + 1, 2 * v + 1);
+    let left = count_below(page, key, hs, ns, k + 1, 2 * v);
+    let right = count_below(page, key, hs, ns, k + 1, 2 * v + 1);
     left + right
 }

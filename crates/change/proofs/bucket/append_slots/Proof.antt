@@ -15,15 +15,15 @@ use Rattle.change.proofs.bucket.append_slots.Statement.{statement}
 use Rattle.change.proofs.bucket.append_slots.Tie as tie
 
 abbrev Inv-loop : tie.InvT-loop
-Inv-loop page₀ from a b k v i₀ page i = (a ≤ i) × (i ≤ b) × (length page ≡ length page₀) × Appended page₀ (rowsOf fnv (slots from a i) k v) page × Behind page (rowsOf fnv (slots from i b) k v)
+Inv-loop page₀ from hs a b k v i₀ page i = (a ≤ i) × (i ≤ b) × (length page ≡ length page₀) × Appended page₀ (rowsOf fnv (slots from a i) k v) page × Behind page (rowsOf fnv (slots from i b) k v)
 
 abbrev μ-loop : tie.MeasureT-loop
-μ-loop page₀ from a b k v i₀ page i = b - i
+μ-loop page₀ from hs a b k v i₀ page i = b - i
 
 -- the row of slot i, and those that are left then
 module _ (l : tie.At-loop Inv-loop μ-loop) where
   abbrev z : tie.Start Inv-loop μ-loop
-  z = l .before .before .before
+  z = l .before .before .before .before
 
   abbrev from : List ℕ
   from = now (z .args .from)
@@ -35,7 +35,7 @@ module _ (l : tie.At-loop Inv-loop μ-loop) where
   rest = rowsOf fnv (slots from (l .loop .i + 1) (z .args .b)) (z .args .k) (z .args .v)
 
   there : l .loop .i < z .args .b → l .loop .i < count from
-  there t = omega (arith, z .pre .2)
+  there t = omega (arith, z .pre .3)
 
   apart : l .loop .i < z .args .b → Behind (l .loop .page) (one ++ rest)
   apart t = subst (Behind (l .loop .page)) (slots-apart from fnv (l .loop .i) (z .args .b) (z .args .k) (z .args .v) t (there t)) (l .loop .inv .4)
@@ -43,16 +43,27 @@ module _ (l : tie.At-loop Inv-loop μ-loop) where
 loop-holds : tie.Need-loop-holds Inv-loop μ-loop
 unfolding rowsOf
 loop-holds c =
-    let z = c .before .before in
-    let B = z .pre .4 in
+    let z = c .before .before .before in
+    let B = z .pre .5 in
     let p = now (z .args .page) in
-    (omega arith, z .pre .1, refl, subst (λ l. Appended p (rowsOf fnv l (z .args .k) (z .args .v)) p) (sym (slots-none (now (z .args .from)) (z .args .a))) (appended-none p (B .page) (B .packed)), B)
+    (omega arith, z .pre .2, refl, subst (λ l. Appended p (rowsOf fnv l (z .args .k) (z .args .v)) p) (sym (slots-none (now (z .args .from)) (z .args .a))) (appended-none p (B .page) (B .packed)), B)
+
+mul-append-slot : tie.Need-mul-append-slot Inv-loop μ-loop
+mul-append-slot c =
+    let l = c .before .before in
+    let S = z l .pre .0 in
+    omega (arith, there l (c .before .loop-test .taken), S .room, S .most)
+
+shared-slice-read-append-slot : tie.Need-shared-slice-read-append-slot Inv-loop μ-loop
+shared-slice-read-append-slot c =
+    let l = c .before .before .before in
+    omega (arith, there l (c .before .before .loop-test .taken), z l .pre .1 .long)
 
 append-slot-requires : tie.Need-append-slot-requires Inv-loop μ-loop
 append-slot-requires c κs =
-    let l = c .before .before in
-    let t = c .before .loop-test .taken in
-    (z l .pre .0, there l t, z l .pre .3, behind-left (l .loop .page) (one l) (rest l) (apart l t))
+    let l = c .before .before .before in
+    let t = c .before .before .loop-test .taken in
+    (z l .pre .0, there l t, z l .pre .1 .at (l .loop .i) (there l t), z l .pre .4, behind-left (l .loop .page) (one l) (rest l) (apart l t))
 
 add-i : tie.Need-add-i Inv-loop μ-loop
 add-i c = omega arith
@@ -62,8 +73,8 @@ loop-less c = omega arith
 
 loop-again : tie.Need-loop-again Inv-loop μ-loop
 loop-again c =
-    let l = c .before .before .before .before .before in
-    let t = c .before .before .before .before .loop-test .taken in
+    let l = c .before .before .before .before .before .before in
+    let t = c .before .before .before .before .before .loop-test .taken in
     let w = c .before .before .append-slot in
     let q = w .last .0 in
     let p = now (z l .args .page) in
@@ -93,6 +104,8 @@ append-slots-spec =
     Inv-loop
     μ-loop
     loop-holds
+    mul-append-slot
+    shared-slice-read-append-slot
     append-slot-requires
     add-i
     loop-less

@@ -4,11 +4,12 @@ use Rattle.change.specs.Split.{slots, Behind, Appended}
 use Rattle.partition.specs.Partition.{Row, rowsOf}
 use Rattle.page.specs.Page.{count}
 use Rattle.hash.specs.Fnv.{fnv}
+use lib.ListN.{getD}
 use denote.Ref.{now}
 use native.Mathlib.Omega.{arith}
 use Prim.Native.Nat.{ℕ}
 use mathlib.Core.List.{List, [], _∷_, _++_}
-use mathlib.Core.Path.{sym, subst}
+use mathlib.Core.Path.{sym, ap, subst, _∙_}
 use borrow.Author.Needs.{needs}
 use Rattle.change.proofs.bucket.write_bucket.Statement.{statement}
 use Rattle.change.proofs.bucket.write_bucket.Tie as tie
@@ -16,7 +17,7 @@ use Rattle.change.proofs.bucket.write_bucket.Tie as tie
 -- the empty page, and the rows that go behind one another
 module _ (b : tie.After-new-page) where
   abbrev z : tie.Start
-  z = b .before .before .before .before .before .before .before
+  z = b .before .before .before .before .before .before .before .before
 
   abbrev from : List ℕ
   from = now (z .args .from)
@@ -35,7 +36,7 @@ module _ (b : tie.After-new-page) where
 
   behind-all : Behind x (first ++ (mid ++ last))
   behind-all =
-      fresh-behind fnv from (z .args .i) (now (z .args .key)) (now (z .args .place)) (z .pre .0) (z .args .k) (z .args .v) (now (z .args .page)) x (b .new-page .ensures) (z .pre .1) (z .pre .4)
+      fresh-behind fnv from (z .args .i) (now (z .args .key)) (now (z .args .place)) (z .pre .0) (z .args .k) (z .args .v) (now (z .args .page)) x (b .new-page .ensures) (z .pre .2) (z .pre .5)
 
 -- with the rows before the new one
 module _ (d : tie.After-append-slots) where
@@ -51,7 +52,7 @@ module _ (d : tie.After-append-slots) where
 -- and with the new one
 module _ (f : tie.After-append-if) where
   abbrev d2 : tie.After-append-slots
-  d2 = f .before .before .before .before
+  d2 = f .before .before .before .before .before
 
   abbrev y2 : List ℕ
   y2 = f .append-if .last .0
@@ -72,25 +73,39 @@ append-slots-requires : tie.Need-append-slots-requires
 append-slots-requires c κs =
     let b = c .before .before .before in
     let p = z b .pre in
-    (p .0 .page, omega arith, p .0 .belongs .within, p .2, behind-left (x b) (first b) (mid b ++ last b) (behind-all b))
+    (p .0 .page, p .1 .rows, omega arith, p .0 .belongs .within, p .3, behind-left (x b) (first b) (mid b ++ last b) (behind-all b))
+
+-- the new row's hash
+mul-append-if : tie.Need-mul-append-if
+mul-append-if c =
+    let b = b1 (c .before .before .before) in
+    let S = z b .pre .0 .page in
+    omega (arith, b .before .before .get16 .ensures .0, S .room, S .most)
+
+shared-slice-read-append-if : tie.Need-shared-slice-read-append-if
+shared-slice-read-append-if c =
+    let b = b1 (c .before .before .before .before) in
+    omega (arith, b .before .before .get16 .ensures .0, z b .pre .1 .rows .long)
 
 append-if-requires : tie.Need-append-if-requires
 append-if-requires c κs =
-    let d = c .before .before .before in
+    let d = c .before .before .before .before in
     let b = d .before .before .before .before in
     let p = z b .pre in
-    (behind-left (y1 d) (mid b) (last b) (behind-mid d), p .2, p .0 .natural, p .0 .some, p .0 .short)
+    let x = ap (λ n. getD (now (z b .args .hs)) n 0) (b .before .before .get16 .ensures .0) ∙ p .1 .new in
+    (behind-left (y1 d) (mid b) (last b) (behind-mid d), x, p .3, p .0 .natural, p .0 .some, p .0 .short)
 
 append-slots-requires-2 : tie.Need-append-slots-requires-2
 append-slots-requires-2 c κs =
     let f = c .before .before .before in
-    let b = f .before .before .before .before .before .before .before .before in
+    let b = b1 (d2 f) in
     let p = z b .pre in
     let e = b .before .before .get16 .ensures .0 in (
       p .0 .page,
+      p .1 .rows,
       omega (arith, e, p .0 .belongs .within),
       omega (arith, e),
-      p .2,
+      p .3,
       subst (λ n. Behind (y2 f) (rowsOf fnv (slots (from b) (z b .args .i) n) (z b .args .k) (z b .args .v))) (sym e) (behind-last f),
     )
 
@@ -101,12 +116,12 @@ returns : tie.Need-returns
 returns c =
     let w = c .before .before .append-slots2 in
     let f = c .before .before .before .before .before .before in
-    let d = f .before .before .before .before in
+    let d = d2 f in
     let b = d .before .before .before .before in
     let p = z b .pre in
     let y = w .last .0 in
     let C : Appended (y2 f) (last b) y = subst (λ n. Appended (y2 f) (rowsOf fnv (slots (from b) (z b .args .i) n) (z b .args .k) (z b .args .v)) y) (b .before .before .get16 .ensures .0) (w .ensures) in
-    bucketed fnv (from b) (z b .args .i) (now (z b .args .key)) (now (z b .args .place)) (p .0) (z b .args .k) (z b .args .v) (now (z b .args .page)) (x b) (b .new-page .ensures) (p .1) (p .4) (p .3) y
+    bucketed fnv (from b) (z b .args .i) (now (z b .args .key)) (now (z b .args .place)) (p .0) (z b .args .k) (z b .args .v) (now (z b .args .page)) (x b) (b .new-page .ensures) (p .2) (p .5) (p .4) y
     (appended-then (x b) (first b) (y1 d) (d .append-slots .ensures) (mid b ++ last b) y (appended-then (y1 d) (mid b) (y2 f) (f .append-if .ensures) (last b) y C))
 
 pub write-bucket-spec : {M : Type 1} → statement M
@@ -117,6 +132,8 @@ write-bucket-spec =
     cast-new-page
     new-page-requires
     append-slots-requires
+    mul-append-if
+    shared-slice-read-append-if
     append-if-requires
     append-slots-requires-2
     same-length

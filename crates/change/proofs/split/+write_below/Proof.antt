@@ -29,16 +29,16 @@ use Rattle.change.proofs.weigh.load.Reads as load-reads
 use Rattle.change.proofs.split.+write_below.{statement}
 use Rattle.change.proofs.split.+write_below.Tie.{close}
 
-abbrev μ-write-below : Measures 4 write-below-kinds.ps ℕ
-μ-write-below κs a = 8 - a .1 .1 .1 .1 .1 .0
+abbrev μ-write-below : Measures 6 write-below-kinds.ps ℕ
+μ-write-below κs a = 8 - a .1 .1 .1 .1 .1 .1 .1 .0
 
-abbrev write-below-at : ℕ → In 4 write-below-kinds.ps
+abbrev write-below-at : ℕ → In 6 write-below-kinds.ps
 write-below-at t =
-    and 4 write-below-kinds.ps (is 4 write-below-kinds.ps μ-write-below t) write-below.Pre
+    and 6 write-below-kinds.ps (is 6 write-below-kinds.ps μ-write-below t) write-below.Pre
 
-abbrev write-below-below : ℕ → In 4 write-below-kinds.ps
+abbrev write-below-below : ℕ → In 6 write-below-kinds.ps
 write-below-below t =
-    and 4 write-below-kinds.ps (falls 4 write-below-kinds.ps _<_ μ-write-below t) write-below.Pre
+    and 6 write-below-kinds.ps (falls 6 write-below-kinds.ps _<_ μ-write-below t) write-below.Pre
 
 -- what is known of the functions called
 abbrev told : ℕ → write-below-lts.Claims
@@ -59,31 +59,31 @@ Loaded t = write-below-lts.After-load (told t) (write-below-at t) write-below.Po
 -- what the rows of the prefix need
 module _ (t : ℕ) (b : Loaded t) where
   abbrev s : List ℕ
-  s = now (b .before .before .before .before .before .args .s)
+  s = now (b .before .before .before .before .before .before .before .args .s)
 
   abbrev from : List ℕ
-  from = now (b .before .before .before .before .before .args .from)
+  from = now (b .before .before .before .before .before .before .before .args .from)
 
   abbrev key : List ℕ
-  key = now (b .before .before .before .before .before .args .key)
+  key = now (b .before .before .before .before .before .before .before .args .key)
 
   abbrev k : ℕ
-  k = b .before .before .before .before .before .args .k
+  k = b .before .before .before .before .before .before .before .args .k
 
   abbrev v : ℕ
-  v = b .before .before .before .before .before .args .v
+  v = b .before .before .before .before .before .before .before .args .v
 
   abbrev at : ℕ
-  at = b .before .before .before .before .before .args .at
+  at = b .before .before .before .before .before .before .before .args .at
 
   abbrev rs : List Row
-  rs = record { code = key; place = now (b .before .before .before .before .before .args .place) } ∷ map asRow (rows from)
+  rs = record { code = key; place = now (b .before .before .before .before .before .before .before .args .place) } ∷ map asRow (rows from)
 
   abbrev W : Writable fnv rs k v s at
-  W = b .before .before .before .before .before .pre .1 .1
+  W = b .before .before .before .before .before .before .before .pre .1 .3
 
   weight : b .load .result ≡ needs (rowsOf fnv rs k v)
-  weight = b .load .ensures ∙ load-any fnv (keyed key) (record { code = key; place = now (b .before .before .before .before .before .args .place) }) refl (map asRow (rows from)) (map asRow (rows from)) k v refl
+  weight = b .load .ensures ∙ load-any fnv (keyed key) (record { code = key; place = now (b .before .before .before .before .before .before .before .args .place) }) refl (map asRow (rows from)) (map asRow (rows from)) k v refl
 
   small : 2 ^ k ≤ 256
   small = pow-mono (W .deep)
@@ -108,7 +108,7 @@ module _ (t : ℕ) (b : Loaded t) where
     over = omega (arith, weight)
 
 write-below-load-requires : (t : ℕ) → write-below-lts.Need-load-requires (told t) (write-below-at t) write-below.Post
-write-below-load-requires t c κs = let z = c .before .before .before .before in (z .pre .1 .1 .deep, z .pre .1 .0 .page, z .pre .1 .0 .short)
+write-below-load-requires t c κs = let z = c .before .before .before .before .before .before in (z .pre .1 .3 .deep, z .pre .1 .0 .page, z .pre .1 .0 .short, z .pre .1 .1, z .pre .1 .2)
 
 write-below-returns : (t : ℕ) → write-below-lts.Need-returns (told t) (write-below-at t) write-below.Post
 write-below-returns t c = let b = c .before in bare-wrote fnv (rs t b) (k t b) (v t b) (s t b) (at t b) (W t b) (sym (weight t b) ∙ c .if1 .taken)
@@ -133,7 +133,7 @@ write-below-write-bucket-requires t c κs =
     let b = c .before .before .before in
     let n = c .before .before .if1 .left in
     let l = c .before .if2 .taken in
-    (b .before .before .before .before .before .pre .1 .0, ap length (lent (s t b) (at t b)) ∙ page-long S1024 (s t b) (at t b) (there t b n l), W t b .deep, pos t b n l, most t b n l)
+    (b .before .before .before .before .before .before .before .pre .1 .0, b .before .before .before .before .before .before .before .pre .1 .1, ap length (lent (s t b) (at t b)) ∙ page-long S1024 (s t b) (at t b) (there t b n l), W t b .deep, pos t b n l, most t b n l)
 
 write-below-lowest-free-requires : (t : ℕ) → write-below-lts.Need-lowest-free-requires (told t) (write-below-at t) write-below.Post
 write-below-lowest-free-requires t c κs =
@@ -172,10 +172,10 @@ write-below-mul-write-below t c = let b = c .before .before .before .before in o
 write-below-write-below-requires : (t : ℕ) → write-below-lts.Need-write-below-requires (told t) (write-below-at t) write-below.Post
 write-below-write-below-requires t c κs =
     let b = c .before .before .before .before in
-    let z = b .before .before .before .before .before in
+    let z = b .before .before .before .before .before .before .before in
     let o = c .before .before .if2 .left in
     let n = c .before .if3 .left in
-    (omega (arith, z .pre .0, shallow t b o n), (z .pre .1 .0, half-ready fnv (rs t b) (k t b) (v t b) (s t b) (at t b) (W t b) (shallow t b o n) (over t b o n)))
+    (omega (arith, z .pre .0, shallow t b o n), (z .pre .1 .0, z .pre .1 .1, z .pre .1 .2, half-ready fnv (rs t b) (k t b) (v t b) (s t b) (at t b) (W t b) (shallow t b o n) (over t b o n)))
 
 write-below-add-write-below-2 : (t : ℕ) → write-below-lts.Need-add-write-below-2 (told t) (write-below-at t) write-below.Post
 write-below-add-write-below-2 t c = let b = c .before .before .before .before .before .before .before .before in omega (arith, W t b .deep)
@@ -190,12 +190,12 @@ write-below-write-below-requires-2 : (t : ℕ) → write-below-lts.Need-write-be
 write-below-write-below-requires-2 t c κs =
     let d = c .before .before .before .before .before in
     let b = d .before .before .before in
-    let z = b .before .before .before .before .before in
+    let z = b .before .before .before .before .before .before .before in
     let o = d .before .if2 .left in
     let n = d .if3 .left in
     let w = c .before .before .before .write-below in (
       omega (arith, z .pre .0, shallow t b o n),
-      (z .pre .1 .0, other-ready fnv (rs t b) (k t b) (v t b) (s t b) (at t b) (W t b) (shallow t b o n) (over t b o n) (w .last .0) (w .result) (w .ensures)),
+      (z .pre .1 .0, z .pre .1 .1, z .pre .1 .2, other-ready fnv (rs t b) (k t b) (v t b) (s t b) (at t b) (W t b) (shallow t b o n) (over t b o n) (w .last .0) (w .result) (w .ensures)),
     )
 
 write-below-same-length-2 : (t : ℕ) → write-below-lts.Need-same-length-2 (told t) (write-below-at t) write-below.Post

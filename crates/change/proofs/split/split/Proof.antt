@@ -1,5 +1,6 @@
 -- `change::split` meets its contract: refusals 6 and 7, else the new buckets, then the directory. Assumes nothing.
-use Rattle.change.proofs.Heavy.{heavy-six, heavy-seven, source, writable, heavy-new}
+use Rattle.change.proofs.Heavy.{shallow, heavy-six, heavy-seven, source, writable, heavy-new}
+use Rattle.change.proofs.Weighs.{few}
 use Rattle.change.proofs.Settles.{settling}
 use Rattle.change.proofs.OnePage.{lent}
 use Rattle.change.specs.Split.{keyed, below, Source, Writable, Wrote}
@@ -7,14 +8,15 @@ use Rattle.store.proofs.Rooms.{frees}
 use Rattle.store.proofs.Unique.{page-long}
 use Rattle.store.specs.Pages.{S1024, page, contents, asRow}
 use Rattle.partition.specs.Partition.{Row, needs, rowsOf}
+use Rattle.partition.proofs.Bits.{top-lt}
 use Rattle.partition.specs.Bits.{top}
-use Rattle.page.specs.Page.{Slotted, rows}
+use Rattle.page.specs.Page.{Slotted, depth, rows}
 use Rattle.words.proofs.Bytes.{copied-whole}
 use Rattle.hash.specs.Fnv.{fnv, fnv-lt}
 use denote.Ref.{now}
 use lib.ListN.{length}
 use native.Mathlib.Omega.{arith}
-use Prim.Native.Nat.{ℕ, _+_, _≤_}
+use Prim.Native.Nat.{ℕ, _+_, _^_, _≤_, _<_}
 use mathlib.Core.List.{List, _∷_, map}
 use mathlib.Core.Path.{_≡_, sym, ap, subst, _∙_}
 use borrow.Author.Needs as Needs
@@ -44,38 +46,71 @@ module _ (b : tie.After-copy-at) where
   copied : from ≡ page S1024 s p
   copied = copied-whole (b .copy-at .ensures) (sym (ap length (lent s p) ∙ page-long S1024 s p (z .pre .1 .to))) ∙ lent s p
 
+  long : length from ≡ 1024
+  long = ap length copied ∙ page-long S1024 s p (z .pre .1 .to)
+
+  slotted : Slotted from
+  slotted = subst Slotted (sym copied) (z .pre .1 .bytes .rules .rules)
+
+  low : depth from ≤ 8
+  low = let q = z .pre in subst (λ g. depth g ≤ 8) (sym copied) (shallow fnv fnv-lt s key place (q .0) p (q .1) (z .args .i) (q .2) (q .3))
+
   -- the page's rows and the code
   abbrev all : List Row
   all = keyed key ∷ map asRow (rows (page S1024 s p))
 
+-- what is told of them
+module _ (g : tie.After-gather) where
+  abbrev b0 : tie.After-copy-at
+  b0 = g .before .before .before .before .before
+
 -- what those that share the code's first 8 bits need
 module _ (e : tie.After-load) where
+  abbrev g1 : tie.After-gather
+  g1 = e .before .before .before .before .before .before .before .before
+
   abbrev b1 : tie.After-copy-at
-  b1 = e .before .before .before .before .before
+  b1 = b0 g1
 
   weight : e .load .result ≡ needs (rowsOf fnv (all b1) 8 (top 8 (fnv (key b1))))
   weight =
-      let v = e .before .before .top-bits .ensures ∙ ap (top 8) (e .before .before .before .hash .ensures) in
+      let v = e .before .top-bits .ensures ∙ ap (top 8) (e .before .before .before .before .before .hash .ensures) in
       e .load .ensures ∙ (λ x. needs (rowsOf fnv (keyed (key b1) ∷ map asRow (rows (copied b1 x))) 8 (v x)))
+
+-- the page's bits
+module _ (t : tie.After-top-bits2) where
+  abbrev g2 : tie.After-gather
+  g2 = g1 (t .before .before)
+
+  abbrev b2 : tie.After-copy-at
+  b2 = b0 g2
+
+  prefix : t .top-bits2 .result ≡ top (depth (from b2)) (fnv (key b2))
+  prefix = t .top-bits2 .ensures ∙ ap (top (depth (from b2))) (t .before .before .before .before .before .before .before .hash .ensures)
 
 -- how many buckets they make
 module _ (d : tie.After-count-below) where
-  abbrev b2 : tie.After-copy-at
-  b2 = d .before .before .before .before .before .before .before .before .before .before
+  abbrev t3 : tie.After-top-bits2
+  t3 = d .before .before .before .before .before .before
 
-  number : d .count-below .result ≡ length (below fnv (all b2) 0 0)
-  number = d .count-below .ensures ∙ ap (λ g. length (below fnv (keyed (key b2) ∷ map asRow (rows g)) 0 0)) (copied b2)
+  abbrev b3 : tie.After-copy-at
+  b3 = b2 t3
 
-  fine : needs (rowsOf fnv (all b2) 8 (top 8 (fnv (key b2)))) ≤ 1016
-  fine = let l = d .before .before .before .before in omega (arith, weight (l .before), l .if1 .left)
+  number : d .count-below .result ≡ length (below fnv (all b3) (depth (page S1024 (s b3) (p b3))) (top (depth (page S1024 (s b3) (p b3))) (fnv (key b3))))
+  number =
+      d .count-below .ensures ∙ ap (λ v. length (below fnv (keyed (key b3) ∷ map asRow (rows (from b3))) (depth (from b3)) v)) (prefix t3)
+      ∙ ap (λ g. length (below fnv (keyed (key b3) ∷ map asRow (rows g)) (depth g) (top (depth g) (fnv (key b3))))) (copied b3)
+
+  fine : needs (rowsOf fnv (all b3) 8 (top 8 (fnv (key b3)))) ≤ 1016
+  fine = let l = t3 .before in omega (arith, weight (l .before), l .if1 .left)
 
 -- and that they have room
 module _ (w : tie.Else2) where
-  abbrev b3 : tie.After-copy-at
-  b3 = w .before .before .before .before .before .before .before .before .before .before .before
+  abbrev b4 : tie.After-copy-at
+  b4 = b3 (w .before)
 
-  room : length (below fnv (all b3) 0 0) ≤ frees (contents S1024 (s b3)) + 1
-  room = omega (arith, number (w .before), w .before .before .before .free-pages .ensures .0, w .if2 .left)
+  room : length (below fnv (all b4) (depth (page S1024 (s b4) (p b4))) (top (depth (page S1024 (s b4) (p b4))) (fnv (key b4)))) ≤ frees (contents S1024 (s b4)) + 1
+  room = omega (arith, number (w .before), w .before .before .before .before .before .free-pages .ensures .0, w .if2 .left)
 
 mul-a : tie.Need-mul-a
 mul-a c = search Needs.needs
@@ -98,19 +133,41 @@ part-copy-at-end c = search Needs.needs
 copy-at-requires : tie.Need-copy-at-requires
 copy-at-requires c κs = search Needs.needs
 
+slice-aggregate-gather : tie.Need-slice-aggregate-gather
+slice-aggregate-gather c = search Needs.needs
+
+slice-aggregate-gather-2 : tie.Need-slice-aggregate-gather-2
+slice-aggregate-gather-2 c = search Needs.needs
+
+slice-aggregate-gather-3 : tie.Need-slice-aggregate-gather-3
+slice-aggregate-gather-3 c = search Needs.needs
+
+gather-requires : tie.Need-gather-requires
+gather-requires c κs =
+    let b = c .before .before .before .before in
+    let S = slotted b in
+    (S, z b .pre .0 .short, omega (arith, few (from b) S, long b), search Needs.needs, search Needs.needs)
+
 hash-requires : tie.Need-hash-requires
 hash-requires c κs = search Needs.needs
-
-top-bits-requires : tie.Need-top-bits-requires
-top-bits-requires c κs = search Needs.needs
 
 slice-aggregate-load : tie.Need-slice-aggregate-load
 slice-aggregate-load c = search Needs.needs
 
+slice-aggregate-load-2 : tie.Need-slice-aggregate-load-2
+slice-aggregate-load-2 c = search Needs.needs
+
+slice-aggregate-load-3 : tie.Need-slice-aggregate-load-3
+slice-aggregate-load-3 c = search Needs.needs
+
+top-bits-requires : tie.Need-top-bits-requires
+top-bits-requires c κs = search Needs.needs
+
 load-requires : tie.Need-load-requires
 load-requires c κs =
-    let b = c .before .before .before .before in
-    (omega arith, subst Slotted (sym (copied b)) (z b .pre .1 .bytes .rules .rules), z b .pre .0 .short)
+    let g = c .before .before .before .before .before .before .before in
+    let b = b0 g in
+    (omega arith, slotted b, z b .pre .0 .short, g .gather .ensures .0, g .gather .ensures .1)
 
 same-length : tie.Need-same-length
 same-length c = search Needs.needs
@@ -121,21 +178,40 @@ returns c =
     let q = z b .pre in
     heavy-six fnv fnv-lt (s b) (key b) (place b) (q .0) (p b) (q .1) (z b .args .i) (q .2) (q .3) (omega (arith, weight (c .before), c .if1 .taken))
 
+array-read-k : tie.Need-array-read-k
+array-read-k c = search Needs.needs
+
+cast-k : tie.Need-cast-k
+cast-k c = record { fits = omega (arith, low (b1 (c .before))) }
+
+top-bits-requires-2 : tie.Need-top-bits-requires-2
+top-bits-requires-2 c κs = omega (arith, low (b1 (c .before)))
+
 free-pages-requires : tie.Need-free-pages-requires
-free-pages-requires c κs = search Needs.needs
+free-pages-requires c κs =
+    let l = z (b1 (c .before .before .before)) .pre .0 .accepted .long in
+    (omega (arith, l .whole), omega (arith, l .least))
 
 add-if2 : tie.Need-add-if2
 add-if2 c =
-    let z = z (c .before .before .before .before .before .before .before .before) in
+    let z = z (b1 (c .before .before .before .before)) in
     omega (arith, c .free-pages .ensures .1, z .pre .0 .accepted .long .most)
 
 slice-aggregate-count-below : tie.Need-slice-aggregate-count-below
 slice-aggregate-count-below c = search Needs.needs
 
+slice-aggregate-count-below-2 : tie.Need-slice-aggregate-count-below-2
+slice-aggregate-count-below-2 c = search Needs.needs
+
+slice-aggregate-count-below-3 : tie.Need-slice-aggregate-count-below-3
+slice-aggregate-count-below-3 c = search Needs.needs
+
 count-below-requires : tie.Need-count-below-requires
 count-below-requires c κs =
-    let b = c .before .before .before .before .before .before .before .before .before in
-    (omega arith, omega arith, subst Slotted (sym (copied b)) (z b .pre .1 .bytes .rules .rules), z b .pre .0 .short)
+    let t = c .before .before .before .before .before in
+    let g = g2 t in
+    let b = b0 g in
+    (low b, subst (λ v. v < 2 ^ depth (from b)) (sym (prefix t)) (top-lt (fnv (key b)) (depth (from b)) (fnv-lt (key b))), slotted b, z b .pre .0 .short, g .gather .ensures .0, g .gather .ensures .1)
 
 same-length-2 : tie.Need-same-length-2
 same-length-2 c = search Needs.needs
@@ -143,28 +219,39 @@ same-length-2 c = search Needs.needs
 returns-2 : tie.Need-returns-2
 returns-2 c =
     let d = c .before in
-    let b = b2 d in
+    let b = b3 d in
     let q = z b .pre in
-    heavy-seven fnv fnv-lt (s b) (key b) (place b) (q .0) (p b) (q .1) (z b .args .i) (q .2) (q .3) (fine d) (omega (arith, number d, d .before .before .free-pages .ensures .0, c .if2 .taken))
+    heavy-seven fnv fnv-lt (s b) (key b) (place b) (q .0) (p b) (q .1) (z b .args .i) (q .2) (q .3) (fine d) (omega (arith, number d, d .before .before .before .before .free-pages .ensures .0, c .if2 .taken))
 
 slice-aggregate-write-below : tie.Need-slice-aggregate-write-below
 slice-aggregate-write-below c = search Needs.needs
 
+slice-aggregate-write-below-2 : tie.Need-slice-aggregate-write-below-2
+slice-aggregate-write-below-2 c = search Needs.needs
+
+slice-aggregate-write-below-3 : tie.Need-slice-aggregate-write-below-3
+slice-aggregate-write-below-3 c = search Needs.needs
+
 write-below-requires : tie.Need-write-below-requires
 write-below-requires c κs =
-    let w = c .before .before in
-    let b = b3 w in
+    let w = c .before .before .before .before in
+    let b = b4 w in
+    let t = t3 (w .before) in
+    let g = g2 t in
     let q = z b .pre in
     let f = fine (w .before) in (
       subst (λ g. Source g (z b .args .i) (key b) (place b)) (sym (copied b)) (source fnv fnv-lt (s b) (key b) (place b) (q .0) (p b) (q .1) (z b .args .i) (q .2) (q .3) f (room w)),
-      subst (λ g. Writable fnv (record { code = key b; place = place b } ∷ map asRow (rows g)) 0 0 (s b) (p b)) (sym (copied b))
-          (writable fnv fnv-lt (s b) (key b) (place b) (q .0) (p b) (q .1) (z b .args .i) (q .2) (q .3) f (room w)),
+      g .gather .ensures .0,
+      g .gather .ensures .1,
+      subst (λ v. Writable fnv (record { code = key b; place = place b } ∷ map asRow (rows (from b))) (depth (from b)) v (s b) (p b)) (sym (prefix t))
+          (subst (λ g. Writable fnv (record { code = key b; place = place b } ∷ map asRow (rows g)) (depth g) (top (depth g) (fnv (key b))) (s b) (p b)) (sym (copied b))
+          (writable fnv fnv-lt (s b) (key b) (place b) (q .0) (p b) (q .1) (z b .args .i) (q .2) (q .3) f (room w))),
     )
 
 settle-requires : tie.Need-settle-requires
 settle-requires c κs =
     let y = c .before .before .before in
-    let b = b3 (y .before .before .before) in
+    let b = b4 (y .before .before .before .before .before) in
     settling fnv fnv-lt (s b) (z b .pre .0 .accepted) (y .write-below .last .0) (y .write-below .ensures .pages)
 
 same-length-3 : tie.Need-same-length-3
@@ -173,12 +260,13 @@ same-length-3 c = search Needs.needs
 returns-3 : tie.Need-returns-3
 returns-3 c =
     let y = c .before .before .before .before .before .before in
-    let w = y .before .before .before in
-    let b = b3 w in
+    let w = y .before .before .before .before .before in
+    let b = b4 w in
     let q = z b .pre in
     let n = y .write-below in
     heavy-new fnv fnv-lt (s b) (key b) (place b) (q .0) (p b) (q .1) (z b .args .i) (q .2) (q .3) (fine (w .before)) (room w) (n .last .0) (n .result)
-    (subst (λ g. Wrote fnv (record { code = key b; place = place b } ∷ map asRow (rows g)) 0 0 (s b) (p b) (n .last .0) (n .result)) (copied b) (n .ensures))
+    (subst (λ g. Wrote fnv (record { code = key b; place = place b } ∷ map asRow (rows g)) (depth g) (top (depth g) (fnv (key b))) (s b) (p b) (n .last .0) (n .result)) (copied b)
+    (subst (λ v. Wrote fnv (record { code = key b; place = place b } ∷ map asRow (rows (from b))) (depth (from b)) v (s b) (p b) (n .last .0) (n .result)) (prefix (t3 (w .before))) (n .ensures)))
     (c .before .before .settle .last .0) (c .before .before .settle .ensures) (λ k. (c .slice-known3 .given k) .fits)
 
 pub split-spec : {M : Type 1} → statement M
@@ -192,19 +280,32 @@ split-spec =
     part-copy-at-start
     part-copy-at-end
     copy-at-requires
+    slice-aggregate-gather
+    slice-aggregate-gather-2
+    slice-aggregate-gather-3
+    gather-requires
     hash-requires
-    top-bits-requires
     slice-aggregate-load
+    slice-aggregate-load-2
+    slice-aggregate-load-3
+    top-bits-requires
     load-requires
     same-length
     returns
+    array-read-k
+    cast-k
+    top-bits-requires-2
     free-pages-requires
     add-if2
     slice-aggregate-count-below
+    slice-aggregate-count-below-2
+    slice-aggregate-count-below-3
     count-below-requires
     same-length-2
     returns-2
     slice-aggregate-write-below
+    slice-aggregate-write-below-2
+    slice-aggregate-write-below-3
     write-below-requires
     settle-requires
     same-length-3
