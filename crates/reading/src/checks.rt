@@ -6,7 +6,7 @@ ghost use Rattle.reading.specs.First.{Judged};
 use super::directory::entries;
 use super::directory::ranges;
 use super::head::page0_ok;
-use super::pages::first_unsound;
+use super::pages::pass_one;
 use super::parted::first_joinable;
 
 // The page at which the check stops, or the number of pages.
@@ -24,7 +24,7 @@ pub fn first_bad(s: &[u8]) -> usize
     if !ranges(&dir, n as u32, partition::two_to(d)) {
         return 1;
     }
-    let p = first_unsound(s, &dir, n, d);
+    let p = pass_one(s, &dir, n, d);
     if p < n {
         return p;
     }

@@ -47,7 +47,7 @@ ranged c = says-true {P = Ranges (dir (c .before)) (pages S1024 (store (c .befor
 
 -- past pass 1
 stands : (c : tie.Else3) → (q : ℕ) → 2 ≤ q → q < pages S1024 (store (c .before .before .before .before)) → Stands S1024 fnv (store (c .before .before .before .before)) q
-stands c = none-bad _ _ (c .before .first-unsound .result) (c .before .first-unsound .ensures) (c .if3 .left)
+stands c = none-bad _ _ (c .before .pass-one .result) (c .before .pass-one .ensures) (c .if3 .left)
 
 -- past pass 2
 parted : (c : tie.Else4) → (q : ℕ) → 2 ≤ q → q < pages S1024 (store (c .before .before .before .before .before .before)) → Parted S1024 fnv (store (c .before .before .before .before .before .before)) q
@@ -91,20 +91,20 @@ returns-2 c =
     bad-1 S1024 fnv (store x) (at x .before .before .before .pre) (zeroth (at x))
     (λ r. says-false {P = Ranges (dir x) (pages S1024 (store x)) (x .before .two-to .result)} (x .ranges .result) (not-true _ (c .if2 .taken)) (x .ranges .ensures) (of-1 x r))
 
-slice-aggregate-first-unsound : tie.Need-slice-aggregate-first-unsound
-slice-aggregate-first-unsound c = search needs
+slice-aggregate-pass-one : tie.Need-slice-aggregate-pass-one
+slice-aggregate-pass-one c = search needs
 
-first-unsound-requires : tie.Need-first-unsound-requires
-first-unsound-requires c κs =
+pass-one-requires : tie.Need-pass-one-requires
+pass-one-requires c κs =
     let x = c .before .before in
     let y = x .before .before .before .before .before .before .get32 in
-    begun (store x) (at x .before .before .before .pre) (zeroth (at x)) (dir x) (y .result) (y .ensures .0) (x .before .before .before .before .entries .ensures)
+    begun (store x) (at x .before .before .before .pre) (zeroth (at x)) (dir x) (y .result) (y .ensures .0) (x .before .before .before .before .entries .ensures) (ranged (c .before) .below)
     (λ i l. ranged (c .before) .beyond i (omega (arith, x .before .two-to .ensures)))
 
 returns-3 : tie.Need-returns-3
 returns-3 c =
     let x = c .before .before .before .before in
-    bad-up S1024 fnv (store x) (at x .before .before .before .pre) (zeroth (at x)) (to-1 x (ranged (c .before .before .before))) (c .before .first-unsound .result) (c .before .first-unsound .ensures) (c .if3 .taken)
+    bad-up S1024 fnv (store x) (at x .before .before .before .pre) (zeroth (at x)) (to-1 x (ranged (c .before .before .before))) (c .before .pass-one .result) (c .before .pass-one .ensures) (c .if3 .taken)
 
 first-joinable-requires : tie.Need-first-joinable-requires
 first-joinable-requires c κs =
@@ -158,8 +158,8 @@ first-bad-spec =
     two-to-requires
     ranges-requires
     returns-2
-    slice-aggregate-first-unsound
-    first-unsound-requires
+    slice-aggregate-pass-one
+    pass-one-requires
     returns-3
     first-joinable-requires
     returns-4

@@ -24,16 +24,16 @@ use Rattle.reading.proofs.pages.first_unsound.Statement.{statement}
 use Rattle.reading.proofs.pages.first_unsound.Tie as tie
 
 abbrev Inv-slots : tie.InvT-slots
-Inv-slots s dir n d tab p a e pg k first count i₀ i = (1 ≤ i) × (i ≤ count) × ((j : ℕ) → j < i → Like pg j)
+Inv-slots s dir counts n d tab p a e pg k first count i₀ i = (1 ≤ i) × (i ≤ count) × ((j : ℕ) → j < i → Like pg j)
 
 abbrev μ-slots : tie.MeasureT-slots
-μ-slots s dir n d tab p a e pg k first count i₀ i = count - i
+μ-slots s dir counts n d tab p a e pg k first count i₀ i = count - i
 
 abbrev Inv-pages : tie.InvT-pages
-Inv-pages s dir n d tab₀ p₀ tab p = (length tab ≡ 1024) × Zero tab × (2 ≤ p) × (p ≤ n) × ((q : ℕ) → q < p → 2 ≤ q → Stands S1024 fnv s q)
+Inv-pages s dir counts n d tab₀ p₀ tab p = (length tab ≡ 1024) × Zero tab × (2 ≤ p) × (p ≤ n) × ((q : ℕ) → q < p → 2 ≤ q → Stands S1024 fnv s q)
 
 abbrev μ-pages : tie.MeasureT-pages
-μ-pages s dir n d tab₀ p₀ tab p = n - p
+μ-pages s dir counts n d tab₀ p₀ tab p = n - p
 
 -- past the page's own rules
 abbrev Past : Type 0
@@ -43,10 +43,10 @@ Past = tie.Else4 Inv-slots μ-slots Inv-pages μ-pages
 abbrev pg-of : Past → List ℕ
 pg-of c =
     let p = c .before .before .before .before .before .before .before .before .pages .p in
-    take (p * 1024 + 1024 - p * 1024) (drop (p * 1024) (c .before .before .before .before .before .before .before .before .before .before .before .args .s .now))
+    take (p * 1024 + 1024 - p * 1024) (drop (p * 1024) (c .before .before .before .before .before .before .before .before .before .before .before .before .args .s .now))
 
-own : (c : Past) → Own (pg-of c) (c .before .before .before .before .before .before .before .before .before .before .before .args .d)
-own c = says-true {P = Own (pg-of c) (c .before .before .before .before .before .before .before .before .before .before .before .args .d)} (c .before .before .own-ok .result) (not-false _ (c .if4 .left)) (c .before .before .own-ok .ensures .0)
+own : (c : Past) → Own (pg-of c) (c .before .before .before .before .before .before .before .before .before .before .before .before .args .d)
+own c = says-true {P = Own (pg-of c) (c .before .before .before .before .before .before .before .before .before .before .before .before .args .d)} (c .before .before .own-ok .result) (not-false _ (c .if4 .left)) (c .before .before .own-ok .ensures .0)
 
 -- what the test of slot i says
 slot-said : (c : tie.After-shares Inv-slots μ-slots Inv-pages μ-pages) → let g = pg-of (c .before .before .before .before .before .before .before) in Says (c .shares .result) (Like g (c .before .before .before .slots .i))
@@ -57,16 +57,16 @@ slot-said c =
     (subst (λ x. Says (c .shares .result) (top k x ≡ top k (c .before .hash-slot2 .result))) (c .before .before .before .before .before .hash-slot .ensures) (c .shares .ensures))
 
 -- and what that of the entries says
-name-said : (c : tie.After-named Inv-slots μ-slots Inv-pages μ-pages) → let x = c .before .before .before .before .before .before in let a = x .before .before .before .before .before .before .before .before .before .before .before .args in
+name-said : (c : tie.After-named Inv-slots μ-slots Inv-pages μ-pages) → let x = c .before .before .before .before .before .before in let a = x .before .before .before .before .before .before .before .before .before .before .before .before .args in
     Says (c .named .result) (Named (a .dir .now) (a .d) (depth (pg-of x)) (prefixOf (pg-of x)) (x .before .before .before .before .before .before .before .before .pages .p))
 name-said c =
     let x = c .before .before .before .before .before .before in
-    let a = x .before .before .before .before .before .before .before .before .before .before .before .args in
+    let a = x .before .before .before .before .before .before .before .before .before .before .before .before .args in
     subst (λ y. Says (c .named .result) (Named (a .dir .now) (a .d) (depth (pg-of x)) (top (depth (pg-of x)) y) (x .before .before .before .before .before .before .before .before .pages .p)))
     (c .before .before .before .before .hash-slot .ensures) (c .named .ensures)
 
 pages-holds : tie.Need-pages-holds Inv-slots μ-slots Inv-pages μ-pages
-pages-holds c = (refl, zeros 1024, omega arith, omega (arith, c .before .before .pre .least), λ q l h. absurd (omega arith))
+pages-holds c = (refl, zeros 1024, omega arith, omega (arith, c .before .before .before .pre .0 .least), λ q l h. absurd (omega arith))
 
 mul-a : tie.Need-mul-a Inv-slots μ-slots Inv-pages μ-pages
 mul-a c = search needs
@@ -86,11 +86,8 @@ part-pg-end c = search needs
 shared-slice-read-if2 : tie.Need-shared-slice-read-if2 Inv-slots μ-slots Inv-pages μ-pages
 shared-slice-read-if2 c = search needs
 
-cast-free-ok : tie.Need-cast-free-ok Inv-slots μ-slots Inv-pages μ-pages
-cast-free-ok c = search needs
-
 free-ok-requires : tie.Need-free-ok-requires Inv-slots μ-slots Inv-pages μ-pages
-free-ok-requires c κs = search needs
+free-ok-requires c κs = let a = c .before .before .before .before .before .before .before .before in omega (arith, a .pre .0 .most, a .pre .1 .long)
 
 add-p : tie.Need-add-p Inv-slots μ-slots Inv-pages μ-pages
 add-p c = search needs
@@ -100,7 +97,7 @@ pages-less c = search needs
 
 pages-again : tie.Need-pages-again Inv-slots μ-slots Inv-pages μ-pages
 pages-again c =
-    let a = c .before .before .before .before .before .before .before .before .before in
+    let a = c .before .before .before .before .before .before .before .before .before .before in
     let l = c .before .before .before .before .before .before .pages in
     let s = a .args .s .now in
     let g = take (l .p * 1024 + 1024 - l .p * 1024) (drop (l .p * 1024) s) in (
@@ -109,8 +106,8 @@ pages-again c =
       omega arith,
       omega arith,
       below-more (λ q. 2 ≤ q → Stands S1024 fnv s q) _ (l .inv .4)
-          (λ _. free-stands s (a .args .dir .now) (a .args .n) (a .args .d) (l .p) (a .pre) g (page-lent S1024 s (l .p))
-          (says-true {P = Free g (a .args .dir .now) (l .p)} (c .before .free-ok .result) (not-false _ (c .if3 .left)) (c .before .free-ok .ensures))),
+          (λ _. free-stands s (a .args .dir .now) (a .args .counts .now) (a .args .n) (a .args .d) (l .p) (a .pre .0) (a .pre .1) (l .inv .2) (omega arith) g (page-lent S1024 s (l .p))
+          (says-true {P = Free g (a .args .counts .now) (l .p)} (c .before .free-ok .result) (not-false _ (c .if3 .left)) (c .before .free-ok .ensures))),
     )
 
 slice-aggregate-own-ok : tie.Need-slice-aggregate-own-ok Inv-slots μ-slots Inv-pages μ-pages
@@ -137,7 +134,7 @@ hash-slot-requires-2 c κs = (own (c .before .before .before .before .before) .r
 shares-requires : tie.Need-shares-requires Inv-slots μ-slots Inv-pages μ-pages
 shares-requires c κs =
     let x = c .before .before .before .before .before .before in
-    omega (arith, own x .deep, x .before .before .before .before .before .before .before .before .before .before .before .pre .deep)
+    omega (arith, own x .deep, x .before .before .before .before .before .before .before .before .before .before .before .before .pre .0 .deep)
 
 add-i : tie.Need-add-i Inv-slots μ-slots Inv-pages μ-pages
 add-i c = search needs
@@ -157,7 +154,7 @@ slots-again c =
 cast-named : tie.Need-cast-named Inv-slots μ-slots Inv-pages μ-pages
 cast-named c =
     let x = c .before .before .before .before .before in
-    record { fits = omega (arith, own x .deep, x .before .before .before .before .before .before .before .before .before .before .before .pre .deep) }
+    record { fits = omega (arith, own x .deep, x .before .before .before .before .before .before .before .before .before .before .before .before .pre .0 .deep) }
 
 cast-named-2 : tie.Need-cast-named-2 Inv-slots μ-slots Inv-pages μ-pages
 cast-named-2 c = search needs
@@ -165,8 +162,9 @@ cast-named-2 c = search needs
 named-requires : tie.Need-named-requires Inv-slots μ-slots Inv-pages μ-pages
 named-requires c κs =
     let x = c .before .before .before .before .before in
-    let b = x .before .before .before .before .before .before .before .before .before .before .before .pre in
-    (b .entries .long, b .deep, own x .deep, omega arith, b .beyond)
+    let a = x .before .before .before .before .before .before .before .before .before .before .before .before in
+    let b = a .pre .0 in
+    (b .entries .long, b .deep, own x .deep, omega arith, omega (arith, b .most), b .beyond, a .pre .1)
 
 add-p-2 : tie.Need-add-p-2 Inv-slots μ-slots Inv-pages μ-pages
 add-p-2 c = search needs
@@ -177,7 +175,7 @@ pages-less-2 c = search needs
 pages-again-2 : tie.Need-pages-again-2 Inv-slots μ-slots Inv-pages μ-pages
 pages-again-2 c =
     let x = c .before .before .before .before .before .before .before in
-    let a = x .before .before .before .before .before .before .before .before .before .before .before in
+    let a = x .before .before .before .before .before .before .before .before .before .before .before .before in
     let l = x .before .before .before .before .before .before .before .before .pages in
     let s = a .args .s .now in (
       x .before .before .own-ok .kept .1 .0 ∙ l .inv .0,
@@ -185,7 +183,7 @@ pages-again-2 c =
       omega arith,
       omega arith,
       below-more (λ q. 2 ≤ q → Stands S1024 fnv s q) _ (l .inv .4)
-          (λ _. used-stands s (a .args .dir .now) (a .args .n) (a .args .d) (l .p) (a .pre) (pg-of x) (page-lent S1024 s (l .p)) (own x)
+          (λ _. used-stands s (a .args .dir .now) (a .args .counts .now) (a .args .n) (a .args .d) (l .p) (a .pre .0) (a .pre .1) (l .inv .2) (omega arith) (pg-of x) (page-lent S1024 s (l .p)) (own x)
           (λ i m. c .before .before .before .slots .inv .2 i (omega (arith, c .before .before .slots-test .left, c .before .before .before .before .get16 .ensures .0)))
           (says-true {P = Named (a .args .dir .now) (a .args .d) (depth (pg-of x)) (prefixOf (pg-of x)) (l .p)} (c .before .named .result) (not-false _ (c .if6 .left)) (name-said (c .before)))),
     )
@@ -195,44 +193,44 @@ returns c = let l = c .before .pages in ends-fine _ _ (l .p) (l .inv .2) (l .inv
 
 returns-2 : tie.Need-returns-2 Inv-slots μ-slots Inv-pages μ-pages
 returns-2 c =
-    let a = c .before .before .before .before .before .before .before .before .before in
+    let a = c .before .before .before .before .before .before .before .before .before .before in
     let l = c .before .before .before .before .before .before .pages in
     let s = a .args .s .now in
     let g = take (l .p * 1024 + 1024 - l .p * 1024) (drop (l .p * 1024) s) in
     ends-bad _ _ (l .p) (l .inv .2) (l .inv .3) (l .inv .4)
-    (λ st. says-false {P = Free g (a .args .dir .now) (l .p)} (c .before .free-ok .result) (not-true _ (c .if3 .taken)) (c .before .free-ok .ensures)
-    (stands-free s (a .args .dir .now) (a .args .n) (a .args .d) (l .p) (a .pre) g (page-lent S1024 s (l .p)) (c .before .before .if2 .taken) st))
+    (λ st. says-false {P = Free g (a .args .counts .now) (l .p)} (c .before .free-ok .result) (not-true _ (c .if3 .taken)) (c .before .free-ok .ensures)
+    (stands-free s (a .args .dir .now) (a .args .counts .now) (a .args .n) (a .args .d) (l .p) (a .pre .0) (a .pre .1) (l .inv .2) (omega arith) g (page-lent S1024 s (l .p)) (c .before .before .if2 .taken) st))
 
 returns-3 : tie.Need-returns-3 Inv-slots μ-slots Inv-pages μ-pages
 returns-3 c =
-    let a = c .before .before .before .before .before .before .before .before .before .before .before in
+    let a = c .before .before .before .before .before .before .before .before .before .before .before .before in
     let l = c .before .before .before .before .before .before .before .before .pages in
     let s = a .args .s .now in
     let g = take (l .p * 1024 + 1024 - l .p * 1024) (drop (l .p * 1024) s) in
     ends-bad _ _ (l .p) (l .inv .2) (l .inv .3) (l .inv .4)
     (λ st. says-false {P = Own g (a .args .d)} (c .before .before .own-ok .result) (not-true _ (c .if4 .taken)) (c .before .before .own-ok .ensures .0)
-    (stands-own s (a .args .dir .now) (a .args .n) (a .args .d) (l .p) (a .pre) g (page-lent S1024 s (l .p)) (c .before .before .before .before .if2 .left) st))
+    (stands-own s (a .args .dir .now) (a .args .counts .now) (a .args .n) (a .args .d) (l .p) (a .pre .0) (a .pre .1) (l .inv .2) (omega arith) g (page-lent S1024 s (l .p)) (c .before .before .before .before .if2 .left) st))
 
 returns-4 : tie.Need-returns-4 Inv-slots μ-slots Inv-pages μ-pages
 returns-4 c =
     let x = c .before .before .before .before .before .before .before .before in
-    let a = x .before .before .before .before .before .before .before .before .before .before .before in
+    let a = x .before .before .before .before .before .before .before .before .before .before .before .before in
     let l = x .before .before .before .before .before .before .before .before .pages in
     let s = a .args .s .now in
     ends-bad _ _ (l .p) (l .inv .2) (l .inv .3) (l .inv .4)
     (λ st. says-false {P = Like (pg-of x) (c .before .before .before .before .slots .i)} (c .before .shares .result) (not-true _ (c .if5 .taken)) (slot-said (c .before))
-    (stands-like s (a .args .dir .now) (a .args .n) (a .args .d) (l .p) (a .pre) (pg-of x) (page-lent S1024 s (l .p)) (x .before .before .before .before .if2 .left) st (c .before .before .before .before .slots .i)
+    (stands-like s (a .args .dir .now) (a .args .counts .now) (a .args .n) (a .args .d) (l .p) (a .pre .0) (a .pre .1) (l .inv .2) (omega arith) (pg-of x) (page-lent S1024 s (l .p)) (x .before .before .before .before .if2 .left) st (c .before .before .before .before .slots .i)
     (omega (arith, c .before .before .before .before .before .get16 .ensures .0))))
 
 returns-5 : tie.Need-returns-5 Inv-slots μ-slots Inv-pages μ-pages
 returns-5 c =
     let x = c .before .before .before .before .before .before .before in
-    let a = x .before .before .before .before .before .before .before .before .before .before .before in
+    let a = x .before .before .before .before .before .before .before .before .before .before .before .before in
     let l = x .before .before .before .before .before .before .before .before .pages in
     let s = a .args .s .now in
     ends-bad _ _ (l .p) (l .inv .2) (l .inv .3) (l .inv .4)
     (λ st. says-false {P = Named (a .args .dir .now) (a .args .d) (depth (pg-of x)) (prefixOf (pg-of x)) (l .p)} (c .before .named .result) (not-true _ (c .if6 .taken)) (name-said (c .before))
-    (stands-named s (a .args .dir .now) (a .args .n) (a .args .d) (l .p) (a .pre) (pg-of x) (page-lent S1024 s (l .p)) (x .before .before .before .before .if2 .left) st))
+    (stands-named s (a .args .dir .now) (a .args .counts .now) (a .args .n) (a .args .d) (l .p) (a .pre .0) (a .pre .1) (l .inv .2) (omega arith) (pg-of x) (page-lent S1024 s (l .p)) (x .before .before .before .before .if2 .left) st))
 
 pub first-unsound-spec : {M : Type 1} → statement M
 first-unsound-spec =
@@ -249,7 +247,6 @@ first-unsound-spec =
     part-pg-start
     part-pg-end
     shared-slice-read-if2
-    cast-free-ok
     free-ok-requires
     add-p
     pages-less
