@@ -35,6 +35,7 @@ use Rattle.store.proofs.Views.{page-lent}
 use Rattle.reading.specs.Begun.{Standing}
 use Rattle.reading.specs.Heaps.{heap, below, Heaped}
 use Rattle.reading.specs.Digest.{Legible, LoadOf, Hashed, Celled, Digest, firstOf, hashAt, topAt, loadAt, loadOf}
+use Rattle.reading.proofs.Fills.{filled-more}
 use Rattle.reading.proofs.Heaps.{heaped-more, between, cells-below, heap-most, below-most}
 use Rattle.reading.proofs.Loads.{pick-none, load-shorter}
 
@@ -61,6 +62,18 @@ first-free g e = ap (λ b. pick b 0 (fnv (code g 0))) (eq-eqb (byte g 0) 0 e)
 
 pub first-used : (g : List ℕ) → (byte g 0 ≡ 0 → ⊥) → firstOf g ≡ fnv (code g 0)
 first-used g n = ap (λ b. pick b 0 (fnv (code g 0))) (ne-eqb (byte g 0) 0 n)
+
+-- a page's first hash is kept
+pub hashed-none : (s hashes : List ℕ) → length hashes ≡ 258 → Hashed s 2 hashes
+hashed-none s hashes e = record { long = e; each = λ p a b. absurd (omega arith) }
+
+pub hashed-more : (s : List ℕ) {p x : ℕ} {hashes : List ℕ} → Hashed s p hashes → 2 ≤ p → p < 258 → x ≡ firstOf (page S1024 s p) → Hashed s (p + 1) (set hashes p x)
+hashed-more s {hashes = hashes} H a b e =
+    let F = filled-more (λ k v. v ≡ firstOf (page S1024 s k)) {l = hashes} (record { long = H .long; start = a; each = H .each }) b e in
+    record { long = F .long; each = F .each }
+
+pub hashed-all : (s hashes : List ℕ) (n p : ℕ) → Hashed s p hashes → n ≤ p → Hashed s n hashes
+hashed-all s hashes n p H l = record { long = H .long; each = λ q a b. H .each q a (omega arith) }
 
 pub top-most : (g : List ℕ) → top 8 (firstOf g) < 256
 top-most g = top-lt (firstOf g) 8 (small (eqb (byte g 0) 0))

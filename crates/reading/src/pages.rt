@@ -10,6 +10,7 @@ ghost use Rattle.store.specs.Accepted.{Stands};
 ghost use Rattle.reading.specs.First.{FirstBad};
 ghost use Rattle.reading.specs.Directory.{Counted};
 ghost use Rattle.reading.specs.Begun.{Begun, Free, Own};
+ghost use Rattle.reading.specs.Digest.{Hashed};
 use super::directory::named;
 use super::directory::tally;
 
@@ -36,10 +37,18 @@ fn own_ok(pg: &[u8], tab: &mut [u8], d: u32) -> bool
     (pg[1] as u32) <= d
 }
 
-// The first page that does not stand, or n.
-fn first_unsound(s: &[u8], dir: &[u32], counts: &[u32], n: usize, d: u32) -> usize
-    requires { ⌜ Begun (now s) (now dir) n d × Counted (now dir) (2 ^ d) (now counts) ⌝ }
-    ensures { λ r. ⌜ FirstBad n (Stands S1024 fnv (now (s .entry))) r ⌝ }
+// The first page that does not stand, or n; and the first hash of each page before it.
+fn first_unsound(
+    s: &[u8],
+    dir: &[u32],
+    counts: &[u32],
+    n: usize,
+    d: u32,
+    hashes: &mut [u32],
+) -> usize
+    requires { ⌜ Begun (now s) (now dir) n d × Counted (now dir) (2 ^ d) (now counts) × (length (now hashes) ≡ 258) ⌝ }
+    ensures stops { λ r. ⌜ FirstBad n (Stands S1024 fnv (now (s .entry))) r ⌝ }
+    ensures hashed { λ r. ⌜ Hashed (now (s .entry)) r (now (hashes .exit)) ⌝ }
 {
     let mut tab = [0u8; 1024];
     let mut p = 2;
@@ -54,6 +63,7 @@ fn first_unsound(s: &[u8], dir: &[u32], counts: &[u32], n: usize, d: u32) -> usi
             if !free_ok(pg, counts, p) {
                 break 'pages p;
             }
+            hashes[p] = 0;
             p += 1;
             continue 'pages;
         }
@@ -73,16 +83,18 @@ fn first_unsound(s: &[u8], dir: &[u32], counts: &[u32], n: usize, d: u32) -> usi
         if !named(dir, counts, d, k as u32, first, p as u32) {
             break 'pages p;
         }
+        hashes[p] = first;
         p += 1;
     }
 }
 
 // The same, the entries that name each page counted once.
-pub fn pass_one(s: &[u8], dir: &[u32], n: usize, d: u32) -> usize
-    requires { ⌜ Begun (now s) (now dir) n d ⌝ }
-    ensures { λ r. ⌜ FirstBad n (Stands S1024 fnv (now (s .entry))) r ⌝ }
+pub fn pass_one(s: &[u8], dir: &[u32], n: usize, d: u32, hashes: &mut [u32]) -> usize
+    requires { ⌜ Begun (now s) (now dir) n d × (length (now hashes) ≡ 258) ⌝ }
+    ensures stops { λ r. ⌜ FirstBad n (Stands S1024 fnv (now (s .entry))) r ⌝ }
+    ensures hashed { λ r. ⌜ Hashed (now (s .entry)) r (now (hashes .exit)) ⌝ }
 {
     let mut counts = [0u32; 258];
     tally(dir, partition::two_to(d), &mut counts);
-    first_unsound(s, dir, &counts, n, d)
+    first_unsound(s, dir, &counts, n, d, hashes)
 }

@@ -11,18 +11,7 @@ ghost use Rattle.store.specs.Pages.{S1024, pages};
 ghost use Rattle.store.specs.Accepted.{Parted};
 ghost use Rattle.reading.specs.First.{FirstBad};
 ghost use Rattle.reading.specs.Begun.{Standing};
-ghost use Rattle.reading.specs.Digest.{Legible, LoadOf, Hashed, Celled, Digest, firstOf};
-
-// A bucket's first hash, 0 of a free page.
-fn first_hash(pg: &[u8]) -> u32
-    requires { ⌜ Legible (now pg) ⌝ }
-    ensures { λ r. ⌜ r ≡ firstOf (now (pg .entry)) ⌝ }
-{
-    if pg[0] == 0 {
-        return 0;
-    }
-    audit::hash_slot(pg, 0)
-}
+ghost use Rattle.reading.specs.Digest.{Legible, LoadOf, Hashed, Celled, Digest};
 
 // What a page's rows need.
 fn page_load(pg: &[u8]) -> u32
@@ -35,20 +24,17 @@ fn page_load(pg: &[u8]) -> u32
     (1016 - words::get16(pg, 6)) as u32
 }
 
-// Each page's first hash, and what the pages need together for each of its first 8 bits.
-fn digest(s: &[u8], n: usize, hashes: &mut [u32], cells: &mut [u32])
-    requires { ⌜ Standing (now s) n × (length (now hashes) ≡ 258) × (length (now cells) ≡ 257) × Zero (now cells) ⌝ }
-    ensures { λ _. ⌜ Hashed (now (s .entry)) n (now (hashes .exit)) × Celled (now (s .entry)) n (now (cells .exit)) ⌝ }
+// What the pages need together, for each 8 first bits of their first hash.
+fn digest(s: &[u8], n: usize, hashes: &[u32], cells: &mut [u32])
+    requires { ⌜ Standing (now s) n × Hashed (now s) n (now hashes) × (length (now cells) ≡ 257) × Zero (now cells) ⌝ }
+    ensures { λ _. ⌜ Celled (now (s .entry)) n (now (cells .exit)) ⌝ }
 {
     let mut p = 2;
     while p < n {
         let a = p * 1024;
         let e = a + 1024;
-        let pg = &s[a..e];
-        let x = first_hash(pg);
-        let t = partition::top_bits(x, 8) as usize;
-        hashes[p] = x;
-        cells[t] = cells[t] + page_load(pg);
+        let t = partition::top_bits(hashes[p], 8) as usize;
+        cells[t] = cells[t] + page_load(&s[a..e]);
         p += 1;
     }
 }
@@ -84,17 +70,16 @@ fn parted_ok(s: &[u8], hashes: &[u32], sums: &[u32], p: usize) -> bool
 }
 
 // The first page that does not keep it, or n.
-pub fn first_joinable(s: &[u8], n: usize) -> usize
-    requires { ⌜ Standing (now s) n ⌝ }
+pub fn first_joinable(s: &[u8], n: usize, hashes: &[u32]) -> usize
+    requires { ⌜ Standing (now s) n × Hashed (now s) n (now hashes) ⌝ }
     ensures { λ r. ⌜ FirstBad n (Parted S1024 fnv (now (s .entry))) r ⌝ }
 {
-    let mut hashes = [0u32; 258];
     let mut sums = [0u32; 257];
-    digest(s, n, &mut hashes, &mut sums);
+    digest(s, n, hashes, &mut sums);
     add_up(&mut sums);
     let mut p = 2;
     while p < n {
-        if !parted_ok(s, &hashes, &sums, p) {
+        if !parted_ok(s, hashes, &sums, p) {
             return p;
         }
         p += 1;

@@ -56,7 +56,7 @@ sub-if1 : tie.Need-sub-if1
 sub-if1 c = search needs
 
 returns : tie.Need-returns
-returns c = λ n. c .if1 .taken (of-right (c .before .before .before) n .1)
+returns c = λ n. let e = of-right (c .before .before .before) n .1 in omega (arith, e, c .if1 .taken)
 
 all-are-requires : tie.Need-all-are-requires
 all-are-requires c κs =
@@ -66,7 +66,7 @@ all-are-requires c κs =
 returns-2 : tie.Need-returns-2
 returns-2 c =
     let b = c .before .before .before .before in
-    says-same {P = All b} {Q = Right b} (c .all-are .result) (c .all-are .ensures) (λ a. to-right b a (c .before .if1 .left)) (λ n. of-right b n .0)
+    says-same {P = All b} {Q = Right b} (c .all-are .result) (c .all-are .ensures) (λ a. to-right b a (omega (arith, c .before .if1 .left))) (λ n. of-right b n .0)
 
 pub named-spec : {M : Type 1} → statement M
 named-spec =

@@ -21,8 +21,8 @@ slice-aggregate-tally c = search needs
 
 tally-requires : tie.Need-tally-requires
 tally-requires c κs =
-    let a = c .before .before .before .before in
-    let B = a .pre in
+    let a = c .before .before .before .before .before in
+    let B = a .pre .0 in
     let e = c .before .two-to .ensures in
     let m = entries-256 (a .args .d) (B .deep) in
     (omega (arith, e, m, B .entries .long), omega (arith, e, m), (λ i l h. omega (arith, B .below i l (omega (arith, e, m)), B .most)), refl, zeros 258)
@@ -32,9 +32,12 @@ slice-aggregate-first-unsound c = search needs
 
 first-unsound-requires : tie.Need-first-unsound-requires
 first-unsound-requires c κs =
-    let x = c .before .before in
-    let a = x .before .before .before .before .before in
-    (a .pre, until (a .args .dir .now) _ _ _ (x .before .before .two-to .ensures) (x .tally .ensures))
+    let x = c .before .before .before in
+    let a = x .before .before .before .before .before .before in
+    (a .pre .0, until (a .args .dir .now) _ _ _ (x .before .before .two-to .ensures) (x .tally .ensures), a .pre .1)
+
+same-length : tie.Need-same-length
+same-length c = search needs
 
 returns : tie.Need-returns
 returns c = search needs
@@ -48,4 +51,5 @@ pass-one-spec =
     tally-requires
     slice-aggregate-first-unsound
     first-unsound-requires
+    same-length
     returns)
