@@ -12,7 +12,7 @@ use Rattle.words.specs.Zeros.{Zero}
 use Rattle.store.specs.Pages.{S1024, pages, dirDepth, entryAt}
 use Rattle.hash.specs.Fnv.{fnv}
 use Rattle.store.specs.Accepted.{GoodLength, Page0, Page1, Stands}
-use Rattle.reading.specs.Directory.{Entries, AllAre, Ranges}
+use Rattle.reading.specs.Directory.{Entries, AllAre, AllBelow, Ranges}
 use Rattle.reading.specs.Begun.{Begun, Standing}
 
 -- the bytes lent from a up to e
@@ -48,8 +48,8 @@ module _ (s dir : List ℕ) (n m : ℕ) (decoded : Entries s dir) (number : n �
 
 -- what the passes over the pages start from
 module _ (s : List ℕ) (good : GoodLength S1024 s) (zeroth : Page0 S1024 s) where
-  pub begun : (dir : List ℕ) (d : ℕ) → d ≡ dirDepth s → Entries s dir → AllAre dir (2 ^ d) 256 0 → Begun s dir (pages S1024 s) d
-  begun dir d e decoded z = record {
+  pub begun : (dir : List ℕ) (d : ℕ) → d ≡ dirDepth s → Entries s dir → AllBelow dir 0 256 (pages S1024 s) → AllAre dir (2 ^ d) 256 0 → Begun s dir (pages S1024 s) d
+  begun dir d e decoded b z = record {
     long = omega (arith, good .whole);
     number = refl;
     least = good .least;
@@ -57,6 +57,7 @@ module _ (s : List ℕ) (good : GoodLength S1024 s) (zeroth : Page0 S1024 s) whe
     depth = e;
     deep = omega (arith, zeroth .depth);
     entries = decoded;
+    below = b;
     beyond = z;
   }
 

@@ -1,18 +1,17 @@
 -- The entries that a prefix calls for are one run. Assumes nothing.
-use mathlib.Core.Path.{_≡_, subst, subst₂}
-use mathlib.Core.Bool.{Bool}
+use mathlib.Core.Path.{_≡_, sym, subst₂, _∙_}
 use mathlib.Core.List.{List}
 use mathlib.Core.Logic.{⊎-elim}
-use Prim.Native.Nat.{ℕ, _^_, _≤_}
+use Prim.Native.Nat.{ℕ, _-_, _^_, _≤_, _<_}
 use native.Mathlib.Omega.{arith}
 use lib.Pow.{pow-mono}
-use Rattle.ground.specs.Says.{Says}
+use lib.ListN.{getD}
 use Rattle.ground.proofs.Sides.{side}
-use Rattle.ground.proofs.Tests.{says-same}
 use Rattle.partition.specs.Partition.{first, after}
 use Rattle.partition.proofs.Tree.{pfx}
 use Rattle.partition.proofs.Directory.{holds-range}
-use Rattle.reading.specs.Directory.{AllAre, NoneIs, Exactly, Named}
+use Rattle.reading.specs.Directory.{AllAre, NoneIs, Exactly, Counted, Named}
+use Rattle.reading.proofs.Counts.{exactly-counted, counted-exactly}
 
 -- a directory has no more entries than page 1 has room for
 pub entries-256 : (d : ℕ) → d ≤ 8 → 2 ^ d ≤ 256
@@ -33,11 +32,22 @@ module _ (dir : List ℕ) (d p : ℕ) (some : 2 ≤ p) (beyond : AllAre dir (2 ^
     (λ r. n i (omega arith) .1 (record { below = l; bits = holds-range d i (pfx k v) .1 r })),
   )
 
-  -- the test of the run says whether the page is named so
-  pub named-by : (k v m a b : ℕ) → 2 ^ d ≤ 256 → m ≡ 2 ^ d → a ≡ first d (pfx k v) → b ≡ after d (pfx k v) → (r : Bool) → Says r (Exactly dir m a b p) → Says r (Named dir d k v p)
-  named-by k v m a b l e f g r s =
-      says-same r (subst (λ n. Says r (Exactly dir n (first d (pfx k v)) (after d (pfx k v)) p)) e (subst₂ (λ x y. Says r (Exactly dir m x y p)) f g s)) (to-named k v) (of-named k v l)
+  module _ (counts : List ℕ) (C : Counted dir (2 ^ d) counts) (last : p < 258) (fits : 2 ^ d ≤ 256) where
+    -- the run all p, and its length the number of entries that are p
+    module _ (k v a b : ℕ) (begins : a ≡ first d (pfx k v)) (ends : b ≡ after d (pfx k v)) (up : a ≤ b) (within : b ≤ 2 ^ d) where
+      pub run-named : AllAre dir a b p → getD counts p 0 ≡ b - a → Named dir d k v p
+      run-named all e = to-named k v (subst₂ (λ x y. Exactly dir (2 ^ d) x y p) begins ends (exactly-counted dir (2 ^ d) p a b up within all (sym (C .each p last) ∙ e)))
 
-  -- a page that no entry names
-  pub unnamed : NoneIs dir 0 (2 ^ d) p → NoneIs dir 0 256 p
-  unnamed n i a l q = ⊎-elim (λ lt. n i a lt q) (λ ge. omega (arith, beyond i ge l)) (side i (2 ^ d))
+      pub named-run : Named dir d k v p → AllAre dir a b p × (getD counts p 0 ≡ b - a)
+      named-run n =
+          let y = counted-exactly dir (2 ^ d) p a b up within (subst₂ (λ x y. Exactly dir (2 ^ d) x y p) (sym begins) (sym ends) (of-named k v fits n)) in
+          (y .0, C .each p last ∙ y .1)
+
+    -- a page that no entry names
+    pub unnamed : getD counts p 0 ≡ 0 → NoneIs dir 0 256 p
+    unnamed e i a l q = ⊎-elim
+        (λ lt. let y = exactly-counted dir (2 ^ d) p 0 0 (omega arith) (omega arith) (λ j x y. absurd (omega arith)) (sym (C .each p last) ∙ e) i lt .0 q in omega (arith, y .1))
+        (λ ge. omega (arith, beyond i ge l)) (side i (2 ^ d))
+
+    pub none-named : NoneIs dir 0 256 p → getD counts p 0 ≡ 0
+    none-named n = C .each p last ∙ counted-exactly dir (2 ^ d) p 0 0 (omega arith) (omega arith) (λ i l. ((λ q. absurd (n i (omega arith) (omega arith) q)), (λ x. absurd (omega (arith, x .1))))) .1

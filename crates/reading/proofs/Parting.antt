@@ -1,22 +1,30 @@
 -- Pass 2: what is kept of each page, and what it says of the rule. Assumes nothing.
-use mathlib.Core.Path.{_≡_, refl, sym, ap, subst, _∙_}
+use mathlib.Core.Path.{_≡_, refl, sym, ap, ap₂, subst, _∙_}
+use mathlib.Core.Bool.{Bool, true, false}
 use mathlib.Core.List.{List, map}
 use mathlib.Core.Logic.{_⊎_, inl, inr, ⊎-elim, _↔_}
-use Prim.Native.Nat.{ℕ, zero, suc, _+_, _-_, _*_, _/_, _^_, _≤_, _<_}
+use Prim.Native.Nat.{ℕ, suc, _+_, _-_, _*_, _/_, _^_, _≤_, _<_}
 use native.Mathlib.Omega.{arith}
 use lib.Dec.{eqb}
-use lib.ListN.{length, getD, take, drop}
+use borrow.Author.Tests.{eq-eqb, ne-eqb}
+use lib.ListN.{length, getD, set, take, drop}
 use Rattle.ground.specs.Lists.{byte, total}
+use Rattle.ground.proofs.Sides.{same}
 use Rattle.ground.proofs.Tables.{total-same}
+use Rattle.ground.proofs.Tests.{says-eqb}
+use Rattle.words.specs.Moves.{Span}
 use Rattle.words.specs.Zeros.{Zero}
 use Rattle.hash.specs.Fnv.{fnv, fnv-lt}
 use Rattle.page.specs.Page.{BucketPage, depth, code, rows}
 use Rattle.page.specs.Page.{free as total-free}
 use Rattle.partition.specs.Bits.{top}
-use Rattle.partition.specs.Partition.{needs, rowsOf}
-use Rattle.partition.proofs.Bits.{top-is, top-step}
+use Rattle.partition.specs.Partition.{needs, rowsOf, after}
+use Rattle.partition.specs.Partition as Partition
+use Rattle.partition.proofs.Tree.{pfx}
+use Rattle.partition.proofs.Directory.{holds-range, entries-size}
+use Rattle.partition.proofs.Bits.{top-lt, top-step}
 use Rattle.partition.proofs.Path.{path-short}
-use Rattle.store.specs.Pages.{S1024, page, dirDepth, read, asRow, rowsOn, rowsHeld}
+use Rattle.store.specs.Pages.{S1024, pages, page, dirDepth, read, asRow, rowsOn, rowsHeld}
 use Rattle.store.specs.Accepted.{Stands, unused, used, Parted}
 use Rattle.store.specs.Moves.{pick}
 use Rattle.store.specs.Demands.{sized-1024}
@@ -25,7 +33,10 @@ use Rattle.store.proofs.Depths.{page-byte}
 use Rattle.store.proofs.PageTies.{page-needs}
 use Rattle.store.proofs.Views.{page-lent}
 use Rattle.reading.specs.Begun.{Standing}
-use Rattle.reading.specs.Digest.{Legible, LoadOf, Digest, loadOf}
+use Rattle.reading.specs.Heaps.{heap, below, Heaped}
+use Rattle.reading.specs.Digest.{Legible, LoadOf, Hashed, Celled, Digest, firstOf, hashAt, topAt, loadAt, loadOf}
+use Rattle.reading.proofs.Fills.{filled-more}
+use Rattle.reading.proofs.Heaps.{heaped-more, between, cells-below, heap-most, below-most}
 use Rattle.reading.proofs.Loads.{pick-none, load-shorter}
 
 depth-small : (s : List ℕ) (p : ℕ) → dirDepth s ≤ 8 → Stands S1024 fnv s p → depth (page S1024 s p) ≤ 8
@@ -40,8 +51,36 @@ stands-is : (s : List ℕ) (p : ℕ) → Stands S1024 fnv s p → Zero (page S10
 stands-is s p (unused z _) = inl z
 stands-is s p (used b _ _) = inr (b .rules)
 
+readable : (s : List ℕ) (n p : ℕ) → Standing s n → 2 ≤ p → p < n → Legible (page S1024 s p)
+readable s n p T a b = record { long = page-long S1024 s p (omega (arith, T .number)); is = stands-is s p (T .each p a b) }
+
 pub legible : (s : List ℕ) (n p : ℕ) → Standing s n → 2 ≤ p → p < n → Legible (take (p * 1024 + 1024 - p * 1024) (drop (p * 1024) s))
-legible s n p T a b = subst Legible (sym (page-lent S1024 s p)) (record { long = page-long S1024 s p (omega (arith, T .number)); is = stands-is s p (T .each p a b) })
+legible s n p T a b = subst Legible (sym (page-lent S1024 s p)) (readable s n p T a b)
+
+pub first-free : (g : List ℕ) → byte g 0 ≡ 0 → firstOf g ≡ 0
+first-free g e = ap (λ b. pick b 0 (fnv (code g 0))) (eq-eqb (byte g 0) 0 e)
+
+pub first-used : (g : List ℕ) → (byte g 0 ≡ 0 → ⊥) → firstOf g ≡ fnv (code g 0)
+first-used g n = ap (λ b. pick b 0 (fnv (code g 0))) (ne-eqb (byte g 0) 0 n)
+
+-- a page's first hash is kept
+pub hashed-none : (s hashes : List ℕ) → length hashes ≡ 258 → Hashed s 2 hashes
+hashed-none s hashes e = record { long = e; each = λ p a b. absurd (omega arith) }
+
+pub hashed-more : (s : List ℕ) {p x : ℕ} {hashes : List ℕ} → Hashed s p hashes → 2 ≤ p → p < 258 → x ≡ firstOf (page S1024 s p) → Hashed s (p + 1) (set hashes p x)
+hashed-more s {hashes = hashes} H a b e =
+    let F = filled-more (λ k v. v ≡ firstOf (page S1024 s k)) {l = hashes} (record { long = H .long; start = a; each = H .each }) b e in
+    record { long = F .long; each = F .each }
+
+pub hashed-all : (s hashes : List ℕ) (n p : ℕ) → Hashed s p hashes → n ≤ p → Hashed s n hashes
+hashed-all s hashes n p H l = record { long = H .long; each = λ q a b. H .each q a (omega arith) }
+
+pub top-most : (g : List ℕ) → top 8 (firstOf g) < 256
+top-most g = top-lt (firstOf g) 8 (small (eqb (byte g 0) 0))
+  where
+    small : (b : Bool) → pick b 0 (fnv (code g 0)) < 2 ^ 32
+    small true = omega arith
+    small false = fnv-lt (code g 0)
 
 module _ (g : List ℕ) (L : Legible g) where
   pub used-page : (byte g 0 ≡ 0 → ⊥) → BucketPage g
@@ -61,56 +100,97 @@ module _ (g : List ℕ) (L : Legible g) where
       let r : needs (rowsOn (read g)) ≡ needs (map asRow (rows g)) = ap (λ y. needs (rowsOn y)) (read-used g b) in
       (omega (arith, L .long), (omega (arith, L .long), omega arith))
 
-pub top-8 : (x : ℕ) → x / 16777216 ≡ top 8 x
-top-8 x = sym (top-is x 8 (omega arith))
+module _ (s : List ℕ) (n : ℕ) (T : Standing s n) where
+  -- no page needs more than its room
+  load-most : (i : ℕ) → i < n - 2 → loadAt s i ≤ 1016
+  load-most i l =
+      let L : Legible (page S1024 s (i + 2)) = readable s n (i + 2) T (omega arith) (omega arith) in
+      ⊎-elim (λ z. let y = load-free _ L z in omega (arith, y .0)) (λ nz. let y = load-used _ L nz _ refl in omega (arith, y .1 .0, y .1 .1)) (same (byte (page S1024 s (i + 2)) 0) 0)
 
-module _ (s tops loads : List ℕ) (n : ℕ) (T : Standing s n) (D : Digest s tops loads n) (p : ℕ) (from : 2 ≤ p) (to : p < n) where
-  abbrev first : ℕ → ℕ
-  first q = fnv (code (page S1024 s q) 0)
+  pub cell-most : (k v : ℕ) → k ≤ n - 2 → heap (topAt s) (loadAt s) k v ≤ 1016 * k
+  cell-most k = λ v l. heap-most (topAt s) (loadAt s) k 1016 (λ i m. load-most i (omega arith)) v
 
-  pub parted-flat : depth (page S1024 s p) ≡ 0 → Parted S1024 fnv s p
-  parted-flat e j d = absurd (omega arith)
+  -- page p's load falls to the cell of its first hash
+  pub celled-more : (p : ℕ) → 2 ≤ p → {cells : List ℕ} → Celled s p cells → {t x y : ℕ} → t ≡ top 8 (firstOf (page S1024 s p)) → x ≡ needs (rowsOn (read (page S1024 s p))) → y ≡ getD cells t 0 + x → Celled s (p + 1) (set cells t y)
+  celled-more p a {cells} C {t} {x} {y} e f g =
+      let q : p ≡ p - 2 + 2 = omega arith in
+      let m : p - 2 + 1 ≡ p + 1 - 2 = omega arith in
+      subst (λ k. Heaped (topAt s) (loadAt s) k 257 (set cells t y)) m
+      (heaped-more (topAt s) (loadAt s) C (e ∙ ap (λ i. top 8 (firstOf (page S1024 s i))) q) (omega (arith, top-most (page S1024 s p)))
+      (g ∙ ap (λ w. getD cells t 0 + w) (f ∙ ap (λ i. needs (rowsOn (read (page S1024 s i)))) q)))
 
-  module _ (j : ℕ) (deep : depth (page S1024 s p) ≡ suc j) where
-    is-bucket : Stands S1024 fnv s p → (byte (page S1024 s p) 0 ≡ 1) × (j ≤ 8)
-    is-bucket (unused z _) = absurd (omega (arith, z 1))
-    is-bucket (used b k _) = (b .rules .rules .one, omega (arith, k, T .deep))
+  -- the cells, added up: the sum fits, and what it is
+  module _ (cells : List ℕ) (C : Celled s n cells) where
+    cells-are : (v : ℕ) → v ≤ 257 → total (λ j. getD cells j 0) v ≡ below (topAt s) (loadAt s) (n - 2) v
+    cells-are v l = total-same _ _ v (λ j m. C .each j (omega arith)) ∙ cells-below (topAt s) (loadAt s) (n - 2) v
 
-    one : byte (page S1024 s p) 0 ≡ 1
-    one = is-bucket (T .each p from to) .0
+    pub cells-fit : total (λ j. getD cells j 0) (length cells) < 4294967296
+    cells-fit =
+        let e : total (λ j. getD cells j 0) (length cells) ≡ below (topAt s) (loadAt s) (n - 2) 257 = ap (total (λ j. getD cells j 0)) (C .long) ∙ cells-are 257 (omega arith) in
+        omega (arith, below-most (topAt s) (loadAt s) (n - 2) 1016 load-most 257, T .most)
 
-    small : j ≤ 8
-    small = is-bucket (T .each p from to) .1
+    pub digested : (hashes sums : List ℕ) → Hashed s n hashes → Span cells 0 (length cells) (λ i. total (λ j. getD cells j 0) i) sums → Digest s (pages S1024 s) hashes sums
+    digested hashes sums H S = subst (λ m. Digest s m hashes sums) (T .number) (record {
+      hashed = H;
+      long = S .len ∙ C .long;
+      each = λ v l. S .new v (omega arith) (omega (arith, C .long)) ∙ cells-are v (omega arith);
+    })
 
-    -- the tops' first j bits
-    bits : (q : ℕ) → 2 ≤ q → q < n → byte (page S1024 s q) 0 ≡ 1 → getD tops q 0 / 2 ^ (8 - j) ≡ top j (first q)
-    bits q a b e = ap (λ x. x / 2 ^ (8 - j)) (D .topped q a b e) ∙ path-short (λ i. top i (first q)) (top-step (first q)) j 8 small
+  module _ (p : ℕ) (from : 2 ≤ p) (to : p < n) where
+    abbrev first : ℕ → ℕ
+    first q = fnv (code (page S1024 s q) 0)
 
-    -- page q's part of the sum
-    same-part : (q v : ℕ) → 2 ≤ q → q < n → Stands S1024 fnv s q
-        → pick (eqb (getD tops q 0 / 2 ^ (8 - j)) v) (getD loads q 0) 0 ≡ pick (eqb (top j (first q)) v) (needs (rowsOn (read (page S1024 s q)))) 0
-    unfolding needs
-    same-part q v a b (unused z _) =
-        let e : needs (rowsOn (read (page S1024 s q))) ≡ 0 = ap (λ x. needs (rowsOn x)) (read-zero (page S1024 s q) z) in
-        let f : getD loads q 0 ≡ 0 = D .loaded q a b .0 ∙ e in
-        ap (λ x. pick (eqb (getD tops q 0 / 2 ^ (8 - j)) v) x 0) f ∙ pick-none (eqb (getD tops q 0 / 2 ^ (8 - j)) v)
-        ∙ sym (ap (λ x. pick (eqb (top j (first q)) v) x 0) e ∙ pick-none (eqb (top j (first q)) v))
-    same-part q v a b (used k _ _) =
-        ap (λ x. pick (eqb x v) (getD loads q 0) 0) (bits q a b (k .rules .rules .one)) ∙ ap (λ x. pick (eqb (top j (first q)) v) x 0) (D .loaded q a b .0)
+    pub parted-flat : depth (page S1024 s p) ≡ 0 → Parted S1024 fnv s p
+    parted-flat e j d = absurd (omega arith)
 
-    pub load-is : loadOf tops loads (8 - j) (getD tops p 0 / 2 ^ (8 - j)) n ≡ needs (rowsOf fnv (rowsHeld S1024 s) j (top j (first p)))
-    load-is =
-        let e = bits p from to one in
-        ap (λ v. loadOf tops loads (8 - j) v n) e
-        ∙ total-same _ _ (n - 2) (λ i l. same-part (i + 2) (top j (first p)) (omega arith) (omega arith) (T .each (i + 2) (omega arith) (omega arith)))
-        ∙ ap (λ m. total (λ i. pick (eqb (top j (first (i + 2))) (top j (first p))) (needs (rowsOn (read (page S1024 s (i + 2))))) 0) (m - 2)) (T .number)
-        ∙ sym (load-shorter S1024 fnv sized-1024 fnv-lt s (T .deep) p j (T .each p from to) one deep (λ q a b. T .each q a (omega (arith, T .number))))
+    module _ (j : ℕ) (deep : depth (page S1024 s p) ≡ suc j) where
+      is-bucket : Stands S1024 fnv s p → (byte (page S1024 s p) 0 ≡ 1) × (j ≤ 8)
+      is-bucket (unused z _) = absurd (omega (arith, z 1))
+      is-bucket (used b k _) = (b .rules .rules .one, omega (arith, k, T .deep))
 
-  pub parted-by : (d k r : ℕ) → d ≡ depth (page S1024 s p) → (d ≡ 0 → ⊥) → k ≡ 9 - d → r ≡ loadOf tops loads k (getD tops p 0 / 2 ^ k) n → (1016 < r) ↔ Parted S1024 fnv s p
-  parted-by zero k r e nz f g = absurd (nz refl)
-  parted-by (suc j) k r e nz f g =
-      let h : k ≡ 8 - j = omega arith in
-      let i : r ≡ needs (rowsOf fnv (rowsHeld S1024 s) j (top j (first p))) = g ∙ ap (λ x. loadOf tops loads x (getD tops p 0 / 2 ^ x) n) h ∙ load-is j (sym e) in (
-        (λ l j′ q. let m : j ≡ j′ = omega arith in subst (λ x. 1016 < needs (rowsOf fnv (rowsHeld S1024 s) x (top x (first p)))) m (omega arith)),
-        (λ P. omega (arith, P j (sym e))),
+      one : byte (page S1024 s p) 0 ≡ 1
+      one = is-bucket (T .each p from to) .0
+
+      small : j ≤ 8
+      small = is-bucket (T .each p from to) .1
+
+      -- page q's part of the sum
+      same-part : (q v : ℕ) → Stands S1024 fnv s q
+          → pick (eqb (top j (firstOf (page S1024 s q))) v) (needs (rowsOn (read (page S1024 s q)))) 0 ≡ pick (eqb (top j (first q)) v) (needs (rowsOn (read (page S1024 s q)))) 0
+      unfolding needs
+      same-part q v (unused z _) =
+          let e : needs (rowsOn (read (page S1024 s q))) ≡ 0 = ap (λ x. needs (rowsOn x)) (read-zero (page S1024 s q) z) in
+          ap (λ x. pick (eqb (top j (firstOf (page S1024 s q))) v) x 0) e ∙ pick-none (eqb (top j (firstOf (page S1024 s q))) v)
+          ∙ sym (ap (λ x. pick (eqb (top j (first q)) v) x 0) e ∙ pick-none (eqb (top j (first q)) v))
+      same-part q v (used k _ _) = ap (λ x. pick (eqb (top j x) v) (needs (rowsOn (read (page S1024 s q)))) 0) (first-used (page S1024 s q) (λ e. omega (arith, k .rules .rules .one)))
+
+      load-is : loadOf s j (top j (first p)) n ≡ needs (rowsOf fnv (rowsHeld S1024 s) j (top j (first p)))
+      load-is =
+          total-same _ _ (n - 2) (λ i l. same-part (i + 2) (top j (first p)) (T .each (i + 2) (omega arith) (omega arith)))
+          ∙ ap (λ m. total (λ i. pick (eqb (top j (first (i + 2))) (top j (first p))) (needs (rowsOn (read (page S1024 s (i + 2))))) 0) (m - 2)) (T .number)
+          ∙ sym (load-shorter S1024 fnv sized-1024 fnv-lt s (T .deep) p j (T .each p from to) one deep (λ q a b. T .each q a (omega (arith, T .number))))
+
+      -- the prefix's run of cells
+      run-is : (v : ℕ) → below (topAt s) (loadAt s) (n - 2) (after 8 (pfx j v)) ≡ below (topAt s) (loadAt s) (n - 2) (Partition.first 8 (pfx j v)) + loadOf s j v n
+      run-is v = between (topAt s) (loadAt s) (n - 2) (λ i. eqb (top j (hashAt s i)) v) (Partition.first 8 (pfx j v)) (after 8 (pfx j v)) (omega (arith, entries-size 8 (pfx j v)))
+          (λ i _.
+          let e : topAt s i / 2 ^ (8 - j) ≡ top j (hashAt s i) = path-short (λ k. top k (hashAt s i)) (top-step (hashAt s i)) j 8 small in
+          says-eqb (top j (hashAt s i)) v (λ q. holds-range 8 (topAt s i) (pfx j v) .0 (e ∙ q)) (λ q. sym e ∙ holds-range 8 (topAt s i) (pfx j v) .1 q))
+
+    -- what the run from a up to b of a bucket's parent says of the rule
+    module _ (hashes sums : List ℕ) (D : Digest s n hashes sums) (a b k : ℕ) (is : suc k ≡ depth (page S1024 s p))
+        (begins : a ≡ Partition.first 8 (pfx k (top k (getD hashes p 0)))) (ends : b ≡ after 8 (pfx k (top k (getD hashes p 0)))) (within : b ≤ 256) (up : a ≤ b) where
+      held : getD sums b 0 ≡ getD sums a 0 + needs (rowsOf fnv (rowsHeld S1024 s) k (top k (first p)))
+      held =
+          let e : getD hashes p 0 ≡ first p = D .hashed .each p from to ∙ first-used (page S1024 s p) (λ z. omega (arith, one k (sym is))) in
+          D .each b within ∙ ap (below (topAt s) (loadAt s) (n - 2)) ends ∙ run-is k (sym is) (top k (getD hashes p 0))
+          ∙ ap₂ _+_ (sym (D .each a (omega arith) ∙ ap (below (topAt s) (loadAt s) (n - 2)) begins)) (ap (λ x. loadOf s k (top k x) n) e ∙ load-is k (sym is))
+
+      pub sums-rise : getD sums a 0 ≤ getD sums b 0
+      sums-rise = omega (arith, held)
+
+      pub parted-by : (1016 < getD sums b 0 - getD sums a 0) ↔ Parted S1024 fnv s p
+      parted-by = (
+        (λ l j q. let m : k ≡ j = omega arith in subst (λ x. 1016 < needs (rowsOf fnv (rowsHeld S1024 s) x (top x (first p)))) m (omega (arith, held))),
+        (λ P. omega (arith, held, P k (sym is))),
       )

@@ -2,7 +2,7 @@
 use mathlib.Core.Path.{_≡_, sym, subst, _∙_}
 use mathlib.Core.List.{List}
 use mathlib.Core.Logic.{_↔_}
-use Prim.Native.Nat.{ℕ, _≤_, _<_}
+use Prim.Native.Nat.{ℕ, _^_, _≤_, _<_}
 use native.Mathlib.Omega.{arith}
 use Rattle.ground.specs.Lists.{byte}
 use Rattle.hash.specs.Fnv.{fnv}
@@ -10,10 +10,11 @@ use Rattle.page.specs.Page.{depth, count, code}
 use Rattle.partition.specs.Bits.{top}
 use Rattle.store.specs.Pages.{S1024, page, dirDepth, entryAt}
 use Rattle.store.specs.Accepted.{Bucket, Calls, Stands, unused, used}
-use Rattle.reading.specs.Directory.{Named}
+use Rattle.reading.specs.Directory.{Counted, Named}
 use Rattle.words.specs.Zeros.{Zero}
 use Rattle.reading.specs.First.{FirstBad}
 use Rattle.reading.specs.Begun.{Begun, Free, Own}
+use Rattle.reading.proofs.Naming.{entries-256, unnamed, none-named}
 
 -- the prefix of a bucket, by its first code
 abbrev pub prefixOf : List ℕ → ℕ
@@ -23,9 +24,9 @@ prefixOf g = top (depth g) (fnv (code g 0))
 abbrev pub Like : List ℕ → ℕ → Type 0
 Like g i = top (depth g) (fnv (code g 0)) ≡ top (depth g) (fnv (code g i))
 
-module _ (s dir : List ℕ) (n d p : ℕ) (B : Begun s dir n d) where
-  free-of : byte (page S1024 s p) 0 ≡ 0 → Stands S1024 fnv s p → Free (page S1024 s p) dir p
-  free-of z (unused a u) = record { zero = a; unnamed = λ i _ l e. u i l (sym (B .entries .entry i l) ∙ e) }
+module _ (s dir counts : List ℕ) (n d p : ℕ) (B : Begun s dir n d) (C : Counted dir (2 ^ d) counts) (from : 2 ≤ p) (to : p < n) where
+  free-of : byte (page S1024 s p) 0 ≡ 0 → Stands S1024 fnv s p → Free (page S1024 s p) counts p
+  free-of z (unused a u) = record { zero = a; unnamed = none-named dir d p from (B .beyond) counts C (omega (arith, B .most)) (entries-256 d (B .deep)) (λ i _ l e. u i l (sym (B .entries .entry i l) ∙ e)) }
   free-of z (used b _ _) = absurd (omega (arith, b .rules .rules .one))
 
   module _ (nz : byte (page S1024 s p) 0 ≡ 0 → ⊥) where
@@ -47,8 +48,9 @@ module _ (s dir : List ℕ) (n d p : ℕ) (B : Begun s dir n d) where
 
   -- g is page p, as it was lent
   module _ (g : List ℕ) (e : g ≡ page S1024 s p) where
-    pub free-stands : Free g dir p → Stands S1024 fnv s p
-    free-stands f = unused (subst Zero e (f .zero)) (λ i l q. f .unnamed i (omega arith) l (B .entries .entry i l ∙ q))
+    pub free-stands : Free g counts p → Stands S1024 fnv s p
+    free-stands f = unused (subst Zero e (f .zero))
+        (λ i l q. unnamed dir d p from (B .beyond) counts C (omega (arith, B .most)) (entries-256 d (B .deep)) (f .unnamed) i (omega arith) l (B .entries .entry i l ∙ q))
 
     pub used-stands : Own g d → ((i : ℕ) → i < count g → Like g i) → Named dir d (depth g) (prefixOf g) p → Stands S1024 fnv s p
     used-stands o like names = used
@@ -60,8 +62,8 @@ module _ (s dir : List ℕ) (n d p : ℕ) (B : Begun s dir n d) where
         ))
 
     -- a page that stands and whose byte 0 is 0 is free, any other a bucket
-    pub stands-free : byte g 0 ≡ 0 → Stands S1024 fnv s p → Free g dir p
-    stands-free z st = subst (λ x. Free x dir p) (sym e) (free-of (subst (λ x. byte x 0 ≡ 0) e z) st)
+    pub stands-free : byte g 0 ≡ 0 → Stands S1024 fnv s p → Free g counts p
+    stands-free z st = subst (λ x. Free x counts p) (sym e) (free-of (subst (λ x. byte x 0 ≡ 0) e z) st)
 
     module _ (nz : byte g 0 ≡ 0 → ⊥) where
       pub stands-own : Stands S1024 fnv s p → Own g d

@@ -6,6 +6,7 @@ use Prim.Native.Nat.{ℕ, _≤_, _<_}
 use lib.ListN.{length, getD}
 use Rattle.store.specs.Pages.{S1024, entryAt}
 use Rattle.store.specs.Accepted.{Calls}
+use Rattle.reading.specs.Heaps.{Heaped}
 
 -- the entries of the directory of s
 pub record Entries (s dir : List ℕ) : Type 0 where
@@ -27,6 +28,10 @@ AllBelow dir a b n = (i : ℕ) → a ≤ i → i < b → getD dir i 0 < n
 -- of the entries up to m, exactly those from a up to b are x
 abbrev pub Exactly : List ℕ → ℕ → ℕ → ℕ → ℕ → Type 0
 Exactly dir m a b x = (i : ℕ) → i < m → (getD dir i 0 ≡ x) ↔ ((a ≤ i) × (i < b))
+
+-- for each of 258 pages the number of the entries up to m that name it
+abbrev pub Counted : List ℕ → ℕ → List ℕ → Type 0
+Counted dir m counts = Heaped (λ i. getD dir i 0) (λ i. 1) m 258 counts
 
 -- page 1's rules for n pages and a depth of which m is the power of two
 pub record Ranges (dir : List ℕ) (n m : ℕ) : Type 0 where

@@ -1,4 +1,5 @@
 pub mod First
+pub mod Heaps
 pub mod Directory
 pub mod Digest
 pub mod Begun

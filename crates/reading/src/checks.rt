@@ -6,7 +6,7 @@ ghost use Rattle.reading.specs.First.{Judged};
 use super::directory::entries;
 use super::directory::ranges;
 use super::head::page0_ok;
-use super::pages::first_unsound;
+use super::pages::pass_one;
 use super::parted::first_joinable;
 
 // The page at which the check stops, or the number of pages.
@@ -24,11 +24,12 @@ pub fn first_bad(s: &[u8]) -> usize
     if !ranges(&dir, n as u32, partition::two_to(d)) {
         return 1;
     }
-    let p = first_unsound(s, &dir, n, d);
+    let mut hashes = [0u32; 258];
+    let p = pass_one(s, &dir, n, d, &mut hashes);
     if p < n {
         return p;
     }
-    let q = first_joinable(s, n);
+    let q = first_joinable(s, n, &hashes);
     if q < n {
         return q;
     }

@@ -3,7 +3,8 @@ ghost use mathlib.Core.Path.{_≡_};
 ghost use Prim.Native.Nat.{_≤_, _<_, _^_};
 ghost use lib.ListN.{length};
 ghost use Rattle.ground.specs.Says.{Says};
-ghost use Rattle.reading.specs.Directory.{Entries, AllAre, NoneIs, AllBelow, Exactly, Ranges, Named};
+ghost use Rattle.words.specs.Zeros.{Zero};
+ghost use Rattle.reading.specs.Directory.{Entries, AllAre, NoneIs, AllBelow, Counted, Ranges, Named};
 ghost use Rattle.partition.specs.Bits.{top};
 
 // The directory's entries.
@@ -19,7 +20,7 @@ pub fn entries(s: &[u8], dir: &mut [u32])
 }
 
 // Whether all entries from a up to b are x.
-pub fn all_are(dir: &[u32], a: usize, b: usize, x: u32) -> bool
+fn all_are(dir: &[u32], a: usize, b: usize, x: u32) -> bool
     requires { ⌜ (a ≤ b) × (b ≤ length (now dir)) ⌝ }
     ensures { λ r. ⌜ Says r (AllAre (now (dir .entry)) a b x) ⌝ }
 {
@@ -35,7 +36,7 @@ pub fn all_are(dir: &[u32], a: usize, b: usize, x: u32) -> bool
 }
 
 // Whether none of the entries from a up to b is x.
-pub fn none_is(dir: &[u32], a: usize, b: usize, x: u32) -> bool
+fn none_is(dir: &[u32], a: usize, b: usize, x: u32) -> bool
     requires { ⌜ (a ≤ b) × (b ≤ length (now dir)) ⌝ }
     ensures { λ r. ⌜ Says r (NoneIs (now (dir .entry)) a b x) ⌝ }
 {
@@ -51,7 +52,7 @@ pub fn none_is(dir: &[u32], a: usize, b: usize, x: u32) -> bool
 }
 
 // Whether all entries from a up to b are below n.
-pub fn all_below(dir: &[u32], a: usize, b: usize, n: u32) -> bool
+fn all_below(dir: &[u32], a: usize, b: usize, n: u32) -> bool
     requires { ⌜ (a ≤ b) × (b ≤ length (now dir)) ⌝ }
     ensures { λ r. ⌜ Says r (AllBelow (now (dir .entry)) a b n) ⌝ }
 {
@@ -64,20 +65,6 @@ pub fn all_below(dir: &[u32], a: usize, b: usize, n: u32) -> bool
         i += 1;
     }
     ok
-}
-
-// Whether of the entries up to m exactly those from a up to b are x.
-pub fn exactly(dir: &[u32], m: usize, a: usize, b: usize, x: u32) -> bool
-    requires { ⌜ (m ≤ length (now dir)) × (a ≤ b) × (b ≤ m) ⌝ }
-    ensures { λ r. ⌜ Says r (Exactly (now (dir .entry)) m a b x) ⌝ }
-{
-    if !none_is(dir, 0, a, x) {
-        return false;
-    }
-    if !all_are(dir, a, b, x) {
-        return false;
-    }
-    none_is(dir, b, m, x)
 }
 
 // Whether the entries are in range for n pages, and zero from m on.
@@ -94,11 +81,27 @@ pub fn ranges(dir: &[u32], n: u32, m: usize) -> bool
     all_are(dir, m, 256, 0)
 }
 
-// Whether page p is named by exactly the entries that the first k bits of the hash x call for, in a directory of depth d.
-pub fn named(dir: &[u32], d: u32, k: u32, x: u32, p: u32) -> bool
-    requires { ⌜ (length (now dir) ≡ 256) × (d ≤ 8) × (k ≤ d) × (2 ≤ p) × AllAre (now dir) (2 ^ d) 256 0 ⌝ }
+// How many of the entries up to m name each page.
+pub fn tally(dir: &[u32], m: usize, counts: &mut [u32])
+    requires { ⌜ (m ≤ length (now dir)) × (m ≤ 256) × AllBelow (now dir) 0 m 258 × (length (now counts) ≡ 258) × Zero (now counts) ⌝ }
+    ensures { λ _. ⌜ Counted (now (dir .entry)) m (now (counts .exit)) ⌝ }
+{
+    let mut i = 0;
+    while i < m {
+        let e = dir[i] as usize;
+        counts[e] = counts[e] + 1;
+        i += 1;
+    }
+}
+
+// Whether page p is named by exactly the entries that the first k bits of the hash x call for, in a directory of depth d: all of them, and as many as name p.
+pub fn named(dir: &[u32], counts: &[u32], d: u32, k: u32, x: u32, p: u32) -> bool
+    requires { ⌜ (length (now dir) ≡ 256) × (d ≤ 8) × (k ≤ d) × (2 ≤ p) × (p < 258) × AllAre (now dir) (2 ^ d) 256 0 × Counted (now dir) (2 ^ d) (now counts) ⌝ }
     ensures { λ r. ⌜ Says r (Named (now (dir .entry)) d k (top k x) p) ⌝ }
 {
     let run = partition::run_of(x, k, d);
-    exactly(dir, partition::two_to(d), run.from, run.to, p)
+    if counts[p as usize] as usize != run.to - run.from {
+        return false;
+    }
+    all_are(dir, run.from, run.to, p)
 }

@@ -1,6 +1,6 @@
 // Pass 1: pages 2 upward, each for its own bytes, its depth and the entries that name it.
 ghost use mathlib.Core.Path.{_≡_};
-ghost use Prim.Native.Nat.{_≤_, _^_};
+ghost use Prim.Native.Nat.{_<_, _^_};
 ghost use lib.ListN.{length};
 ghost use Rattle.ground.specs.Says.{Says};
 ghost use Rattle.words.specs.Zeros.{Zero};
@@ -8,20 +8,21 @@ ghost use Rattle.hash.specs.Fnv.{fnv};
 ghost use Rattle.store.specs.Pages.{S1024};
 ghost use Rattle.store.specs.Accepted.{Stands};
 ghost use Rattle.reading.specs.First.{FirstBad};
-ghost use Rattle.reading.specs.Directory.{AllAre};
+ghost use Rattle.reading.specs.Directory.{Counted};
 ghost use Rattle.reading.specs.Begun.{Begun, Free, Own};
+ghost use Rattle.reading.specs.Digest.{Hashed};
 use super::directory::named;
-use super::directory::none_is;
+use super::directory::tally;
 
 // Whether a page is free and named by none.
-fn free_ok(pg: &[u8], dir: &[u32], d: u32, p: u32) -> bool
-    requires { ⌜ (length (now dir) ≡ 256) × (d ≤ 8) × (2 ≤ p) × AllAre (now dir) (2 ^ d) 256 0 ⌝ }
-    ensures { λ r. ⌜ Says r (Free (now (pg .entry)) (now (dir .entry)) p) ⌝ }
+fn free_ok(pg: &[u8], counts: &[u32], p: usize) -> bool
+    requires { ⌜ p < length (now counts) ⌝ }
+    ensures { λ r. ⌜ Says r (Free (now (pg .entry)) (now (counts .entry)) p) ⌝ }
 {
     if !words::all_zero(pg) {
         return false;
     }
-    none_is(dir, 0, partition::two_to(d), p)
+    counts[p] == 0
 }
 
 // Whether a page is a bucket of depth at most d, but for its hashes. tab is as for audit::page_ok.
@@ -36,10 +37,18 @@ fn own_ok(pg: &[u8], tab: &mut [u8], d: u32) -> bool
     (pg[1] as u32) <= d
 }
 
-// The first page that does not stand, or n.
-pub fn first_unsound(s: &[u8], dir: &[u32], n: usize, d: u32) -> usize
-    requires { ⌜ Begun (now s) (now dir) n d ⌝ }
-    ensures { λ r. ⌜ FirstBad n (Stands S1024 fnv (now (s .entry))) r ⌝ }
+// The first page that does not stand, or n; and the first hash of each page before it.
+fn first_unsound(
+    s: &[u8],
+    dir: &[u32],
+    counts: &[u32],
+    n: usize,
+    d: u32,
+    hashes: &mut [u32],
+) -> usize
+    requires { ⌜ Begun (now s) (now dir) n d × Counted (now dir) (2 ^ d) (now counts) × (length (now hashes) ≡ 258) ⌝ }
+    ensures stops { λ r. ⌜ FirstBad n (Stands S1024 fnv (now (s .entry))) r ⌝ }
+    ensures hashed { λ r. ⌜ Hashed (now (s .entry)) r (now (hashes .exit)) ⌝ }
 {
     let mut tab = [0u8; 1024];
     let mut p = 2;
@@ -51,9 +60,10 @@ pub fn first_unsound(s: &[u8], dir: &[u32], n: usize, d: u32) -> usize
         let e = a + 1024;
         let pg = &s[a..e];
         if pg[0] == 0 {
-            if !free_ok(pg, dir, d, p as u32) {
+            if !free_ok(pg, counts, p) {
                 break 'pages p;
             }
+            hashes[p] = 0;
             p += 1;
             continue 'pages;
         }
@@ -70,9 +80,21 @@ pub fn first_unsound(s: &[u8], dir: &[u32], n: usize, d: u32) -> usize
             }
             i += 1;
         }
-        if !named(dir, d, k as u32, first, p as u32) {
+        if !named(dir, counts, d, k as u32, first, p as u32) {
             break 'pages p;
         }
+        hashes[p] = first;
         p += 1;
     }
+}
+
+// The same, the entries that name each page counted once.
+pub fn pass_one(s: &[u8], dir: &[u32], n: usize, d: u32, hashes: &mut [u32]) -> usize
+    requires { ⌜ Begun (now s) (now dir) n d × (length (now hashes) ≡ 258) ⌝ }
+    ensures stops { λ r. ⌜ FirstBad n (Stands S1024 fnv (now (s .entry))) r ⌝ }
+    ensures hashed { λ r. ⌜ Hashed (now (s .entry)) r (now (hashes .exit)) ⌝ }
+{
+    let mut counts = [0u32; 258];
+    tally(dir, partition::two_to(d), &mut counts);
+    first_unsound(s, dir, &counts, n, d, hashes)
 }

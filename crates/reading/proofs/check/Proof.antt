@@ -1,6 +1,5 @@
 -- `reading::check` meets its contract. Assumes nothing.
 use borrow.Author.Tests.{not-true, not-false}
-use borrow.Author.Needs.{needs}
 use mathlib.Core.Logic.{inl, inr}
 use mathlib.Core.Path.{refl}
 use Rattle.ground.proofs.Tests.{says-true, says-false}

@@ -1,6 +1,5 @@
 -- `reading::count` meets its contract. Assumes nothing.
 use borrow.Author.Tests.{not-true, not-false}
-use borrow.Author.Needs.{needs}
 use mathlib.Core.Logic.{inl, inr}
 use mathlib.Core.Path.{refl, ap}
 use native.Mathlib.Omega.{arith}

@@ -13,6 +13,7 @@ use Rattle.store.specs.Accepted.{Page0, Page1, Stands, Parted}
 use Rattle.reading.specs.Directory.{Ranges}
 use Rattle.reading.proofs.Heads.{to-page1, of-page1, begun, standing}
 use Rattle.reading.proofs.Naming.{entries-256}
+use Rattle.reading.proofs.Parting.{hashed-all}
 use Rattle.reading.proofs.Stops.{none-bad, bad-0, bad-1, bad-up, bad-again, bad-last, all-sound}
 use Rattle.reading.proofs.checks.first_bad.Statement.{statement}
 use Rattle.reading.proofs.checks.first_bad.Tie as tie
@@ -45,12 +46,19 @@ module _ (c : tie.After-ranges) where
 ranged : (c : tie.Else2) → Ranges (dir (c .before)) (pages S1024 (store (c .before))) (c .before .before .two-to .result)
 ranged c = says-true {P = Ranges (dir (c .before)) (pages S1024 (store (c .before))) (c .before .before .two-to .result)} (c .before .ranges .result) (not-false _ (c .if2 .left)) (c .before .ranges .ensures)
 
+-- past page 1's test, from where pass 1 was called
+abbrev past-1 : tie.After-pass-one → tie.Else2
+past-1 c = c .before .before .before
+
+abbrev first : tie.After-pass-one → tie.After-ranges
+first c = past-1 c .before
+
 -- past pass 1
-stands : (c : tie.Else3) → (q : ℕ) → 2 ≤ q → q < pages S1024 (store (c .before .before .before .before)) → Stands S1024 fnv (store (c .before .before .before .before)) q
-stands c = none-bad _ _ (c .before .first-unsound .result) (c .before .first-unsound .ensures) (c .if3 .left)
+stands : (c : tie.Else3) → (q : ℕ) → 2 ≤ q → q < pages S1024 (store (first (c .before .before))) → Stands S1024 fnv (store (first (c .before .before))) q
+stands c = none-bad _ _ (c .before .before .pass-one .result) (c .before .before .pass-one .ensures .0) (c .if3 .left)
 
 -- past pass 2
-parted : (c : tie.Else4) → (q : ℕ) → 2 ≤ q → q < pages S1024 (store (c .before .before .before .before .before .before)) → Parted S1024 fnv (store (c .before .before .before .before .before .before)) q
+parted : (c : tie.Else4) → let x = first (c .before .before .before .before .before) in (q : ℕ) → 2 ≤ q → q < pages S1024 (store x) → Parted S1024 fnv (store x) q
 parted c = none-bad _ _ (c .before .first-joinable .result) (c .before .first-joinable .ensures) (c .if4 .left)
 
 page0-ok-requires : tie.Need-page0-ok-requires
@@ -91,36 +99,45 @@ returns-2 c =
     bad-1 S1024 fnv (store x) (at x .before .before .before .pre) (zeroth (at x))
     (λ r. says-false {P = Ranges (dir x) (pages S1024 (store x)) (x .before .two-to .result)} (x .ranges .result) (not-true _ (c .if2 .taken)) (x .ranges .ensures) (of-1 x r))
 
-slice-aggregate-first-unsound : tie.Need-slice-aggregate-first-unsound
-slice-aggregate-first-unsound c = search needs
+slice-aggregate-pass-one : tie.Need-slice-aggregate-pass-one
+slice-aggregate-pass-one c = search needs
 
-first-unsound-requires : tie.Need-first-unsound-requires
-first-unsound-requires c κs =
-    let x = c .before .before in
-    let y = x .before .before .before .before .before .before .get32 in
-    begun (store x) (at x .before .before .before .pre) (zeroth (at x)) (dir x) (y .result) (y .ensures .0) (x .before .before .before .before .entries .ensures)
-    (λ i l. ranged (c .before) .beyond i (omega (arith, x .before .two-to .ensures)))
+slice-aggregate-pass-one-2 : tie.Need-slice-aggregate-pass-one-2
+slice-aggregate-pass-one-2 c = search needs
+
+pass-one-requires : tie.Need-pass-one-requires
+pass-one-requires c κs =
+    let x = c .before .before .before in
+    let y = x .before .before .before .before .before .before .get32 in (
+      begun (store x) (at x .before .before .before .pre) (zeroth (at x)) (dir x) (y .result) (y .ensures .0) (x .before .before .before .before .entries .ensures) (ranged (c .before .before) .below)
+          (λ i l. ranged (c .before .before) .beyond i (omega (arith, x .before .two-to .ensures))),
+      refl,
+    )
 
 returns-3 : tie.Need-returns-3
 returns-3 c =
-    let x = c .before .before .before .before in
-    bad-up S1024 fnv (store x) (at x .before .before .before .pre) (zeroth (at x)) (to-1 x (ranged (c .before .before .before))) (c .before .first-unsound .result) (c .before .first-unsound .ensures) (c .if3 .taken)
+    let y = c .before .before in
+    let x = first y in
+    bad-up S1024 fnv (store x) (at x .before .before .before .pre) (zeroth (at x)) (to-1 x (ranged (past-1 y))) (y .pass-one .result) (y .pass-one .ensures .0) (c .if3 .taken)
+
+slice-aggregate-first-joinable : tie.Need-slice-aggregate-first-joinable
+slice-aggregate-first-joinable c = search needs
 
 first-joinable-requires : tie.Need-first-joinable-requires
 first-joinable-requires c κs =
-    let x = c .before .before .before .before in
-    standing (store x) (at x .before .before .before .pre) (zeroth (at x)) (stands c)
+    let y = c .before .before .before in
+    let x = first y in
+    (standing (store x) (at x .before .before .before .pre) (zeroth (at x)) (stands (c .before)), hashed-all _ _ _ _ (y .pass-one .ensures .1) (c .before .if3 .left))
 
 returns-4 : tie.Need-returns-4
 returns-4 c =
-    let y = c .before .before in
-    let x = y .before .before .before .before in
-    bad-again S1024 fnv (store x) (at x .before .before .before .pre) (zeroth (at x)) (to-1 x (ranged (y .before .before .before))) (stands y) (c .before .first-joinable .result) (c .before .first-joinable .ensures) (c .if4 .taken)
+    let y = c .before .before .before in
+    let x = first (y .before .before) in
+    bad-again S1024 fnv (store x) (at x .before .before .before .pre) (zeroth (at x)) (to-1 x (ranged (past-1 (y .before .before)))) (stands y) (c .before .first-joinable .result) (c .before .first-joinable .ensures) (c .if4 .taken)
 
 deepest-requires : tie.Need-deepest-requires
 deepest-requires c κs =
-    let y = c .before .before in
-    let x = y .before .before .before .before in
+    let x = first (c .before .before .before .before .before) in
     let g = at x .before .before .before .pre in
     (omega (arith, g .whole), omega (arith, g .least))
 
@@ -130,17 +147,17 @@ cast-if5 c = search needs
 returns-5 : tie.Need-returns-5
 returns-5 c =
     let z = c .before .before in
-    let y = z .before .before in
-    let x = y .before .before .before .before in
-    bad-last S1024 fnv (store x) (at x .before .before .before .pre) (zeroth (at x)) (to-1 x (ranged (y .before .before .before))) (stands y) (parted z)
+    let y = z .before .before .before in
+    let x = first (y .before .before) in
+    bad-last S1024 fnv (store x) (at x .before .before .before .pre) (zeroth (at x)) (to-1 x (ranged (past-1 (y .before .before)))) (stands y) (parted z)
     (λ e. c .if5 .taken (c .before .deepest .ensures .0 ∙ sym e ∙ sym (x .before .before .before .before .before .before .get32 .ensures .0)))
 
 returns-6 : tie.Need-returns-6
 returns-6 c =
     let z = c .before .before in
-    let y = z .before .before in
-    let x = y .before .before .before .before in
-    all-sound S1024 fnv (store x) (at x .before .before .before .pre) (zeroth (at x)) (to-1 x (ranged (y .before .before .before))) (stands y) (parted z)
+    let y = z .before .before .before in
+    let x = first (y .before .before) in
+    all-sound S1024 fnv (store x) (at x .before .before .before .pre) (zeroth (at x)) (to-1 x (ranged (past-1 (y .before .before)))) (stands y) (parted z)
     (sym (x .before .before .before .before .before .before .get32 .ensures .0) ∙ sym (c .if5 .left) ∙ c .before .deepest .ensures .0)
 
 pub first-bad-spec : {M : Type 1} → statement M
@@ -158,9 +175,11 @@ first-bad-spec =
     two-to-requires
     ranges-requires
     returns-2
-    slice-aggregate-first-unsound
-    first-unsound-requires
+    slice-aggregate-pass-one
+    slice-aggregate-pass-one-2
+    pass-one-requires
     returns-3
+    slice-aggregate-first-joinable
     first-joinable-requires
     returns-4
     deepest-requires

@@ -2,11 +2,12 @@
 use borrow.Author.Count.{below-more}
 use borrow.Author.Tests.{not-true, not-false}
 use borrow.Author.Needs.{needs}
-use mathlib.Core.Path.{subst, _≡_, refl, _∙_}
+use mathlib.Core.Path.{_≡_, refl, sym, ap, subst, _∙_}
 use mathlib.Core.List.{List}
 use Prim.Native.Nat.{ℕ, _+_, _-_, _*_, _≤_, _<_}
 use native.Mathlib.Omega.{arith}
-use lib.ListN.{take, drop, length}
+use lib.ListN.{length, set, take, drop}
+use Rattle.ground.specs.Lists.{byte}
 use Rattle.ground.specs.Says.{Says}
 use Rattle.ground.proofs.Tests.{says-true, says-false}
 use Rattle.words.specs.Zeros.{Zero}
@@ -14,59 +15,118 @@ use Rattle.hash.specs.Fnv.{fnv}
 use Rattle.partition.specs.Bits.{top}
 use Rattle.page.specs.Page.{depth, code, count}
 use Rattle.store.specs.Accepted.{Stands}
-use Rattle.store.specs.Pages.{S1024}
+use Rattle.store.specs.Pages.{S1024, page}
 use Rattle.store.proofs.PageTies.{zeros}
 use Rattle.store.proofs.Views.{page-lent}
+use Rattle.reading.specs.First.{FirstBad}
 use Rattle.reading.specs.Directory.{Named}
 use Rattle.reading.specs.Begun.{Free, Own}
+use Rattle.reading.specs.Digest.{Hashed, firstOf}
+use Rattle.reading.proofs.Parting.{hashed-none, hashed-more, hashed-all, first-free, first-used}
 use Rattle.reading.proofs.Standing.{prefixOf, ends-bad, ends-fine, Like, free-stands, used-stands, stands-free, stands-own, stands-like, stands-named}
 use Rattle.reading.proofs.pages.first_unsound.Statement.{statement}
 use Rattle.reading.proofs.pages.first_unsound.Tie as tie
 
 abbrev Inv-slots : tie.InvT-slots
-Inv-slots s dir n d tab p a e pg k first count i₀ i = (1 ≤ i) × (i ≤ count) × ((j : ℕ) → j < i → Like pg j)
+Inv-slots s dir counts n d hashes tab p a e pg k first count i₀ i = (1 ≤ i) × (i ≤ count) × ((j : ℕ) → j < i → Like pg j)
 
 abbrev μ-slots : tie.MeasureT-slots
-μ-slots s dir n d tab p a e pg k first count i₀ i = count - i
+μ-slots s dir counts n d hashes tab p a e pg k first count i₀ i = count - i
 
 abbrev Inv-pages : tie.InvT-pages
-Inv-pages s dir n d tab₀ p₀ tab p = (length tab ≡ 1024) × Zero tab × (2 ≤ p) × (p ≤ n) × ((q : ℕ) → q < p → 2 ≤ q → Stands S1024 fnv s q)
+Inv-pages s dir counts n d hashes₀ tab₀ p₀ hashes tab p = (length tab ≡ 1024) × Zero tab × (2 ≤ p) × (p ≤ n) × ((q : ℕ) → q < p → 2 ≤ q → Stands S1024 fnv s q) × Hashed s p hashes
 
 abbrev μ-pages : tie.MeasureT-pages
-μ-pages s dir n d tab₀ p₀ tab p = n - p
+μ-pages s dir counts n d hashes₀ tab₀ p₀ hashes tab p = n - p
+
+-- the page that a turn looks at, as it is lent
+module _ (c : tie.Else1 Inv-slots μ-slots Inv-pages μ-pages) where
+  abbrev turn : tie.At-pages Inv-slots μ-slots Inv-pages μ-pages
+  turn = c .before
+
+  abbrev p-of : ℕ
+  p-of = turn .pages .p
+
+  abbrev start : tie.Start Inv-slots μ-slots Inv-pages μ-pages
+  start = turn .before .before .before .before .before
+
+  abbrev store : List ℕ
+  store = start .args .s .now
+
+  abbrev dir-of : List ℕ
+  dir-of = start .args .dir .now
+
+  abbrev counts-of : List ℕ
+  counts-of = start .args .counts .now
+
+  abbrev deep : ℕ
+  deep = start .args .d
+
+  abbrev pg-of : List ℕ
+  pg-of = take (p-of * 1024 + 1024 - p-of * 1024) (drop (p-of * 1024) store)
+
+  lent : pg-of ≡ page S1024 store p-of
+  lent = page-lent S1024 store p-of
+
+  in-range : p-of < 258
+  in-range = omega (arith, c .if1 .left, start .pre .0 .most)
+
+  -- it breaks its rule
+  ends : (Stands S1024 fnv store p-of → ⊥) → FirstBad (start .args .n) (Stands S1024 fnv store) p-of
+  ends bad = ends-bad _ _ p-of (turn .pages .inv .2) (turn .pages .inv .3) (turn .pages .inv .4) bad
+
+  -- it keeps it
+  goes : Stands S1024 fnv store p-of → (q : ℕ) → q < p-of + 1 → 2 ≤ q → Stands S1024 fnv store q
+  goes st = below-more (λ q. 2 ≤ q → Stands S1024 fnv store q) _ (turn .pages .inv .4) (λ _. st)
+
+  keeps : {x : ℕ} → x ≡ firstOf pg-of → Hashed store (p-of + 1) (set (turn .pages .hashes) p-of x)
+  keeps e = hashed-more store (turn .pages .inv .5) (turn .pages .inv .2) in-range (e ∙ ap firstOf lent)
+
+  fine-free : Free pg-of counts-of p-of → Stands S1024 fnv store p-of
+  fine-free = free-stands store dir-of counts-of (start .args .n) deep p-of (start .pre .0) (start .pre .1) (turn .pages .inv .2) (c .if1 .left) pg-of lent
+
+  fine-used : Own pg-of deep → ((i : ℕ) → i < count pg-of → Like pg-of i) → Named dir-of deep (depth pg-of) (prefixOf pg-of) p-of → Stands S1024 fnv store p-of
+  fine-used = used-stands store dir-of counts-of (start .args .n) deep p-of (start .pre .0) (start .pre .1) (turn .pages .inv .2) (c .if1 .left) pg-of lent
+
+  free-of : byte pg-of 0 ≡ 0 → Stands S1024 fnv store p-of → Free pg-of counts-of p-of
+  free-of = stands-free store dir-of counts-of (start .args .n) deep p-of (start .pre .0) (start .pre .1) (turn .pages .inv .2) (c .if1 .left) pg-of lent
+
+  module _ (nz : byte pg-of 0 ≡ 0 → ⊥) where
+    own-of : Stands S1024 fnv store p-of → Own pg-of deep
+    own-of = stands-own store dir-of counts-of (start .args .n) deep p-of (start .pre .0) (start .pre .1) (turn .pages .inv .2) (c .if1 .left) pg-of lent nz
+
+    like-of : Stands S1024 fnv store p-of → (i : ℕ) → i < count pg-of → Like pg-of i
+    like-of = stands-like store dir-of counts-of (start .args .n) deep p-of (start .pre .0) (start .pre .1) (turn .pages .inv .2) (c .if1 .left) pg-of lent nz
+
+    named-of : Stands S1024 fnv store p-of → Named dir-of deep (depth pg-of) (prefixOf pg-of) p-of
+    named-of = stands-named store dir-of counts-of (start .args .n) deep p-of (start .pre .0) (start .pre .1) (turn .pages .inv .2) (c .if1 .left) pg-of lent nz
 
 -- past the page's own rules
 abbrev Past : Type 0
 Past = tie.Else4 Inv-slots μ-slots Inv-pages μ-pages
 
--- page p as it is lent
-abbrev pg-of : Past → List ℕ
-pg-of c =
-    let p = c .before .before .before .before .before .before .before .before .pages .p in
-    take (p * 1024 + 1024 - p * 1024) (drop (p * 1024) (c .before .before .before .before .before .before .before .before .before .before .before .args .s .now))
+abbrev at : Past → tie.Else1 Inv-slots μ-slots Inv-pages μ-pages
+at c = c .before .before .before .before .before .before .before
 
-own : (c : Past) → Own (pg-of c) (c .before .before .before .before .before .before .before .before .before .before .before .args .d)
-own c = says-true {P = Own (pg-of c) (c .before .before .before .before .before .before .before .before .before .before .before .args .d)} (c .before .before .own-ok .result) (not-false _ (c .if4 .left)) (c .before .before .own-ok .ensures .0)
+own : (c : Past) → Own (pg-of (at c)) (deep (at c))
+own c = says-true {P = Own (pg-of (at c)) (deep (at c))} (c .before .before .own-ok .result) (not-false _ (c .if4 .left)) (c .before .before .own-ok .ensures .0)
 
 -- what the test of slot i says
-slot-said : (c : tie.After-shares Inv-slots μ-slots Inv-pages μ-pages) → let g = pg-of (c .before .before .before .before .before .before .before) in Says (c .shares .result) (Like g (c .before .before .before .slots .i))
+slot-said : (c : tie.After-shares Inv-slots μ-slots Inv-pages μ-pages) → let g = pg-of (at (c .before .before .before .before .before .before .before)) in Says (c .shares .result) (Like g (c .before .before .before .slots .i))
 slot-said c =
-    let g = pg-of (c .before .before .before .before .before .before .before) in
+    let g = pg-of (at (c .before .before .before .before .before .before .before)) in
     let k = depth g in
     subst (λ x. Says (c .shares .result) (top k (fnv (code g 0)) ≡ top k x)) (c .before .hash-slot2 .ensures)
     (subst (λ x. Says (c .shares .result) (top k x ≡ top k (c .before .hash-slot2 .result))) (c .before .before .before .before .before .hash-slot .ensures) (c .shares .ensures))
 
 -- and what that of the entries says
-name-said : (c : tie.After-named Inv-slots μ-slots Inv-pages μ-pages) → let x = c .before .before .before .before .before .before in let a = x .before .before .before .before .before .before .before .before .before .before .before .args in
-    Says (c .named .result) (Named (a .dir .now) (a .d) (depth (pg-of x)) (prefixOf (pg-of x)) (x .before .before .before .before .before .before .before .before .pages .p))
+name-said : (c : tie.After-named Inv-slots μ-slots Inv-pages μ-pages) → let x = at (c .before .before .before .before .before .before) in Says (c .named .result) (Named (dir-of x) (deep x) (depth (pg-of x)) (prefixOf (pg-of x)) (p-of x))
 name-said c =
-    let x = c .before .before .before .before .before .before in
-    let a = x .before .before .before .before .before .before .before .before .before .before .before .args in
-    subst (λ y. Says (c .named .result) (Named (a .dir .now) (a .d) (depth (pg-of x)) (top (depth (pg-of x)) y) (x .before .before .before .before .before .before .before .before .pages .p)))
-    (c .before .before .before .before .hash-slot .ensures) (c .named .ensures)
+    let x = at (c .before .before .before .before .before .before) in
+    subst (λ y. Says (c .named .result) (Named (dir-of x) (deep x) (depth (pg-of x)) (top (depth (pg-of x)) y) (p-of x))) (c .before .before .before .before .hash-slot .ensures) (c .named .ensures)
 
 pages-holds : tie.Need-pages-holds Inv-slots μ-slots Inv-pages μ-pages
-pages-holds c = (refl, zeros 1024, omega arith, omega (arith, c .before .before .pre .least), λ q l h. absurd (omega arith))
+pages-holds c = let a = c .before .before .before .before in (refl, zeros 1024, omega arith, omega (arith, a .pre .0 .least), (λ q l h. absurd (omega arith)), hashed-none _ _ (a .pre .2))
 
 mul-a : tie.Need-mul-a Inv-slots μ-slots Inv-pages μ-pages
 mul-a c = search needs
@@ -86,11 +146,14 @@ part-pg-end c = search needs
 shared-slice-read-if2 : tie.Need-shared-slice-read-if2 Inv-slots μ-slots Inv-pages μ-pages
 shared-slice-read-if2 c = search needs
 
-cast-free-ok : tie.Need-cast-free-ok Inv-slots μ-slots Inv-pages μ-pages
-cast-free-ok c = search needs
-
 free-ok-requires : tie.Need-free-ok-requires Inv-slots μ-slots Inv-pages μ-pages
-free-ok-requires c κs = search needs
+free-ok-requires c κs = omega (arith, in-range (c .before .before .before), start (c .before .before .before) .pre .1 .long)
+
+mul-hashes : tie.Need-mul-hashes Inv-slots μ-slots Inv-pages μ-pages
+mul-hashes c = search needs
+
+slice-write-hashes : tie.Need-slice-write-hashes Inv-slots μ-slots Inv-pages μ-pages
+slice-write-hashes c = let x = c .before .before .before .before .before in omega (arith, in-range x, turn x .pages .inv .5 .long)
 
 add-p : tie.Need-add-p Inv-slots μ-slots Inv-pages μ-pages
 add-p c = search needs
@@ -100,17 +163,14 @@ pages-less c = search needs
 
 pages-again : tie.Need-pages-again Inv-slots μ-slots Inv-pages μ-pages
 pages-again c =
-    let a = c .before .before .before .before .before .before .before .before .before in
-    let l = c .before .before .before .before .before .before .pages in
-    let s = a .args .s .now in
-    let g = take (l .p * 1024 + 1024 - l .p * 1024) (drop (l .p * 1024) s) in (
+    let x = c .before .before .before .before .before in
+    let l = turn x .pages in (
       l .inv .0,
       l .inv .1,
       omega arith,
       omega arith,
-      below-more (λ q. 2 ≤ q → Stands S1024 fnv s q) _ (l .inv .4)
-          (λ _. free-stands s (a .args .dir .now) (a .args .n) (a .args .d) (l .p) (a .pre) g (page-lent S1024 s (l .p))
-          (says-true {P = Free g (a .args .dir .now) (l .p)} (c .before .free-ok .result) (not-false _ (c .if3 .left)) (c .before .free-ok .ensures))),
+      goes x (fine-free x (says-true {P = Free (pg-of x) (counts-of x) (p-of x)} (c .before .free-ok .result) (not-false _ (c .if3 .left)) (c .before .free-ok .ensures))),
+      keeps x (sym (first-free (pg-of x) (c .before .before .if2 .taken))),
     )
 
 slice-aggregate-own-ok : tie.Need-slice-aggregate-own-ok Inv-slots μ-slots Inv-pages μ-pages
@@ -137,7 +197,7 @@ hash-slot-requires-2 c κs = (own (c .before .before .before .before .before) .r
 shares-requires : tie.Need-shares-requires Inv-slots μ-slots Inv-pages μ-pages
 shares-requires c κs =
     let x = c .before .before .before .before .before .before in
-    omega (arith, own x .deep, x .before .before .before .before .before .before .before .before .before .before .before .pre .deep)
+    omega (arith, own x .deep, start (at x) .pre .0 .deep)
 
 add-i : tie.Need-add-i Inv-slots μ-slots Inv-pages μ-pages
 add-i c = search needs
@@ -150,14 +210,14 @@ slots-again c =
     let x = c .before .before .before .before .before .before .before .before in (
       omega arith,
       omega arith,
-      below-more (Like (pg-of x)) _ (c .before .before .before .before .slots .inv .2)
-          (says-true {P = Like (pg-of x) (c .before .before .before .before .slots .i)} (c .before .shares .result) (not-false _ (c .if5 .left)) (slot-said (c .before))),
+      below-more (Like (pg-of (at x))) _ (c .before .before .before .before .slots .inv .2)
+          (says-true {P = Like (pg-of (at x)) (c .before .before .before .before .slots .i)} (c .before .shares .result) (not-false _ (c .if5 .left)) (slot-said (c .before))),
     )
 
 cast-named : tie.Need-cast-named Inv-slots μ-slots Inv-pages μ-pages
 cast-named c =
     let x = c .before .before .before .before .before in
-    record { fits = omega (arith, own x .deep, x .before .before .before .before .before .before .before .before .before .before .before .pre .deep) }
+    record { fits = omega (arith, own x .deep, start (at x) .pre .0 .deep) }
 
 cast-named-2 : tie.Need-cast-named-2 Inv-slots μ-slots Inv-pages μ-pages
 cast-named-2 c = search needs
@@ -165,8 +225,15 @@ cast-named-2 c = search needs
 named-requires : tie.Need-named-requires Inv-slots μ-slots Inv-pages μ-pages
 named-requires c κs =
     let x = c .before .before .before .before .before in
-    let b = x .before .before .before .before .before .before .before .before .before .before .before .pre in
-    (b .entries .long, b .deep, own x .deep, omega arith, b .beyond)
+    let a = start (at x) in
+    let b = a .pre .0 in
+    (b .entries .long, b .deep, own x .deep, omega arith, in-range (at x), b .beyond, a .pre .1)
+
+mul-hashes-2 : tie.Need-mul-hashes-2 Inv-slots μ-slots Inv-pages μ-pages
+mul-hashes-2 c = search needs
+
+slice-write-hashes-2 : tie.Need-slice-write-hashes-2 Inv-slots μ-slots Inv-pages μ-pages
+slice-write-hashes-2 c = let x = at (c .before .before .before .before .before .before .before) in omega (arith, in-range x, turn x .pages .inv .5 .long)
 
 add-p-2 : tie.Need-add-p-2 Inv-slots μ-slots Inv-pages μ-pages
 add-p-2 c = search needs
@@ -176,63 +243,65 @@ pages-less-2 c = search needs
 
 pages-again-2 : tie.Need-pages-again-2 Inv-slots μ-slots Inv-pages μ-pages
 pages-again-2 c =
-    let x = c .before .before .before .before .before .before .before in
-    let a = x .before .before .before .before .before .before .before .before .before .before .before in
-    let l = x .before .before .before .before .before .before .before .before .pages in
-    let s = a .args .s .now in (
-      x .before .before .own-ok .kept .1 .0 ∙ l .inv .0,
-      x .before .before .own-ok .ensures .1,
+    let y = c .before .before .before .before .before .before .before in
+    let x = at y in
+    let l = turn x .pages in (
+      y .before .before .own-ok .kept .1 .0 ∙ l .inv .0,
+      y .before .before .own-ok .ensures .1,
       omega arith,
       omega arith,
-      below-more (λ q. 2 ≤ q → Stands S1024 fnv s q) _ (l .inv .4)
-          (λ _. used-stands s (a .args .dir .now) (a .args .n) (a .args .d) (l .p) (a .pre) (pg-of x) (page-lent S1024 s (l .p)) (own x)
+      goes x (fine-used x (own y)
           (λ i m. c .before .before .before .slots .inv .2 i (omega (arith, c .before .before .slots-test .left, c .before .before .before .before .get16 .ensures .0)))
-          (says-true {P = Named (a .args .dir .now) (a .args .d) (depth (pg-of x)) (prefixOf (pg-of x)) (l .p)} (c .before .named .result) (not-false _ (c .if6 .left)) (name-said (c .before)))),
+          (says-true {P = Named (dir-of x) (deep x) (depth (pg-of x)) (prefixOf (pg-of x)) (p-of x)} (c .before .named .result) (not-false _ (c .if6 .left)) (name-said (c .before)))),
+      keeps x (c .before .before .before .before .before .hash-slot .ensures ∙ sym (first-used (pg-of x) (y .before .before .before .before .if2 .left))),
     )
 
+same-length : tie.Need-same-length Inv-slots μ-slots Inv-pages μ-pages
+same-length c = let t = c .before in t .pages .inv .5 .long ∙ sym (t .before .before .before .before .before .pre .2)
+
 returns : tie.Need-returns Inv-slots μ-slots Inv-pages μ-pages
-returns c = let l = c .before .pages in ends-fine _ _ (l .p) (l .inv .2) (l .inv .3) (c .if1 .taken) (l .inv .4)
+returns c = let l = c .before .pages in (ends-fine _ _ (l .p) (l .inv .2) (l .inv .3) (c .if1 .taken) (l .inv .4), hashed-all _ _ _ (l .p) (l .inv .5) (c .if1 .taken))
+
+same-length-2 : tie.Need-same-length-2 Inv-slots μ-slots Inv-pages μ-pages
+same-length-2 c = let t = turn (c .before .before .before .before .before) in t .pages .inv .5 .long ∙ sym (t .before .before .before .before .before .pre .2)
 
 returns-2 : tie.Need-returns-2 Inv-slots μ-slots Inv-pages μ-pages
 returns-2 c =
-    let a = c .before .before .before .before .before .before .before .before .before in
-    let l = c .before .before .before .before .before .before .pages in
-    let s = a .args .s .now in
-    let g = take (l .p * 1024 + 1024 - l .p * 1024) (drop (l .p * 1024) s) in
-    ends-bad _ _ (l .p) (l .inv .2) (l .inv .3) (l .inv .4)
-    (λ st. says-false {P = Free g (a .args .dir .now) (l .p)} (c .before .free-ok .result) (not-true _ (c .if3 .taken)) (c .before .free-ok .ensures)
-    (stands-free s (a .args .dir .now) (a .args .n) (a .args .d) (l .p) (a .pre) g (page-lent S1024 s (l .p)) (c .before .before .if2 .taken) st))
+    let x = c .before .before .before .before .before in
+    (ends x (λ st. says-false {P = Free (pg-of x) (counts-of x) (p-of x)} (c .before .free-ok .result) (not-true _ (c .if3 .taken)) (c .before .free-ok .ensures) (free-of x (c .before .before .if2 .taken) st)), turn x .pages .inv .5)
+
+same-length-3 : tie.Need-same-length-3 Inv-slots μ-slots Inv-pages μ-pages
+same-length-3 c = let t = turn (c .before .before .before .before .before .before .before) in t .pages .inv .5 .long ∙ sym (t .before .before .before .before .before .pre .2)
 
 returns-3 : tie.Need-returns-3 Inv-slots μ-slots Inv-pages μ-pages
 returns-3 c =
-    let a = c .before .before .before .before .before .before .before .before .before .before .before in
-    let l = c .before .before .before .before .before .before .before .before .pages in
-    let s = a .args .s .now in
-    let g = take (l .p * 1024 + 1024 - l .p * 1024) (drop (l .p * 1024) s) in
-    ends-bad _ _ (l .p) (l .inv .2) (l .inv .3) (l .inv .4)
-    (λ st. says-false {P = Own g (a .args .d)} (c .before .before .own-ok .result) (not-true _ (c .if4 .taken)) (c .before .before .own-ok .ensures .0)
-    (stands-own s (a .args .dir .now) (a .args .n) (a .args .d) (l .p) (a .pre) g (page-lent S1024 s (l .p)) (c .before .before .before .before .if2 .left) st))
+    let x = c .before .before .before .before .before .before .before in
+    (ends x (λ st. says-false {P = Own (pg-of x) (deep x)} (c .before .before .own-ok .result) (not-true _ (c .if4 .taken)) (c .before .before .own-ok .ensures .0) (own-of x (c .before .before .before .before .if2 .left) st)), turn x .pages .inv .5)
+
+same-length-4 : tie.Need-same-length-4 Inv-slots μ-slots Inv-pages μ-pages
+same-length-4 c = let t = turn (at (c .before .before .before .before .before .before .before .before)) in t .pages .inv .5 .long ∙ sym (t .before .before .before .before .before .pre .2)
 
 returns-4 : tie.Need-returns-4 Inv-slots μ-slots Inv-pages μ-pages
 returns-4 c =
-    let x = c .before .before .before .before .before .before .before .before in
-    let a = x .before .before .before .before .before .before .before .before .before .before .before in
-    let l = x .before .before .before .before .before .before .before .before .pages in
-    let s = a .args .s .now in
-    ends-bad _ _ (l .p) (l .inv .2) (l .inv .3) (l .inv .4)
-    (λ st. says-false {P = Like (pg-of x) (c .before .before .before .before .slots .i)} (c .before .shares .result) (not-true _ (c .if5 .taken)) (slot-said (c .before))
-    (stands-like s (a .args .dir .now) (a .args .n) (a .args .d) (l .p) (a .pre) (pg-of x) (page-lent S1024 s (l .p)) (x .before .before .before .before .if2 .left) st (c .before .before .before .before .slots .i)
-    (omega (arith, c .before .before .before .before .before .get16 .ensures .0))))
+    let y = c .before .before .before .before .before .before .before .before in
+    let x = at y in
+    let i = c .before .before .before .before .slots .i in (
+      ends x (λ st. says-false {P = Like (pg-of x) i} (c .before .shares .result) (not-true _ (c .if5 .taken)) (slot-said (c .before))
+          (like-of x (y .before .before .before .before .if2 .left) st i (omega (arith, c .before .before .before .before .before .get16 .ensures .0)))),
+      turn x .pages .inv .5,
+    )
+
+same-length-5 : tie.Need-same-length-5 Inv-slots μ-slots Inv-pages μ-pages
+same-length-5 c = let t = turn (at (c .before .before .before .before .before .before .before)) in t .pages .inv .5 .long ∙ sym (t .before .before .before .before .before .pre .2)
 
 returns-5 : tie.Need-returns-5 Inv-slots μ-slots Inv-pages μ-pages
 returns-5 c =
-    let x = c .before .before .before .before .before .before .before in
-    let a = x .before .before .before .before .before .before .before .before .before .before .before in
-    let l = x .before .before .before .before .before .before .before .before .pages in
-    let s = a .args .s .now in
-    ends-bad _ _ (l .p) (l .inv .2) (l .inv .3) (l .inv .4)
-    (λ st. says-false {P = Named (a .args .dir .now) (a .args .d) (depth (pg-of x)) (prefixOf (pg-of x)) (l .p)} (c .before .named .result) (not-true _ (c .if6 .taken)) (name-said (c .before))
-    (stands-named s (a .args .dir .now) (a .args .n) (a .args .d) (l .p) (a .pre) (pg-of x) (page-lent S1024 s (l .p)) (x .before .before .before .before .if2 .left) st))
+    let y = c .before .before .before .before .before .before .before in
+    let x = at y in (
+      ends x (λ st. says-false {P = Named (dir-of x) (deep x) (depth (pg-of x)) (prefixOf (pg-of x)) (p-of x)} (c .before .named .result) (not-true _ (c .if6 .taken)) (name-said (c .before))
+          (named-of x (y .before .before .before .before .if2 .left) st)),
+      turn x .pages .inv .5,
+    )
 
 pub first-unsound-spec : {M : Type 1} → statement M
 first-unsound-spec =
@@ -249,8 +318,9 @@ first-unsound-spec =
     part-pg-start
     part-pg-end
     shared-slice-read-if2
-    cast-free-ok
     free-ok-requires
+    mul-hashes
+    slice-write-hashes
     add-p
     pages-less
     pages-again
@@ -268,11 +338,18 @@ first-unsound-spec =
     cast-named
     cast-named-2
     named-requires
+    mul-hashes-2
+    slice-write-hashes-2
     add-p-2
     pages-less-2
     pages-again-2
+    same-length
     returns
+    same-length-2
     returns-2
+    same-length-3
     returns-3
+    same-length-4
     returns-4
+    same-length-5
     returns-5)

@@ -2,47 +2,61 @@
 use borrow.Author.Tests.{not-true, not-false}
 use borrow.Author.Count.{below-more}
 use borrow.Author.Needs.{needs}
+use mathlib.Core.Path.{refl, subst}
 use Prim.Native.Nat.{ℕ, _≤_, _<_, _-_}
 use native.Mathlib.Omega.{arith}
 use Rattle.ground.proofs.Tests.{says-true, says-false}
 use Rattle.hash.specs.Fnv.{fnv}
 use Rattle.store.specs.Accepted.{Parted}
-use Rattle.store.specs.Pages.{S1024}
+use Rattle.store.specs.Pages.{S1024, pages}
+use Rattle.store.proofs.PageTies.{zeros}
+use Rattle.reading.specs.Begun.{Standing}
+use Rattle.reading.specs.Digest.{Digest}
+use Rattle.reading.proofs.Parting.{cells-fit, digested}
 use Rattle.reading.proofs.Standing.{ends-bad, ends-fine}
 use Rattle.reading.proofs.parted.first_joinable.Statement.{statement}
 use Rattle.reading.proofs.parted.first_joinable.Tie as tie
 
 abbrev Inv-loop : tie.InvT-loop
-Inv-loop s n tops loads p₀ p = (2 ≤ p) × (p ≤ n) × ((q : ℕ) → q < p → 2 ≤ q → Parted S1024 fnv s q)
+Inv-loop s n hashes sums p₀ p = (2 ≤ p) × (p ≤ n) × ((q : ℕ) → q < p → 2 ≤ q → Parted S1024 fnv s q) × Digest s (pages S1024 s) hashes sums
 
 abbrev μ-loop : tie.MeasureT-loop
-μ-loop s n tops loads p₀ p = n - p
+μ-loop s n hashes sums p₀ p = n - p
+
+abbrev start : tie.At-loop Inv-loop μ-loop → tie.Start Inv-loop μ-loop
+start c = c .before .before .before .before .before .before .before .before .before
 
 slice-aggregate-digest : tie.Need-slice-aggregate-digest Inv-loop μ-loop
 slice-aggregate-digest c = search needs
 
-slice-aggregate-digest-2 : tie.Need-slice-aggregate-digest-2 Inv-loop μ-loop
-slice-aggregate-digest-2 c = search needs
-
 digest-requires : tie.Need-digest-requires Inv-loop μ-loop
-digest-requires c κs = search needs
+digest-requires c κs = let a = c .before .before .before in (a .pre .0, a .pre .1, refl, zeros 257)
+
+slice-aggregate-add-up : tie.Need-slice-aggregate-add-up Inv-loop μ-loop
+slice-aggregate-add-up c = search needs
+
+add-up-requires : tie.Need-add-up-requires Inv-loop μ-loop
+add-up-requires c κs = let x = c .before .before in cells-fit _ _ (x .before .before .before .before .pre .0) _ (x .digest .ensures)
 
 loop-holds : tie.Need-loop-holds Inv-loop μ-loop
-loop-holds c = search needs
+loop-holds c =
+    let x = c .before .before .before .before in
+    let a = x .before .before .before .before in
+    (omega arith, omega (arith, a .pre .0 .least), (λ q l h. absurd (omega arith)), digested _ _ (a .pre .0) _ (x .digest .ensures) _ _ (a .pre .1) (c .before .add-up .ensures))
 
 slice-aggregate-parted-ok : tie.Need-slice-aggregate-parted-ok Inv-loop μ-loop
 slice-aggregate-parted-ok c = search needs
 
-slice-aggregate-parted-ok-2 : tie.Need-slice-aggregate-parted-ok-2 Inv-loop μ-loop
-slice-aggregate-parted-ok-2 c = search needs
-
 parted-ok-requires : tie.Need-parted-ok-requires Inv-loop μ-loop
-parted-ok-requires c κs = search needs
+parted-ok-requires c κs =
+    let t = c .before .before in
+    let a = start t in
+    (subst (λ m. Standing (a .args .s .now) m) (a .pre .0 .number) (a .pre .0), t .loop .inv .3, t .loop .inv .0, omega (arith, a .pre .0 .number, c .before .loop-test .taken))
 
 returns : tie.Need-returns Inv-loop μ-loop
 returns c =
-    let l = c .before .before .before .before .before .loop in
-    let s = c .before .before .before .before .before .before .before .before .before .before .before .before .args .s .now in
+    let l = c .before .before .before .before .loop in
+    let s = start (c .before .before .before .before) .args .s .now in
     ends-bad _ (Parted S1024 fnv s) (l .p) (l .inv .0) (l .inv .1) (l .inv .2) (says-false {P = Parted S1024 fnv s (l .p)} (c .before .parted-ok .result) (not-true _ (c .if1 .taken)) (c .before .parted-ok .ensures))
 
 add-p : tie.Need-add-p Inv-loop μ-loop
@@ -53,15 +67,16 @@ loop-less c = search needs
 
 loop-again : tie.Need-loop-again Inv-loop μ-loop
 loop-again c =
-    let l = c .before .before .before .before .before .loop in
-    let s = c .before .before .before .before .before .before .before .before .before .before .before .before .args .s .now in (
+    let l = c .before .before .before .before .loop in
+    let s = start (c .before .before .before .before) .args .s .now in (
       omega arith,
       omega arith,
       below-more (λ q. 2 ≤ q → Parted S1024 fnv s q) _ (l .inv .2) (λ _. says-true {P = Parted S1024 fnv s (l .p)} (c .before .parted-ok .result) (not-false _ (c .if1 .left)) (c .before .parted-ok .ensures)),
+      l .inv .3,
     )
 
 returns-2 : tie.Need-returns-2 Inv-loop μ-loop
-returns-2 c = let l = c .before .loop in ends-fine _ (Parted S1024 fnv (c .before .before .before .before .before .before .before .before .args .s .now)) (l .p) (l .inv .0) (l .inv .1) (c .loop-test .left) (l .inv .2)
+returns-2 c = let l = c .before .loop in ends-fine _ (Parted S1024 fnv (start (c .before) .args .s .now)) (l .p) (l .inv .0) (l .inv .1) (c .loop-test .left) (l .inv .2)
 
 pub first-joinable-spec : {M : Type 1} → statement M
 first-joinable-spec =
@@ -70,11 +85,11 @@ first-joinable-spec =
     Inv-loop
     μ-loop
     slice-aggregate-digest
-    slice-aggregate-digest-2
     digest-requires
+    slice-aggregate-add-up
+    add-up-requires
     loop-holds
     slice-aggregate-parted-ok
-    slice-aggregate-parted-ok-2
     parted-ok-requires
     returns
     add-p

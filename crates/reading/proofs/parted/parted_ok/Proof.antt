@@ -1,15 +1,46 @@
 -- `reading::parted::parted_ok` meets its contract. Assumes nothing.
 use borrow.Author.Needs.{needs}
-use mathlib.Core.Path.{sym, _∙_}
-use Prim.Native.Nat.{_+_, _*_, _-_}
+use mathlib.Core.Path.{_≡_, _∙_}
+use mathlib.Core.List.{List}
+use mathlib.Core.Logic.{_↔_}
+use Prim.Native.Nat.{ℕ, suc, _+_, _*_, _-_, _≤_, _<_}
 use native.Mathlib.Omega.{arith}
+use lib.ListN.{getD}
 use Rattle.ground.specs.Lists.{byte}
 use Rattle.ground.proofs.Tests.{says-ltb}
-use Rattle.store.specs.Pages.{S1024}
+use Rattle.hash.specs.Fnv.{fnv}
+use Rattle.page.specs.Page.{depth}
+use Rattle.store.specs.Accepted.{Parted}
+use Rattle.store.specs.Pages.{S1024, page, pages}
 use Rattle.store.proofs.Depths.{page-byte}
-use Rattle.reading.proofs.Parting.{depth-most, parted-flat, parted-by}
+use Rattle.reading.proofs.Parting.{depth-most, parted-flat, sums-rise, parted-by}
 use Rattle.reading.proofs.parted.parted_ok.Statement.{statement}
 use Rattle.reading.proofs.parted.parted_ok.Tie as tie
+
+-- the run of the prefix one bit shorter
+module _ (c : tie.After-run-of) where
+  abbrev start : tie.Start
+  start = c .before .before .before .before .before .before .before
+
+  abbrev store : List ℕ
+  store = start .args .s .now
+
+  abbrev sums : List ℕ
+  sums = start .args .sums .now
+
+  shorter : suc (byte store (start .args .p * 1024 + 1) - 1) ≡ depth (page S1024 store (start .args .p))
+  shorter = omega (arith, c .before .before .if1 .left, page-byte S1024 store (start .args .p) 1 (omega arith))
+
+  within : c .run-of .result .to ≤ 256
+  within = omega (arith, c .run-of .ensures .3)
+
+  rise : getD sums (c .run-of .result .from) 0 ≤ getD sums (c .run-of .result .to) 0
+  rise = sums-rise store (pages S1024 store) (start .pre .0) (start .args .p) (start .pre .2) (start .pre .3) (start .args .hashes .now) sums (start .pre .1)
+      (c .run-of .result .from) (c .run-of .result .to) _ shorter (c .run-of .ensures .0) (c .run-of .ensures .1) within (c .run-of .ensures .2)
+
+  rule : (1016 < getD sums (c .run-of .result .to) 0 - getD sums (c .run-of .result .from) 0) ↔ Parted S1024 fnv store (start .args .p)
+  rule = parted-by store (pages S1024 store) (start .pre .0) (start .args .p) (start .pre .2) (start .pre .3) (start .args .hashes .now) sums (start .pre .1)
+      (c .run-of .result .from) (c .run-of .result .to) _ shorter (c .run-of .ensures .0) (c .run-of .ensures .1) within (c .run-of .ensures .2)
 
 mul-d : tie.Need-mul-d
 mul-d c = search needs
@@ -21,36 +52,41 @@ shared-slice-read-d : tie.Need-shared-slice-read-d
 shared-slice-read-d c = search needs
 
 cast-d : tie.Need-cast-d
-cast-d c = let a = c .before .before .before .before in record { fits = omega (arith, depth-most (a .args .s .now) (a .args .n) (a .args .p) (a .pre .0) (a .pre .2) (a .pre .3)) }
+cast-d c = let a = c .before .before .before .before in record { fits = omega (arith, depth-most (a .args .s .now) _ (a .args .p) (a .pre .0) (a .pre .2) (a .pre .3)) }
 
 returns : tie.Need-returns
 returns c = let a = c .before .before .before .before .before in
-    parted-flat (a .args .s .now) (a .args .tops .now) (a .args .loads .now) (a .args .n) (a .pre .0) (a .pre .1) (a .args .p) (a .pre .2) (a .pre .3) (page-byte S1024 (a .args .s .now) (a .args .p) 1 (omega arith) ∙ c .if1 .taken)
+    parted-flat (a .args .s .now) _ (a .pre .0) (a .args .p) (a .pre .2) (a .pre .3) (page-byte S1024 (a .args .s .now) (a .args .p) 1 (omega arith) ∙ c .if1 .taken)
 
-sub-k : tie.Need-sub-k
-sub-k c = let a = c .before .before .before .before .before in omega (arith, depth-most (a .args .s .now) (a .args .n) (a .args .p) (a .pre .0) (a .pre .2) (a .pre .3))
+mul-run-of : tie.Need-mul-run-of
+mul-run-of c = search needs
 
-mul-load-of : tie.Need-mul-load-of
-mul-load-of c = search needs
+shared-slice-read-run-of : tie.Need-shared-slice-read-run-of
+shared-slice-read-run-of c = let a = c .before .before .before .before .before .before in omega (arith, a .pre .3, a .pre .0 .most, a .pre .1 .hashed .long)
 
-shared-slice-read-load-of : tie.Need-shared-slice-read-load-of
-shared-slice-read-load-of c = search needs
+sub-run-of : tie.Need-sub-run-of
+sub-run-of c = search needs
 
-shr-load-of : tie.Need-shr-load-of
-shr-load-of c = search needs
+run-of-requires : tie.Need-run-of-requires
+run-of-requires c κs = let a = c .before .before .before .before .before .before in (omega (arith, depth-most (a .args .s .now) _ (a .args .p) (a .pre .0) (a .pre .2) (a .pre .3)), omega arith)
 
-load-of-requires : tie.Need-load-of-requires
-load-of-requires c κs = let a = c .before .before .before .before .before .before in
-    let D = a .pre .1 in
-    let T = a .pre .0 in
-    (omega (arith, D .top-long, T .most), record { long = omega (arith, D .load-long, T .most); each = λ i l m. D .loaded i l m .1 }, omega (arith, T .least), T .most, omega (arith, c .before .if1 .left))
+mul-result : tie.Need-mul-result
+mul-result c = search needs
+
+shared-slice-read-result : tie.Need-shared-slice-read-result
+shared-slice-read-result c = omega (arith, within (c .before), start (c .before) .pre .1 .long)
+
+mul-result-2 : tie.Need-mul-result-2
+mul-result-2 c = search needs
+
+shared-slice-read-result-2 : tie.Need-shared-slice-read-result-2
+shared-slice-read-result-2 c = omega (arith, within (c .before .before), c .before .before .run-of .ensures .2, start (c .before .before) .pre .1 .long)
+
+sub-result : tie.Need-sub-result
+sub-result c = rise (c .before .before)
 
 returns-2 : tie.Need-returns-2
-returns-2 c = let a = c .before .before .before .before .before .before .before in
-    let s = a .args .s .now in
-    let d = byte s (a .args .p * 1024 + 1) in
-    let y = parted-by s (a .args .tops .now) (a .args .loads .now) (a .args .n) (a .pre .0) (a .pre .1) (a .args .p) (a .pre .2) (a .pre .3) d (9 - d) (c .load-of .result) (sym (page-byte S1024 s (a .args .p) 1 (omega arith))) (c .before .before .if1 .left) (omega arith) (c .load-of .ensures) in
-    says-ltb 1016 (c .load-of .result) (y .0) (y .1)
+returns-2 c = says-ltb 1016 _ (rule (c .before .before) .0) (rule (c .before .before) .1)
 
 pub parted-ok-spec : {M : Type 1} → statement M
 parted-ok-spec =
@@ -61,9 +97,13 @@ parted-ok-spec =
     shared-slice-read-d
     cast-d
     returns
-    sub-k
-    mul-load-of
-    shared-slice-read-load-of
-    shr-load-of
-    load-of-requires
+    mul-run-of
+    shared-slice-read-run-of
+    sub-run-of
+    run-of-requires
+    mul-result
+    shared-slice-read-result
+    mul-result-2
+    shared-slice-read-result-2
+    sub-result
     returns-2)
