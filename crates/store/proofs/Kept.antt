@@ -1,4 +1,4 @@
--- Demand 1 of the tables, and those of demand 2's statements that the tables alone give. Assumes nothing.
+-- A refused call keeps every byte, and those of demand 2's statements that the tables alone give. Assumes nothing.
 use mathlib.Core.Path.{_≡_, refl, sym, ap, _∙_}
 use mathlib.Core.Bool.{true, false, true≢false}
 use mathlib.Core.List.{List}
@@ -15,7 +15,7 @@ use Rattle.store.specs.Pages.{Page}
 use Rattle.store.specs.Accepted.{Accepted}
 use Rattle.page.specs.Places.{place, stored}
 use Rattle.store.specs.Tables.{Out, refused, refusedAt, accepted, Becomes, formatTable, checkTable, lookupTable, putTable, removeTable, rowTable, inspectTable, Refusal3}
-use Rattle.store.specs.Demands.{format, check, count, lookup, remove, put, rowAt, inspect, Made, ok, RefusalKeeps, OutputKept, Demand1, GoodCode, CheckExact, LookupIsMap, Refuses, PutRefused, AcceptedAgain, map-of, answerOf}
+use Rattle.store.specs.Demands.{format, check, count, lookup, remove, put, rowAt, inspect, Made, ok, RefusalKeeps, OutputKept, GoodCode, CheckExact, LookupIsMap, Refuses, PutRefused, AcceptedAgain, map-of, answerOf}
 use Rattle.ground.proofs.Sides.{side}
 use Rattle.ground.proofs.Ladders.{each}
 use Rattle.store.proofs.Rules.{accepted-whole}
@@ -81,9 +81,6 @@ module _ (S : Shape) (h : List ℕ → ℕ) where
   pub output-kept : OutputKept S h
   output-kept s n out o out′ (inl m) = row-keeps-out s n out (o, out′) m
   output-kept s n out o out′ (inr m) = inspect-keeps-out s n out (o, out′) m
-
-pub demand-1 : Demand1
-demand-1 S h = (refusal-keeps S h, output-kept S h)
 
 -- ---- demand 2
 
