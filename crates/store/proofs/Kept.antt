@@ -126,16 +126,13 @@ module _ (S : Shape) (h : List ℕ → ℕ) where
 
   pub lookup-is-map : LookupIsMap S h
   unfolding lookupTable
-  lookup-is-map s c o t a m = each (λ o. (GoodCode c → o ≡ answerOf (map-of S s c)) × ((GoodCode c → ⊥) → o ≡ refused 3)) (lookupTable S h s c) (
+  lookup-is-map s c o t a m g = each (λ o. o ≡ answerOf (map-of S s c)) (lookupTable S h s c) (
     (λ _ r. absurd (r (a .long))),
     (λ _. (
-      (λ _ r o f. ((λ g. absurd (no-three c g r)), (λ _. f))),
-      (λ n3. (
+      (λ _ r. absurd (no-three c g r)),
+      (λ _. (
         (λ p b. absurd (accepted-whole S h s a p b)),
-        (λ _ _. (
-          (λ b e o f. ((λ _. f ∙ ap answerOf (sym e)), (λ g. absurd (n3 tt (three c g))))),
-          (λ n o f. ((λ _. f ∙ ap answerOf (sym (nothing-there (map-of S s c) n))), (λ g. absurd (n3 tt (three c g))))),
-        )),
+        (λ _ _. ((λ b e o f. f ∙ ap answerOf (sym e)), (λ n o f. f ∙ ap answerOf (sym (nothing-there (map-of S s c) n))))),
       )),
     )),
   ) o (m .0)

@@ -4,7 +4,7 @@ use mathlib.Core.Path.{_≡_, refl, sym, ap, subst, _∙_}
 use mathlib.Core.Bool.{Bool, true, false, _||_, true≢false}
 use mathlib.Core.List.{List}
 use mathlib.Core.Logic.{inl, inr, ⊎-elim}
-use Prim.Native.Nat.{ℕ, zero, _/_, _≤_, _<_}
+use Prim.Native.Nat.{ℕ, _/_}
 use native.Mathlib.Nat.{mul-div-cancel, mul-mod-left, div-add-mod'}
 use native.Mathlib.Omega.{arith}
 use lib.Dec.{eqb}
@@ -16,7 +16,7 @@ use Rattle.partition.specs.declared.Shape.{Shape}
 use Rattle.store.specs.Pages.{size, pages}
 use Rattle.store.specs.Accepted.{GoodLength, Broken}
 use Rattle.store.specs.Tables.{Out, refused, refusedAt, formatted, accepted, new, replaced, found, counted, row, Refusal1, Refusal3, PageKeeps, formatTable, checkTable, countTable, lookupTable, putTable, removeTable, rowTable, inspectTable}
-use Rattle.store.specs.Demands.{format, check, count, lookup, remove, put, rowAt, inspect, Made, GoodCode, WholePages, StopsAt, NoPage, Faults, faults, ExactlyWhen, RefusedInOrder, FormatSucceeds}
+use Rattle.store.specs.Demands.{format, check, count, lookup, remove, put, rowAt, inspect, GoodCode, WholePages, StopsAt, NoPage, Faults, faults, ExactlyWhen, RefusedInOrder, FormatSucceeds}
 use Rattle.store.proofs.Rules.{broken-one, broken-stops, stops-broken}
 use Rattle.store.proofs.Kept.{no-three, three}
 

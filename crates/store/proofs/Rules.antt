@@ -165,9 +165,9 @@ module _ (S : Shape) (h : List ℕ → ℕ) (s : List ℕ) where
       upper z f a = ⊎-elim
           (λ w. standing z f p (w .0) (w .1) (w .2) (w .3))
           (λ w. ⊎-elim
-              (λ v. joinable z f (w .0) p (v .0) (v .1) (v .2) (v .3))
-              (λ v. ⊎-elim (λ u. at (u .1) (depth-last z f (w .0) (v .0) (u .0))) (λ u. absurd (u .1)) (v .1))
-              (stops-up (pages S s) (Parted S h s) end p (w .1)))
+          (λ v. joinable z f (w .0) p (v .0) (v .1) (v .2) (v .3))
+          (λ v. ⊎-elim (λ u. at (u .1) (depth-last z f (w .0) (v .0) (u .0))) (λ u. absurd (u .1)) (v .1))
+          (stops-up (pages S s) (Parted S h s) end p (w .1)))
           (stops-up (pages S s) (Stands S h s) again p a)
 
   pub stops-broken : {p : ℕ} → StopsAt S h s p → Broken S h s p

@@ -5,7 +5,7 @@ use mathlib.Core.Bool.{Bool, true, false}
 use mathlib.Core.List.{List, [], _∷_, map}
 use mathlib.Core.Logic.{_↔_, _⊎_}
 use mathlib.Core.Option.{Option, some, none}
-use Prim.Native.Nat.{ℕ, zero, suc, _+_, _-_, _*_, _^_, _≤_, _<_}
+use Prim.Native.Nat.{ℕ, zero, suc, _+_, _*_, _^_, _≤_, _<_}
 use lib.ListN.{length, getElem?}
 use Rattle.ground.specs.Lists.{byte, tab}
 use Rattle.page.specs.Page.{Record, depth, rows}
@@ -17,7 +17,7 @@ use Rattle.ground.specs.Ladder.{Answers}
 use Rattle.words.specs.Codes.{order}
 use Rattle.partition.specs.Listing.{by, without, inOrder, listing, placeOf, Once}
 use Rattle.store.specs.Pages.{S1024, size, pages, page, Page, free, bucket, read, asRow, rowsHeld, dirDepth, entryAt}
-use Rattle.store.specs.Accepted.{GoodLength, Zero, Bucket, Page0, Page1, Stands, Parted, Deepest, Accepted}
+use Rattle.store.specs.Accepted.{Zero, Bucket, Page0, Page1, Stands, Parted, Deepest, Accepted}
 use Rattle.store.specs.Moves.{pick}
 use Rattle.page.specs.Places.{place, stored, Negative, InRange}
 use Rattle.store.specs.Tables.{Out, refused, refusedAt, formatted, accepted, new, replaced, found, counted, row, Refusal4, Refusal6, Refusal7, formatTable, checkTable, countTable, lookupTable, putTable, removeTable, rowTable, inspectTable}
@@ -170,10 +170,9 @@ module _ (S : Shape) (h : List ℕ → ℕ) where
   abbrev pub CheckExact : Type 0
   CheckExact = (s : List ℕ) → (Made S h check s accepted s ↔ Accepted S h s)
 
-  -- lookup answers the map's place, 5 where there is none; 3 exactly for what is no code
+  -- lookup answers the map's place, 5 where there is none
   abbrev pub LookupIsMap : Type 0
-  LookupIsMap = (s c : List ℕ) (o : Out) (t : List ℕ) → Accepted S h s → Made S h (lookup c) s o t
-      → (GoodCode c → o ≡ answerOf (map-of S s c)) × ((GoodCode c → ⊥) → o ≡ refused 3)
+  LookupIsMap = (s c : List ℕ) (o : Out) (t : List ℕ) → Accepted S h s → Made S h (lookup c) s o t → GoodCode c → o ≡ answerOf (map-of S s c)
 
   -- a put that is not refused sets its code, one that is changes nothing
   abbrev pub PutIsMap : Type 0
@@ -183,9 +182,8 @@ module _ (S : Shape) (h : List ℕ → ℕ) where
 
   -- remove answers as lookup does, and the map afterwards is the map without the code
   abbrev pub RemoveIsMap : Type 0
-  RemoveIsMap = (s c : List ℕ) (o : Out) (t : List ℕ) → Accepted S h s → Made S h (remove c) s o t
-      → (GoodCode c → (o ≡ answerOf (map-of S s c)) × ((x : List ℕ) → map-of S t x ≡ update (map-of S s) c none x))
-      × ((GoodCode c → ⊥) → (o ≡ refused 3) × (t ≡ s))
+  RemoveIsMap = (s c : List ℕ) (o : Out) (t : List ℕ) → Accepted S h s → Made S h (remove c) s o t → GoodCode c
+      → (o ≡ answerOf (map-of S s c)) × ((x : List ℕ) → map-of S t x ≡ update (map-of S s) c none x)
 
   -- a put on an accepted store is refused exactly when the table says
   abbrev pub Refuses : List ℕ → List ℕ → Place → Row → Type 0
@@ -204,20 +202,16 @@ module _ (S : Shape) (h : List ℕ → ℕ) where
   abbrev pub CountIsSize : Type 0
   CountIsSize = (s : List ℕ) (o : Out) (t : List ℕ) → Accepted S h s → Made S h count s o t → o ≡ counted (length (listing S h (rowsHeld S s)))
 
-  -- row at place n is element n of the listing; 8 exactly for a short output, before the check
+  -- row at place n is element n of the listing
   abbrev pub RowIsListed : Type 0
-  RowIsListed = (s : List ℕ) (n : ℕ) (out : List ℕ) (o : Out) (out′ : List ℕ) → Answers (rowTable S h s n out) (o, out′)
-      → (GoodLength S s → (o ≡ refused 8) ↔ (length out < 64))
-      × (Accepted S h s → 64 ≤ length out → Nth (listing S h (rowsHeld S s)) n out o out′)
+  RowIsListed = (s : List ℕ) (n : ℕ) (out : List ℕ) (o : Out) (out′ : List ℕ) → Accepted S h s → 64 ≤ length out → Answers (rowTable S h s n out) (o, out′)
+      → Nth (listing S h (rowsHeld S s)) n out o out′
 
-  -- inspection is slot n of a page: 9 on a free page, 2 with page 0 on a page that is neither free nor a bucket of a depth that there is
+  -- inspection is slot n of a bucket page; 9 on a free page
   abbrev pub InspectIsSlot : Type 0
-  InspectIsSlot = (g : List ℕ) (n : ℕ) (out : List ℕ) (o : Out) (out′ : List ℕ) → length g ≡ size S → Answers (inspectTable S h g n out) (o, out′)
-      → ((o ≡ refused 8) ↔ (length out < 64))
-      × (64 ≤ length out
+  InspectIsSlot = (g : List ℕ) (n : ℕ) (out : List ℕ) (o : Out) (out′ : List ℕ) → length g ≡ size S → 64 ≤ length out → Answers (inspectTable S h g n out) (o, out′)
       → (Zero g → (o ≡ refused 9) × (out′ ≡ out))
       × (Bucket h g → depth g ≤ S .deepest → Nth (map asRow (rows g)) n out o out′)
-      × ((Zero g → ⊥) → (Bucket h g → depth g ≤ S .deepest → ⊥) → o ≡ refusedAt 2 0))
 
   -- a place comes back from its 8 bytes, and what the map holds is such bytes
   abbrev pub PlaceComesBack : Type 0
