@@ -180,7 +180,7 @@ module _ (S : Shape) (h : List ℕ → ℕ) (s : List ℕ) where
   stops-broken (depth-last z f e g n) =
       inr (z, inr (f, stops-after (upward (pages S s) (Stands S h s)) again 0 (up-every (pages S s) (Stands S h s) e) (stops-after (upward (pages S s) (Parted S h s)) end 0 (up-every (pages S s) (Parted S h s) g) (inl (n, refl)))))
 
-  stops-below : {p : ℕ} → 2 ≤ pages S s → StopsAt S h s p → p < pages S s
+  pub stops-below : {p : ℕ} → 2 ≤ pages S s → StopsAt S h s p → p < pages S s
   stops-below two (page-0 n) = omega arith
   stops-below two (page-1 z n) = omega arith
   stops-below two (standing z f p a b g n) = b
