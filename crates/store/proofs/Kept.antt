@@ -14,7 +14,7 @@ use Rattle.ground.specs.Ladder.{Answers}
 use Rattle.store.specs.Pages.{Page}
 use Rattle.store.specs.Accepted.{Accepted}
 use Rattle.page.specs.Places.{place, stored}
-use Rattle.store.specs.Tables.{Out, refused, refusedAt, accepted, Becomes, formatTable, checkTable, lookupTable, putTable, removeTable, rowTable, inspectTable, Refusal3}
+use Rattle.store.specs.Tables.{Out, accepted, Becomes, formatTable, checkTable, lookupTable, putTable, removeTable, rowTable, inspectTable, Refusal3}
 use Rattle.store.specs.Demands.{format, check, count, lookup, remove, put, rowAt, inspect, Made, ok, RefusalKeeps, OutputKept, GoodCode, CheckExact, LookupIsMap, Refuses, PutRefused, AcceptedAgain, map-of, answerOf}
 use Rattle.ground.proofs.Sides.{side}
 use Rattle.ground.proofs.Ladders.{each}
@@ -113,16 +113,10 @@ module _ (S : Shape) (h : List ℕ → ℕ) where
   pub check-exact : CheckExact S h
   unfolding checkTable
   check-exact s = (
-    (λ m. each (λ o. o ≡ accepted → Accepted S h s) (checkTable S h s)
-        ((λ _ _ o e f. absurd (other o e f)), (λ _. ((λ p _ o e f. absurd (page o p e f)), (λ _ a o e f. a)))) accepted (m .0) refl),
+    (λ m. each (λ o. ok o ≡ true → Accepted S h s) (checkTable S h s)
+        ((λ _ _ o e f. absurd (true≢false (sym f ∙ ap ok e))), (λ _. ((λ p _ o e f. absurd (true≢false (sym f ∙ ap ok e))), (λ _ a o e f. a)))) accepted (m .0) refl),
     (λ a. (inr ((λ _ r. r (a .long)), inr (accepted-whole S h s a, (a, refl))), refl)),
   )
-    where
-      other : (o : Out) → o ≡ refused 1 → o ≡ accepted → ⊥
-      other o e f = let n : _≡_ {A = ℕ} 0 1 = cc in omega arith
-
-      page : (o : Out) (p : ℕ) → o ≡ refusedAt 2 p → o ≡ accepted → ⊥
-      page o p e f = let n : _≡_ {A = ℕ} 0 1 = cc in omega arith
 
   pub lookup-is-map : LookupIsMap S h
   unfolding lookupTable

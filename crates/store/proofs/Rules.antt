@@ -100,15 +100,14 @@ opened S h s a =
     let e = a .keeps in
     let up : List Rule = upward (pages S s) (Stands S h s) in
     let again : List Rule = upward (pages S s) (Parted S h s) in
-    let end : List Rule = rule 0 (Deepest S s) ∷ [] in
-    let rest : Every (up ++ (again ++ end)) = e .1 .1 in
+    let second = every-right up _ (e .1 .1) in
     record {
       long = a .long;
       page0 = e .0;
       page1 = e .1 .0;
-      stands = every-up (pages S s) (Stands S h s) (every-left up (again ++ end) rest);
-      parted = every-up (pages S s) (Parted S h s) (every-left again end (every-right up (again ++ end) rest));
-      deepest = every-right again end (every-right up (again ++ end) rest) .0;
+      stands = every-up (pages S s) (Stands S h s) (every-left up _ (e .1 .1));
+      parted = every-up (pages S s) (Parted S h s) (every-left again _ second);
+      deepest = every-right again _ second .0;
     }
 
 every-append : (l m : List Rule) → Every l → Every m → Every (l ++ m)
@@ -146,39 +145,31 @@ module _ (S : Shape) (h : List ℕ → ℕ) (s : List ℕ) where
   unfolding Broken
   accepted-whole a p b = stops-not (rules S h s) p (a .keeps) b
 
-  -- what comes after the first pass, and after the second
-  abbrev end : List Rule
-  end = rule 0 (Deepest S s) ∷ []
-
-  abbrev again : List Rule
-  again = upward (pages S s) (Parted S h s) ++ end
+  at : (p : ℕ) {q : ℕ} → p ≡ q → StopsAt S h s q → StopsAt S h s p
+  at p e x = subst (λ r. StopsAt S h s r) (sym e) x
 
   -- THE CHECK STOPS AT THE FIRST PAGE, IN THE ORDER OF DOCUMENT 01, THAT BREAKS A RULE
   pub broken-stops : (p : ℕ) → Broken S h s p → StopsAt S h s p
   unfolding Broken rules
-  broken-stops p b = ⊎-elim (λ a. at (a .1) (page-0 (a .0))) (λ a. ⊎-elim (λ c. at (c .1) (page-1 (a .0) (c .0))) (λ c. upper (a .0) (c .0) (c .1)) (a .1)) b
-    where
-      at : {q : ℕ} → p ≡ q → StopsAt S h s q → StopsAt S h s p
-      at e x = subst (λ r. StopsAt S h s r) (sym e) x
-
-      upper : Page0 S s → Page1 S s → Stops (upward (pages S s) (Stands S h s) ++ again) p → StopsAt S h s p
-      upper z f a = ⊎-elim
-          (λ w. standing z f p (w .0) (w .1) (w .2) (w .3))
-          (λ w. ⊎-elim
-          (λ v. joinable z f (w .0) p (v .0) (v .1) (v .2) (v .3))
-          (λ v. ⊎-elim (λ u. at (u .1) (depth-last z f (w .0) (v .0) (u .0))) (λ u. absurd (u .1)) (v .1))
-          (stops-up (pages S s) (Parted S h s) end p (w .1)))
-          (stops-up (pages S s) (Stands S h s) again p a)
+  broken-stops p (inl a) = at p (a .1) (page-0 (a .0))
+  broken-stops p (inr (z, inl a)) = at p (a .1) (page-1 z (a .0))
+  broken-stops p (inr (z, inr (f, a))) = ⊎-elim
+      (λ w. standing z f p (w .0) (w .1) (w .2) (w .3))
+      (λ w. ⊎-elim
+      (λ v. joinable z f (w .0) p (v .0) (v .1) (v .2) (v .3))
+      (λ v. ⊎-elim (λ u. at p (u .1) (depth-last z f (w .0) (v .0) (u .0))) (λ u. absurd (u .1)) (v .1))
+      (stops-up (pages S s) (Parted S h s) _ p (w .1)))
+      (stops-up (pages S s) (Stands S h s) _ p a)
 
   pub stops-broken : {p : ℕ} → StopsAt S h s p → Broken S h s p
   unfolding Broken rules
   stops-broken (page-0 n) = inl (n, refl)
   stops-broken (page-1 z n) = inr (z, inl (n, refl))
-  stops-broken (standing z f p a b g n) = inr (z, inr (f, up-stops (pages S s) (Stands S h s) again p a b g n))
+  stops-broken (standing z f p a b g n) = inr (z, inr (f, up-stops (pages S s) (Stands S h s) _ p a b g n))
   stops-broken (joinable z f e p a b g n) =
-      inr (z, inr (f, stops-after (upward (pages S s) (Stands S h s)) again p (up-every (pages S s) (Stands S h s) e) (up-stops (pages S s) (Parted S h s) end p a b g n)))
+      inr (z, inr (f, stops-after (upward (pages S s) (Stands S h s)) _ p (up-every (pages S s) (Stands S h s) e) (up-stops (pages S s) (Parted S h s) _ p a b g n)))
   stops-broken (depth-last z f e g n) =
-      inr (z, inr (f, stops-after (upward (pages S s) (Stands S h s)) again 0 (up-every (pages S s) (Stands S h s) e) (stops-after (upward (pages S s) (Parted S h s)) end 0 (up-every (pages S s) (Parted S h s) g) (inl (n, refl)))))
+      inr (z, inr (f, stops-after (upward (pages S s) (Stands S h s)) _ 0 (up-every (pages S s) (Stands S h s) e) (stops-after (upward (pages S s) (Parted S h s)) _ 0 (up-every (pages S s) (Parted S h s) g) (inl (n, refl)))))
 
   pub stops-below : {p : ℕ} → 2 ≤ pages S s → StopsAt S h s p → p < pages S s
   stops-below two (page-0 n) = omega arith
