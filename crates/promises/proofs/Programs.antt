@@ -17,7 +17,6 @@ use Rattle.ground.proofs.Sides.{side}
 use Rattle.words.specs.Codes.{order}
 use Rattle.words.proofs.Bytes.{small-zeros}
 use Rattle.partition.specs.Bits.{top}
-use Rattle.partition.specs.declared.Shape.{Shape}
 use Rattle.partition.specs.Partition.{Row, keep, need, needs, rowsOf, grade, fitting, walk, buckets}
 use Rattle.partition.specs.Listing.{placeOf, listing, Once}
 use Rattle.partition.proofs.Maps.{absent}
@@ -27,8 +26,8 @@ use Rattle.partition.proofs.Splice.{walk-fits}
 use Rattle.page.specs.declared.Place.{Place}
 use Rattle.page.specs.Places.{place, stored}
 use Rattle.store.specs.Pages.{S1024, rowsHeld}
-use Rattle.store.specs.Accepted.{GoodLength, Accepted}
-use Rattle.store.specs.Tables.{Out, refused, row, new, found, rowTable}
+use Rattle.store.specs.Accepted.{Accepted}
+use Rattle.store.specs.Tables.{Out, row, new, found, rowTable}
 use Rattle.store.specs.Demands.{Hash, lookup, remove, count, ok, GoodCode, AtStart, Nth, map-of, update, answerOf, sized-1024}
 use Rattle.store.proofs.Given.{member}
 use Rattle.store.proofs.Whole.{demand-2}
@@ -88,8 +87,8 @@ module _ (h : List ℕ → ℕ) (hash : Hash h) where
   rows-apart s a n m out long x y p q t u e =
       let d = demand-2 S1024 h sized-1024 hash in
       let l : List Row = listing S1024 h (rowsHeld S1024 s) in
-      let v = row-there l n out (x .0) (x .1) (d .7 s n out (x .0) (x .1) p .1 a long) t in
-      let w = row-there l m out (y .0) (y .1) (d .7 s m out (y .0) (y .1) q .1 a long) u in
+      let v = row-there l n out (x .0) (x .1) (d .7 s n out (x .0) (x .1) a long p) t in
+      let w = row-there l m out (y .0) (y .1) (d .7 s m out (y .0) (y .1) a long q) u in
       let k : length (v .0 .code) ≡ length (w .0 .code) = size (sym (v .2) ∙ ap (λ z. z .0) e ∙ w .2) in
       once-index l (d .5 s a .0) n m (v .0) (w .0) (v .1) (w .1)
       (same-code (v .0 .code) (w .0 .code) out (y .1) k (subst (λ z. AtStart (v .0 .code) out z) (ap (λ z. z .1) e) (v .3)) (w .3))
@@ -154,7 +153,7 @@ module _ (h : List ℕ → ℕ) (hash : Hash h) where
     looks-up n l =
         let w = with-a n l in
         let d = demand-2 S1024 h sized-1024 hash in
-        d .1 (one n) a (P .lookup (one n) a) (one n) (accepted-at h hash P meets w) (meets .looks (one n) a (w .small) (one-small 97 (omega arith)), refl) .0 (one-good 97)
+        d .1 (one n) a (P .lookup (one n) a) (one n) (accepted-at h hash P meets w) (meets .looks (one n) a (w .small) (one-small 97 (omega arith)), refl) (one-good 97)
         ∙ ap answerOf (holds-a n l) ∙ ap found (d .9 .0 (at n) (in-range n l) (natural n))
 
     pub one-fixed-place : OneFixedPlace P → ⊥
@@ -169,7 +168,7 @@ module _ (h : List ℕ → ℕ) (hash : Hash h) where
     only-answers f =
         let w = with-a 0 (omega arith) in
         let t : List ℕ = one 0 in
-        let m = demand-2 S1024 h sized-1024 hash .3 t a (P .remove t a .0) (P .remove t a .1) (accepted-at h hash P meets w) (meets .removes t a (w .small) (one-small 97 (omega arith))) .0 (one-good 97) .1 a in
+        let m = demand-2 S1024 h sized-1024 hash .3 t a (P .remove t a .0) (P .remove t a .1) (accepted-at h hash P meets w) (meets .removes t a (w .small) (one-small 97 (omega arith))) (one-good 97) .1 a in
         none-some (ap (λ s. map-of S1024 s a) (sym (f t a)) ∙ m) (holds-a 0 (omega arith))
 
     -- A COUNT THAT IS NOT THE MAP'S SIZE
@@ -224,13 +223,4 @@ module _ (h : List ℕ → ℕ) (hash : Hash h) where
             let k = length-same (d .5 two w .1) in
             let k′ = length-same (same-at h hash P meets with-b) in
             let r = here (listing S1024 h (rowsHeld S1024 two)) n (omega arith) in
-            ap ok (d .7 two n (replicate 64 0) (P .row two n (replicate 64 0) .0) (P .row two n (replicate 64 0) .1) (asks n) .1 w (omega arith) .is (r .0) (r .1) .0)
-
--- A row at place n that gives 2 before 8: on a store of good length a short output is 8, whatever else is wrong.
-pub two-before-eight : (S : Shape) (h : List ℕ → ℕ) (s : List ℕ) (n : ℕ) (out : List ℕ) (r : Out × List ℕ) → GoodLength S s → length out < 64
-    → Answers (rowTable S h s n out) r → r ≡ (refused 8, out)
-unfolding rowTable
-two-before-eight S h s n out r g l w = ⊎-elim
-    (λ x. absurd (x .1 .0 g))
-    (λ x. ⊎-elim (λ y. y .1 .1) (λ z. absurd (z .0 tt l)) (x .1))
-    w
+            ap ok (d .7 two n (replicate 64 0) (P .row two n (replicate 64 0) .0) (P .row two n (replicate 64 0) .1) w (omega arith) (asks n) .is (r .0) (r .1) .0)

@@ -17,12 +17,13 @@ use Rattle.store.specs.Pages.{S1024}
 use Rattle.store.specs.Accepted.{Accepted}
 use Rattle.store.specs.Moves.{pick}
 use Rattle.store.specs.Tables.{Out, refused, new, replaced, putAccepted, putTable}
-use Rattle.store.specs.Demands.{Call, format, check, count, lookup, remove, put, rowAt, inspect, Made, ok, GoodCode, map-of, putAnswer, Refuses, after, sized-1024}
+use Rattle.store.specs.Demands.{Call, format, check, count, lookup, remove, put, rowAt, inspect, Made, ok, GoodCode, WholePages, faults, ExactlyWhen, map-of, putAnswer, Refuses, after, sized-1024}
 use Rattle.store.proofs.Rules.{accepted-whole}
 use Rattle.store.proofs.Settled.{format-settled, check-settled, count-settled, lookup-settled, row-settled, inspect-settled, put-settled, remove-settled}
 use Rattle.store.proofs.Meaning.{meaning-one}
-use Rattle.store.proofs.Kept.{demand-1, no-three, three}
-use Rattle.store.proofs.Whole.{demand-2, demand-3}
+use Rattle.store.proofs.Kept.{no-three}
+use Rattle.store.proofs.Order.{good-length, whole-pages}
+use Rattle.store.proofs.Whole.{demand-1, demand-2, demand-3}
 use Rattle.promises.specs.Promises.{First, joining, near, PutSays, Second, Third, Promised}
 
 pair : {A B : Type 0} (x y : A × B) → x ≡ y → (x .0 ≡ y .0) × (x .1 ≡ y .1)
@@ -45,9 +46,11 @@ first =
     let d = demand-1 S1024 fnv in
     record {
       settled = record { store = store-settled; row = row-settled S1024 fnv; inspection = inspect-settled S1024 fnv; enum = meaning-one };
-      store-kept = d .0;
-      output-kept = d .1;
-      lengths = λ s. ((λ g. (g .whole, g .least, g .most)), (λ g. record { whole = g .0; least = g .1; most = g .2 }));
+      refused-in-order = d .0;
+      format-succeeds = d .1;
+      lengths = λ s. (((λ w. w), (λ w. w)), (whole-pages S1024 s, good-length S1024 s));
+      store-kept = d .2;
+      output-kept = d .3;
     }
 
 -- ---- put's answer, by number
@@ -57,13 +60,18 @@ module _ (s c : List ℕ) (p : Place) (o : Out) (t : List ℕ) (a : Accepted S10
   only : (x : Out) (y : List ℕ) → Answers (putTable S1024 fnv s c p) (x, y) → o ≡ x
   only x y w = ap (λ q. q .0) (put-settled S1024 fnv sized-1024 s c p (o, t) (x, y) m w)
 
+  -- 3 and 4 are demand 1's
+  said : ExactlyWhen (faults S1024 fnv (put c p) s) o
+  said = demand-1 S1024 fnv .0 (put c p) s o t m
+
+  long : (WholePages S1024 s → ⊥) → ⊥
+  long n = n (whole-pages S1024 s (a .long))
+
   says-three : (GoodCode c → ⊥) → o ≡ refused 3
-  unfolding putTable
-  says-three n = only (refused 3) s (inr ((λ _ r. r (a .long)), inl (tt, (three c n, refl))))
+  says-three n = said .three .1 (long, n)
 
   says-four : GoodCode c → Negative p → o ≡ refused 4
-  unfolding putTable
-  says-four g n = only (refused 4) s (inr ((λ _ r. r (a .long)), inr ((λ _ r. no-three c g r), inl (tt, (n, refl)))))
+  says-four g n = said .four .1 (long, (λ b. b g), n)
 
   module _ (g : GoodCode c) (n : Negative p → ⊥) where
     -- a put that is not refused answers as the map says

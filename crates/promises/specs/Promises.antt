@@ -4,7 +4,7 @@ use mathlib.Core.Bool.{false}
 use mathlib.Core.List.{List, [], _∷_}
 use mathlib.Core.Logic.{_↔_}
 use mathlib.Core.Option.{some, none}
-use Prim.Native.Nat.{ℕ, _-_, _/_, _%_, _≤_, _<_}
+use Prim.Native.Nat.{ℕ, _-_, _*_, _/_, _≤_, _<_}
 use lib.ListN.{length}
 use Rattle.ground.specs.Ladder.{Answers}
 use Rattle.hash.specs.Fnv.{fnv}
@@ -16,7 +16,7 @@ use Rattle.store.specs.declared.Answer.{Answer}
 use Rattle.store.specs.Pages.{S1024, rowsHeld}
 use Rattle.store.specs.Accepted.{GoodLength, Accepted}
 use Rattle.store.specs.Tables.{Out, refused, formatted, new, replaced, meaning, rowTable, inspectTable}
-use Rattle.store.specs.Demands.{Call, format, put as a-put, Made, ok, surviving, GoodCode, map-of, RefusalKeeps, OutputKept, CheckExact, LookupIsMap, PutIsMap, RemoveIsMap, PutRefused, ListedOnce, CountIsSize, RowIsListed, InspectIsSlot, PlaceComesBack, AcceptedAgain, FormatAccepted, AfreshAlways, SameRefusals, KeptPages}
+use Rattle.store.specs.Demands.{Call, format, put as a-put, Made, ok, surviving, GoodCode, map-of, WholePages, RefusedInOrder, FormatSucceeds, RefusalKeeps, OutputKept, CheckExact, LookupIsMap, PutIsMap, RemoveIsMap, PutRefused, ListedOnce, CountIsSize, RowIsListed, InspectIsSlot, PlaceComesBack, AcceptedAgain, FormatAccepted, AfreshAlways, SameRefusals, KeptPages}
 
 -- a finished promise: for every input the answer and each byte of store and output are settled, refused calls too; so is the enum's case
 pub record Settled : Type 0 where
@@ -28,9 +28,12 @@ pub record Settled : Type 0 where
 -- 1. Any bytes may come as the store, any code, any row place. .. The store and the output buffer keep every byte.
 pub record First : Type 0 where
   pub settled : Settled
+  -- 1, 3, 4, 8 and 2 come in this order, each exactly when; the lengths are 3 to 258 pages of 1,024 bytes, in the rules' words too
+  pub refused-in-order : RefusedInOrder S1024 fnv
+  pub format-succeeds : FormatSucceeds S1024 fnv
+  pub lengths : (s : List ℕ) → (WholePages S1024 s ↔ ((n : ℕ) × (length s ≡ n * 1024) × (3 ≤ n) × (n ≤ 258))) × (GoodLength S1024 s ↔ WholePages S1024 s)
   pub store-kept : RefusalKeeps S1024 fnv
   pub output-kept : OutputKept S1024 fnv
-  pub lengths : (s : List ℕ) → GoodLength S1024 s ↔ ((length s % 1024 ≡ 0) × (3 ≤ length s / 1024) × (length s / 1024 ≤ 258))
 
 -- the rows of s with the row (c, p), and what those of them need that share its first 8 bits
 abbrev pub joining : List ℕ → List ℕ → Place → List Row

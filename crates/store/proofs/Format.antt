@@ -1,5 +1,6 @@
 -- A formatted store is accepted, and holds no rows. Assumes nothing.
 use mathlib.Core.Path.{_≡_, refl, sym, ap, _∙_}
+use mathlib.Core.Bool.{true, true≢false}
 use mathlib.Core.List.{List, [], _++_, flatMap}
 use mathlib.Core.Logic.{_⊎_, inl, inr, ⊎-elim}
 use Prim.Native.Nat.{ℕ, zero, suc, _+_, _-_, _*_, _/_, _%_, _≤_, _<_}
@@ -17,8 +18,8 @@ use Rattle.partition.specs.declared.Shape.{Shape}
 use Rattle.store.specs.Pages.{size, pages, page, entryAt, Page, free, read, contents, rowsIn, rowsOn, rowsHeld, deepestIn}
 use Rattle.store.specs.Accepted.{GoodLength, Zero, unused, Accepted}
 use Rattle.words.specs.Le.{bytes}
-use Rattle.store.specs.Tables.{Out, refused, formatted, blank, Refusal1, formatTable}
-use Rattle.store.specs.Demands.{Sized, Made, format, FormatAccepted, AcceptedAgain}
+use Rattle.store.specs.Tables.{Out, formatted, blank, Refusal1, formatTable}
+use Rattle.store.specs.Demands.{Sized, Made, ok, format, FormatAccepted, AcceptedAgain}
 use Rattle.ground.proofs.Ladders.{each}
 use Rattle.store.proofs.Rules.{closed}
 use Rattle.store.proofs.Kept.{accepted-again}
@@ -134,12 +135,9 @@ good-stable S s n = go (side (length s % size S) 1) (side (pages S s) 3) (side (
 
 pub format-accepted : (S : Shape) (h : List ℕ → ℕ) → Sized S → FormatAccepted S h
 unfolding formatTable
-format-accepted S h sized s u m = each (λ r. r .0 ≡ formatted → Accepted S h (r .1) × (rowsHeld S (r .1) ≡ []) × (length (r .1) ≡ length s)) (formatTable S s)
-    ((λ _ _ r e f. absurd (other (r .0) (ap (λ q. q .0) e) f)), (λ n r e f. done r e (good-stable S s (n tt)))) (formatted, u) m refl
+format-accepted S h sized s u m = each (λ r. ok (r .0) ≡ true → Accepted S h (r .1) × (rowsHeld S (r .1) ≡ []) × (length (r .1) ≡ length s)) (formatTable S s)
+    ((λ _ _ r e f. absurd (true≢false (sym f ∙ ap (λ q. ok (q .0)) e))), (λ n r e f. done r e (good-stable S s (n tt)))) (formatted, u) m refl
   where
-    other : (o : Out) → o ≡ refused 1 → o ≡ formatted → ⊥
-    other o e f = let n : _≡_ {A = ℕ} 0 1 = cc in omega arith
-
     done : (r : Out × List ℕ) → r ≡ (formatted, blank S s) → GoodLength S s → Accepted S h (r .1) × (rowsHeld S (r .1) ≡ []) × (length (r .1) ≡ length s)
     done r e g = let q : r .1 ≡ blank S s = ap (λ x. x .1) e in (rw q (blank-accepted S s sized g h), rw q (no-rows S s sized g), ap length q ∙ blank-long S s sized g)
 

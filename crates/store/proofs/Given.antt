@@ -2,7 +2,7 @@
 -- Assumes nothing.
 use mathlib.Core.Path.{_≡_, refl, sym, ap, subst, _∙_}
 use mathlib.Core.List.{List, [], _∷_, _++_, map, List·Memᴰ, List·Memᴰ·head, List·Memᴰ·tail}
-use mathlib.Core.Logic.{inl, inr, ⊎-elim, _↔_}
+use mathlib.Core.Logic.{inl, inr, ⊎-elim}
 use mathlib.Core.Option.{some}
 use Prim.Native.Nat.{ℕ, zero, suc, _+_, _-_, _≤_, _<_}
 use native.Mathlib.Omega.{arith}
@@ -16,7 +16,6 @@ use Rattle.ground.proofs.Parts.{byte-part}
 use Rattle.ground.proofs.Ladders.{each}
 use Rattle.page.specs.Page.{Slotted, rows, code, place as bytesAt, off}
 use Rattle.page.specs.Places.{place, stored, InRange}
-use Rattle.page.specs.declared.Place.{Place}
 use Rattle.page.proofs.Sums.{len-of-code}
 use Rattle.page.proofs.Stored.{stored-place, place-stored, natural-page, natural-slot, natural-volume}
 use Rattle.partition.specs.declared.Shape.{Shape}
@@ -25,8 +24,8 @@ use Rattle.partition.specs.Listing.{listing}
 use Rattle.partition.proofs.Maps.{found}
 use Rattle.partition.proofs.Reorders.{mem-reordered, turned, length-same}
 use Rattle.store.specs.Pages.{size, page, read, asRow, rowsOn, contents, rowsHeld}
-use Rattle.store.specs.Accepted.{GoodLength, Zero, Bucket, Accepted}
-use Rattle.store.specs.Tables.{Out, refused, refusedAt, row, counted, rowOf, PageKeeps, countTable, rowTable, inspectTable}
+use Rattle.store.specs.Accepted.{Zero, Bucket, Accepted}
+use Rattle.store.specs.Tables.{Out, refused, row, counted, rowOf, PageKeeps, countTable, rowTable, inspectTable}
 use Rattle.store.specs.Demands.{Sized, Hash, GoodCode, AtStart, Nth, CountIsSize, RowIsListed, InspectIsSlot, PlaceComesBack}
 use Rattle.store.proofs.Rules.{accepted-whole, opened}
 use Rattle.store.proofs.Shown.{some-page}
@@ -91,24 +90,6 @@ slot-good g b r m =
       range = record { page = natural-page (bytesAt g i) p small; slot = natural-slot (bytesAt g i) p small; volume = natural-volume (bytesAt g i) p small };
     }
 
--- ---- 8 exactly for a short output
-
-not-eight : (n : ℕ) → (n ≡ 8 → ⊥) → refused n ≡ refused 8 → ⊥
-not-eight n d e = d cc
-
-not-eight-at : (n p : ℕ) → refusedAt n p ≡ refused 8 → ⊥
-not-eight-at n p e = let z : _≡_ {A = ℕ} 0 1 = cc in omega arith
-
-not-eight-row : (n : ℕ) (p : Place) → row n p ≡ refused 8 → ⊥
-not-eight-row n p e = let z : _≡_ {A = ℕ} 0 1 = cc in omega arith
-
--- the answers of a list's rows are not 8
-row-eight : (rs : List Row) (n : ℕ) (out : List ℕ) (x : Out × List ℕ) → Answers (rowOf rs n out) x → x .0 ≡ refused 8 → ⊥
-row-eight rs n out = each (λ x. x .0 ≡ refused 8 → ⊥) (rowOf rs n out) (
-  (λ r e x q f. not-eight-row (length (r .code)) (place (r .place)) (ap (λ y. y .0) (sym q) ∙ f)),
-  (λ _ x q f. not-eight 9 (λ z. omega arith) (ap (λ y. y .0) (sym q) ∙ f)),
-)
-
 module _ (S : Shape) (h : List ℕ → ℕ) (sized : Sized S) (hash : Hash h) where
   pub held-good : (s : List ℕ) → Accepted S h s → (r : Row) → List·Memᴰ r (rowsHeld S s) → Good r
   held-good s a r m =
@@ -128,23 +109,6 @@ module _ (S : Shape) (h : List ℕ → ℕ) (sized : Sized S) (hash : Hash h) wh
     (λ _ r. absurd (r (a .long))),
     (λ _. ((λ p b. absurd (accepted-whole S h s a p b)), (λ _ _ o e. e ∙ ap counted (length-same (listed-once S h sized hash s a .1))))),
   ) o (m .0)
-
-  -- of a store of good length: 8 exactly for a short output
-  row-short : (s : List ℕ) (n : ℕ) (out : List ℕ) → GoodLength S s → (x : Out × List ℕ) → Answers (rowTable S h s n out) x → (x .0 ≡ refused 8) ↔ (length out < 64)
-  unfolding rowTable
-  row-short s n out g = each (λ x. (x .0 ≡ refused 8) ↔ (length out < 64)) (rowTable S h s n out) (
-    (λ _ r. absurd (r g)),
-    (λ _. (
-      (λ _ l x e. ((λ _. l), (λ _. ap (λ y. y .0) e))),
-      (λ n8. (
-        (λ p _ x e. ((λ f. absurd (not-eight-at 2 p (ap (λ y. y .0) (sym e) ∙ f))), (λ l. absurd (n8 tt l)))),
-        (λ _ _. (
-          (λ r q x e. ((λ f. absurd (row-eight (listing S h (rowsHeld S s)) n out x (inl (r, (q, e))) f)), (λ l. absurd (n8 tt l)))),
-          (λ un x e. ((λ f. absurd (row-eight (listing S h (rowsHeld S s)) n out x (inr (un, e)) f)), (λ l. absurd (n8 tt l)))),
-        )),
-      )),
-    )),
-  )
 
   row-nth : (s : List ℕ) (n : ℕ) (out : List ℕ) → Accepted S h s → 64 ≤ length out
       → (x : Out × List ℕ) → Answers (rowTable S h s n out) x → Nth (listing S h (rowsHeld S s)) n out (x .0) (x .1)
@@ -166,31 +130,9 @@ module _ (S : Shape) (h : List ℕ → ℕ) (sized : Sized S) (hash : Hash h) wh
           omega (arith, held-good s a r m .good .most)
 
   pub row-is-listed : RowIsListed S h
-  row-is-listed s n out o out′ m = ((λ g. row-short s n out g (o, out′) m), (λ a l. row-nth s n out a l (o, out′) m))
+  row-is-listed s n out o out′ a l m = row-nth s n out a l (o, out′) m
 
 module _ (S : Shape) (h : List ℕ → ℕ) where
-  inspect-short : (g : List ℕ) (n : ℕ) (out : List ℕ) → length g ≡ size S → (x : Out × List ℕ) → Answers (inspectTable S h g n out) x → (x .0 ≡ refused 8) ↔ (length out < 64)
-  unfolding inspectTable
-  inspect-short g n out z = each (λ x. (x .0 ≡ refused 8) ↔ (length out < 64)) (inspectTable S h g n out) (
-    (λ _ r. absurd (r z)),
-    (λ _. (
-      (λ _ l x e. ((λ _. l), (λ _. ap (λ y. y .0) e))),
-      (λ n8. (
-        (λ p _ x e. ((λ f. absurd (not-eight-at 2 0 (ap (λ y. y .0) (sym e) ∙ f))), (λ l. absurd (n8 tt l)))),
-        (λ _ _. (
-          (λ r q x e. ((λ f. absurd (row-eight (rowsOn (read g)) n out x (inl (r, (q, e))) f)), (λ l. absurd (n8 tt l)))),
-          (λ un x e. ((λ f. absurd (row-eight (rowsOn (read g)) n out x (inr (un, e)) f)), (λ l. absurd (n8 tt l)))),
-        )),
-      )),
-    )),
-  )
-
-  -- what is neither is refused, and a page that is either is not
-  inspect-bad : (g : List ℕ) (n : ℕ) (out : List ℕ) → length g ≡ size S → 64 ≤ length out → (PageKeeps S h g → ⊥) → (x : Out × List ℕ) → Answers (inspectTable S h g n out) x → x .0 ≡ refusedAt 2 0
-  unfolding inspectTable
-  inspect-bad g n out z l bad = each (λ x. x .0 ≡ refusedAt 2 0) (inspectTable S h g n out)
-      ((λ _ r. absurd (r z)), (λ _. ((λ _ m. absurd (omega arith)), (λ _. ((λ _ _ x e. ap (λ y. y .0) e), (λ _ k. absurd (bad k)))))))
-
   inspect-rows : (g : List ℕ) (n : ℕ) (out : List ℕ) → length g ≡ size S → 64 ≤ length out → PageKeeps S h g
       → (x : Out × List ℕ) → Answers (inspectTable S h g n out) x → Answers (rowOf (rowsOn (read g)) n out) x
   unfolding inspectTable
@@ -200,20 +142,14 @@ module _ (S : Shape) (h : List ℕ → ℕ) where
   )
 
   pub inspect-is-slot : InspectIsSlot S h
-  inspect-is-slot g n out o out′ z m = (
-    inspect-short g n out z (o, out′) m,
-    (λ l. (
-      (λ c. free c (inspect-rows g n out z l (inl c) (o, out′) m)),
-      (λ b d. slots b (inspect-rows g n out z l (inr (b, d)) (o, out′) m) l),
-      (λ c b. inspect-bad g n out z l (λ k. ⊎-elim c (λ q. b (q .0) (q .1)) k) (o, out′) m),
-    )),
-  )
+  inspect-is-slot g n out o out′ z l m =
+      ((λ c. free c (inspect-rows g n out z l (inl c) (o, out′) m)), (λ b d. slots b (inspect-rows g n out z l (inr (b, d)) (o, out′) m)))
     where
       free : Zero g → Answers (rowOf (rowsOn (read g)) n out) (o, out′) → (o ≡ refused 9) × (out′ ≡ out)
       free c (inl w) = absurd (none-some (row-free g c n) (w .1 .0))
       free c (inr w) = (ap (λ y. y .0) (w .1), ap (λ y. y .1) (w .1))
 
-      slots : Bucket h g → Answers (rowOf (rowsOn (read g)) n out) (o, out′) → 64 ≤ length out → Nth (map asRow (rows g)) n out o out′
-      slots b w l = nth (map asRow (rows g)) n out
+      slots : Bucket h g → Answers (rowOf (rowsOn (read g)) n out) (o, out′) → Nth (map asRow (rows g)) n out o out′
+      slots b w = nth (map asRow (rows g)) n out
           (λ r e. omega (arith, slot-good g (b .rules .rules) r (member (map asRow (rows g)) n r e) .good .most))
           (o, out′) (rw (read-used g (b .rules)) at w)

@@ -1,4 +1,4 @@
--- Demand 1 of the tables, and those of demand 2's statements that the tables alone give. Assumes nothing.
+-- A refused call keeps every byte, and those of demand 2's statements that the tables alone give. Assumes nothing.
 use mathlib.Core.Path.{_≡_, refl, sym, ap, _∙_}
 use mathlib.Core.Bool.{true, false, true≢false}
 use mathlib.Core.List.{List}
@@ -14,8 +14,8 @@ use Rattle.ground.specs.Ladder.{Answers}
 use Rattle.store.specs.Pages.{Page}
 use Rattle.store.specs.Accepted.{Accepted}
 use Rattle.page.specs.Places.{place, stored}
-use Rattle.store.specs.Tables.{Out, refused, refusedAt, accepted, Becomes, formatTable, checkTable, lookupTable, putTable, removeTable, rowTable, inspectTable, Refusal3}
-use Rattle.store.specs.Demands.{format, check, count, lookup, remove, put, rowAt, inspect, Made, ok, RefusalKeeps, OutputKept, Demand1, GoodCode, CheckExact, LookupIsMap, Refuses, PutRefused, AcceptedAgain, map-of, answerOf}
+use Rattle.store.specs.Tables.{Out, accepted, Becomes, formatTable, checkTable, lookupTable, putTable, removeTable, rowTable, inspectTable, Refusal3}
+use Rattle.store.specs.Demands.{format, check, count, lookup, remove, put, rowAt, inspect, Made, ok, RefusalKeeps, OutputKept, GoodCode, CheckExact, LookupIsMap, Refuses, PutRefused, AcceptedAgain, map-of, answerOf}
 use Rattle.ground.proofs.Sides.{side}
 use Rattle.ground.proofs.Ladders.{each}
 use Rattle.store.proofs.Rules.{accepted-whole}
@@ -82,9 +82,6 @@ module _ (S : Shape) (h : List ℕ → ℕ) where
   output-kept s n out o out′ (inl m) = row-keeps-out s n out (o, out′) m
   output-kept s n out o out′ (inr m) = inspect-keeps-out s n out (o, out′) m
 
-pub demand-1 : Demand1
-demand-1 S h = (refusal-keeps S h, output-kept S h)
-
 -- ---- demand 2
 
 pub nothing-there : (o : Option (List ℕ)) → ((b : List ℕ) → o ≡ some b → ⊥) → o ≡ none
@@ -116,29 +113,20 @@ module _ (S : Shape) (h : List ℕ → ℕ) where
   pub check-exact : CheckExact S h
   unfolding checkTable
   check-exact s = (
-    (λ m. each (λ o. o ≡ accepted → Accepted S h s) (checkTable S h s)
-        ((λ _ _ o e f. absurd (other o e f)), (λ _. ((λ p _ o e f. absurd (page o p e f)), (λ _ a o e f. a)))) accepted (m .0) refl),
+    (λ m. each (λ o. ok o ≡ true → Accepted S h s) (checkTable S h s)
+        ((λ _ _ o e f. absurd (true≢false (sym f ∙ ap ok e))), (λ _. ((λ p _ o e f. absurd (true≢false (sym f ∙ ap ok e))), (λ _ a o e f. a)))) accepted (m .0) refl),
     (λ a. (inr ((λ _ r. r (a .long)), inr (accepted-whole S h s a, (a, refl))), refl)),
   )
-    where
-      other : (o : Out) → o ≡ refused 1 → o ≡ accepted → ⊥
-      other o e f = let n : _≡_ {A = ℕ} 0 1 = cc in omega arith
-
-      page : (o : Out) (p : ℕ) → o ≡ refusedAt 2 p → o ≡ accepted → ⊥
-      page o p e f = let n : _≡_ {A = ℕ} 0 1 = cc in omega arith
 
   pub lookup-is-map : LookupIsMap S h
   unfolding lookupTable
-  lookup-is-map s c o t a m = each (λ o. (GoodCode c → o ≡ answerOf (map-of S s c)) × ((GoodCode c → ⊥) → o ≡ refused 3)) (lookupTable S h s c) (
+  lookup-is-map s c o t a m g = each (λ o. o ≡ answerOf (map-of S s c)) (lookupTable S h s c) (
     (λ _ r. absurd (r (a .long))),
     (λ _. (
-      (λ _ r o f. ((λ g. absurd (no-three c g r)), (λ _. f))),
-      (λ n3. (
+      (λ _ r. absurd (no-three c g r)),
+      (λ _. (
         (λ p b. absurd (accepted-whole S h s a p b)),
-        (λ _ _. (
-          (λ b e o f. ((λ _. f ∙ ap answerOf (sym e)), (λ g. absurd (n3 tt (three c g))))),
-          (λ n o f. ((λ _. f ∙ ap answerOf (sym (nothing-there (map-of S s c) n))), (λ g. absurd (n3 tt (three c g))))),
-        )),
+        (λ _ _. ((λ b e o f. f ∙ ap answerOf (sym e)), (λ n o f. f ∙ ap answerOf (sym (nothing-there (map-of S s c) n))))),
       )),
     )),
   ) o (m .0)

@@ -17,6 +17,7 @@ pub mod PutKept
 pub mod Unique
 pub mod Settled
 pub mod Kept
+pub mod Order
 pub mod Format
 pub mod Same
 pub mod Sorted

@@ -14,7 +14,7 @@ use Rattle.store.specs.Pages.{Page, contents, rowsIn, rowsHeld, dirDepth
 use Rattle.store.specs.Accepted.{Accepted}
 use Rattle.store.specs.Moves.{pick, overwritten, putNew, removed}
 use Rattle.page.specs.Places.{stored}
-use Rattle.store.specs.Tables.{Out, refused, Refusal6, Refusal7, Becomes, putTable, removeTable, formatTable}
+use Rattle.store.specs.Tables.{Out, Refusal6, Refusal7, Becomes, putTable, removeTable, formatTable}
 use Rattle.partition.specs.Listing.{Once}
 use Rattle.store.specs.Demands.{Sized, Call, format, check, count, lookup, remove, put, rowAt, inspect, Made, ok, after, surviving, directory, afresh, History, begin, next, AfreshAlways, GoodCode, map-of, update, answerOf, putAnswer, PutIsMap, RemoveIsMap}
 use Rattle.ground.proofs.Ladders.{each}
@@ -24,7 +24,7 @@ use Rattle.partition.proofs.Maps.{cut, cut-none, cut-same, map-remove, map-put}
 use Rattle.partition.proofs.Sorted.{listing-same}
 use Rattle.store.proofs.Sorted.{afresh-same}
 use Rattle.store.proofs.Rules.{accepted-whole}
-use Rattle.store.proofs.Kept.{nothing-there, no-three, three, refusal-keeps}
+use Rattle.store.proofs.Kept.{nothing-there, no-three, refusal-keeps}
 use Rattle.store.proofs.Format.{format-accepted, accepted-always, no-rows}
 
 module _ (S : Shape) (h : List ℕ → ℕ) where
@@ -207,18 +207,15 @@ module _ (S : Shape) (h : List ℕ → ℕ) (sized : Sized S) (fresh : AcceptedI
   )
 
   remove-answer : (s c : List ℕ) → Accepted S h s → (x : Out × List ℕ) → Answers (removeTable S h s c) x
-      → (GoodCode c → x .0 ≡ answerOf (map-of S s c)) × ((GoodCode c → ⊥) → x .0 ≡ refused 3)
+      → GoodCode c → x .0 ≡ answerOf (map-of S s c)
   unfolding removeTable
-  remove-answer s c a = each (λ x. (GoodCode c → x .0 ≡ answerOf (map-of S s c)) × ((GoodCode c → ⊥) → x .0 ≡ refused 3)) (removeTable S h s c) (
+  remove-answer s c a = each (λ x. GoodCode c → x .0 ≡ answerOf (map-of S s c)) (removeTable S h s c) (
     (λ _ r. absurd (r (a .long))),
     (λ _. (
-      (λ _ r x e. ((λ g. absurd (no-three c g r)), (λ _. ap (λ q. q .0) e))),
-      (λ n3. (
+      (λ _ r x e g. absurd (no-three c g r)),
+      (λ _. (
         (λ p b. absurd (accepted-whole S h s a p b)),
-        (λ _ _. (
-          (λ old k x e. ((λ _. e .0 ∙ ap answerOf (sym k)), (λ g. absurd (n3 tt (three c g))))),
-          (λ un x e. ((λ _. ap (λ q. q .0) e ∙ ap answerOf (sym (nothing-there _ un))), (λ g. absurd (n3 tt (three c g))))),
-        )),
+        (λ _ _. ((λ old k x e g. e .0 ∙ ap answerOf (sym k)), (λ un x e g. ap (λ q. q .0) e ∙ ap answerOf (sym (nothing-there _ un))))),
       )),
     )),
   )
@@ -243,8 +240,4 @@ module _ (S : Shape) (h : List ℕ → ℕ) (sized : Sized S) (fresh : AcceptedI
   remove-map s c o t a m (some b) e f x = map-after (remove c) s o t a m (ap ok f) x ∙ update-cut c x (rowsHeld S s)
 
   pub remove-is-map : RemoveIsMap S h
-  remove-is-map s c o t a m =
-      let w = remove-answer s c a (o, t) m in (
-        (λ g. (w .0 g, remove-map s c o t a m (map-of S s c) refl (w .0 g))),
-        (λ g. (w .1 g, refusal-keeps S h (remove c) s o t m (ap ok (w .1 g)))),
-      )
+  remove-is-map s c o t a m g = let w = remove-answer s c a (o, t) m g in (w, remove-map s c o t a m (map-of S s c) refl w)

@@ -1,5 +1,5 @@
--- The rules of an accepted store, each by its name; and the page at which the check stops is one. Assumes nothing.
-use mathlib.Core.Path.{_≡_, sym, subst, _∙_}
+-- The rules of an accepted store, each by its name; and the page at which the check stops: one, and the first that breaks a rule. Assumes nothing.
+use mathlib.Core.Path.{_≡_, refl, sym, subst, _∙_}
 use mathlib.Core.List.{List, [], _∷_, _++_}
 use mathlib.Core.Logic.{_⊎_, inl, inr, ⊎-elim}
 use Prim.Native.Nat.{ℕ, zero, suc, _+_, _-_, _≤_, _<_}
@@ -8,6 +8,7 @@ use Rattle.ground.specs.Lists.{tab}
 use Rattle.partition.specs.declared.Shape.{Shape}
 use Rattle.store.specs.Pages.{pages}
 use Rattle.store.specs.Accepted.{GoodLength, Page0, Page1, Stands, Parted, Deepest, Rule, rule, rules, upward, Every, Stops, Broken, Accepted}
+use Rattle.store.specs.Demands.{Below, StopsAt, page-0, page-1, standing, joinable, depth-last}
 
 -- the check stops at one page at most, and at none where every rule holds
 pub stops-one : (l : List Rule) (p q : ℕ) → Stops l p → Stops l q → p ≡ q
@@ -22,21 +23,47 @@ stops-not [] p e a = a
 stops-not (r ∷ l) p e (inl a) = a .0 (e .0)
 stops-not (r ∷ l) p e (inr a) = stops-not l p (e .1) (a .1)
 
--- ---- the page is one of the store's
+-- ---- where a run of rules stops: at its first that fails; else the check goes on
 
-stops-in : (l m : List Rule) (p : ℕ) → Stops (l ++ m) p → Stops l p ⊎ Stops m p
-stops-in [] m p a = inr a
-stops-in (r ∷ l) m p (inl a) = inl (inl a)
-stops-in (r ∷ l) m p (inr a) = ⊎-elim (λ b. inl (inr (a .0, b))) inr (stops-in l m p (a .1))
-
-stops-tab : (f : ℕ → Rule) (n p : ℕ) → Stops (tab f n) p → (i : ℕ) × (i < n) × (p ≡ f i .at)
+stops-tab : (f : ℕ → Rule) (n : ℕ) (l : List Rule) (p : ℕ) → Stops (tab f n ++ l) p
+    → ((i : ℕ) × (i < n) × (p ≡ f i .at) × ((j : ℕ) → j < i → f j .holds) × (f i .holds → ⊥)) ⊎ (((j : ℕ) → j < n → f j .holds) × Stops l p)
 unfolding tab
-stops-tab f zero p a = absurd a
-stops-tab f (suc n) p (inl a) = (0, omega arith, a .1)
-stops-tab f (suc n) p (inr a) = let w = stops-tab (λ i. f (suc i)) n p (a .1) in (suc (w .0), omega (arith, w .1), w .2)
+stops-tab f zero l p a = inr ((λ j m. absurd (omega arith)), a)
+stops-tab f (suc n) l p (inl a) = inl (0, omega arith, a .1, (λ j m. absurd (omega arith)), a .0)
+stops-tab f (suc n) l p (inr a) = ⊎-elim
+    (λ w. inl (suc (w .0), omega (arith, w .1), w .2, also (w .0) (w .3), w .4))
+    (λ w. inr (also n (w .0), w .1))
+    (stops-tab (λ i. f (suc i)) n l p (a .1))
+  where
+    also : (m : ℕ) → ((j : ℕ) → j < m → f (suc j) .holds) → (j : ℕ) → j < suc m → f j .holds
+    also m g zero k = a .0
+    also m g (suc j) k = g j (omega arith)
 
-stops-up : (n : ℕ) (P : ℕ → Type 0) (p : ℕ) → Stops (upward n P) p → p < n
-stops-up n P p a = let w = stops-tab (λ i. rule (i + 2) (P (i + 2))) (n - 2) p a in omega (arith, w .1, w .2)
+tab-stops : (f : ℕ → Rule) (n : ℕ) (l : List Rule) (i : ℕ) → i < n → ((j : ℕ) → j < i → f j .holds) → (f i .holds → ⊥) → Stops (tab f n ++ l) (f i .at)
+unfolding tab
+tab-stops f zero l i m b n = absurd (omega arith)
+tab-stops f (suc k) l zero m b n = inl (n, refl)
+tab-stops f (suc k) l (suc i) m b n = inr (b zero (omega arith), tab-stops (λ j. f (suc j)) k l i (omega arith) (λ j m. b (suc j) (omega arith)) n)
+
+stops-after : (l m : List Rule) (p : ℕ) → Every l → Stops m p → Stops (l ++ m) p
+stops-after [] m p e a = a
+stops-after (r ∷ l) m p e a = inr (e .0, stops-after l m p (e .1) a)
+
+module _ (n : ℕ) (P : ℕ → Type 0) (l : List Rule) (p : ℕ) where
+  stops-up : Stops (upward n P ++ l) p → ((2 ≤ p) × (p < n) × Below p P × (P p → ⊥)) ⊎ (Below n P × Stops l p)
+  stops-up a = ⊎-elim
+      (λ w. let e : w .0 + 2 ≡ p = sym (w .2) in inl (omega arith, omega (arith, w .1), (λ q u v. back q u (w .3 (q - 2) (omega arith))), (λ x. w .4 (subst P (sym e) x))))
+      (λ w. inr ((λ q u v. back q u (w .0 (q - 2) (omega arith))), w .1))
+      (stops-tab (λ i. rule (i + 2) (P (i + 2))) (n - 2) l p a)
+    where
+      back : (q : ℕ) → 2 ≤ q → P (q - 2 + 2) → P q
+      back q u x = let e : q - 2 + 2 ≡ q = omega arith in subst P e x
+
+  up-stops : 2 ≤ p → p < n → Below p P → (P p → ⊥) → Stops (upward n P ++ l) p
+  up-stops a b f g =
+      let e : p - 2 + 2 ≡ p = omega arith in
+      subst (λ q. Stops (upward n P ++ l) q) e
+      (tab-stops (λ i. rule (i + 2) (P (i + 2))) (n - 2) l (p - 2) (omega arith) (λ j k. f (j + 2) (omega arith) (omega arith)) (λ x. g (subst P e x)))
 
 -- ---- every rule of an accepted store
 
@@ -73,15 +100,14 @@ opened S h s a =
     let e = a .keeps in
     let up : List Rule = upward (pages S s) (Stands S h s) in
     let again : List Rule = upward (pages S s) (Parted S h s) in
-    let end : List Rule = rule 0 (Deepest S s) ∷ [] in
-    let rest : Every (up ++ (again ++ end)) = e .1 .1 in
+    let second = every-right up _ (e .1 .1) in
     record {
       long = a .long;
       page0 = e .0;
       page1 = e .1 .0;
-      stands = every-up (pages S s) (Stands S h s) (every-left up (again ++ end) rest);
-      parted = every-up (pages S s) (Parted S h s) (every-left again end (every-right up (again ++ end) rest));
-      deepest = every-right again end (every-right up (again ++ end) rest) .0;
+      stands = every-up (pages S s) (Stands S h s) (every-left up _ (e .1 .1));
+      parted = every-up (pages S s) (Parted S h s) (every-left again _ second);
+      deepest = every-right again _ second .0;
     }
 
 every-append : (l m : List Rule) → Every l → Every m → Every (l ++ m)
@@ -119,17 +145,38 @@ module _ (S : Shape) (h : List ℕ → ℕ) (s : List ℕ) where
   unfolding Broken
   accepted-whole a p b = stops-not (rules S h s) p (a .keeps) b
 
-  pub broken-below : 2 ≤ pages S s → (p : ℕ) → Broken S h s p → p < pages S s
+  at : (p : ℕ) {q : ℕ} → p ≡ q → StopsAt S h s q → StopsAt S h s p
+  at p e x = subst (λ r. StopsAt S h s r) (sym e) x
+
+  -- THE CHECK STOPS AT THE FIRST PAGE, IN THE ORDER OF DOCUMENT 01, THAT BREAKS A RULE
+  pub broken-stops : (p : ℕ) → Broken S h s p → StopsAt S h s p
   unfolding Broken rules
-  broken-below two p b = ⊎-elim (λ a. omega (arith, a .1)) (λ a. ⊎-elim (λ c. omega (arith, c .1)) (λ c. upper (c .1)) (a .1)) b
-    where
-      again : List Rule
-      again = upward (pages S s) (Parted S h s)
+  broken-stops p (inl a) = at p (a .1) (page-0 (a .0))
+  broken-stops p (inr (z, inl a)) = at p (a .1) (page-1 z (a .0))
+  broken-stops p (inr (z, inr (f, a))) = ⊎-elim
+      (λ w. standing z f p (w .0) (w .1) (w .2) (w .3))
+      (λ w. ⊎-elim
+      (λ v. joinable z f (w .0) p (v .0) (v .1) (v .2) (v .3))
+      (λ v. ⊎-elim (λ u. at p (u .1) (depth-last z f (w .0) (v .0) (u .0))) (λ u. absurd (u .1)) (v .1))
+      (stops-up (pages S s) (Parted S h s) _ p (w .1)))
+      (stops-up (pages S s) (Stands S h s) _ p a)
 
-      last : Stops (rule 0 (Deepest S s) ∷ []) p → p < pages S s
-      last e = ⊎-elim (λ a. omega (arith, a .1)) (λ a. absurd (a .1)) e
+  pub stops-broken : {p : ℕ} → StopsAt S h s p → Broken S h s p
+  unfolding Broken rules
+  stops-broken (page-0 n) = inl (n, refl)
+  stops-broken (page-1 z n) = inr (z, inl (n, refl))
+  stops-broken (standing z f p a b g n) = inr (z, inr (f, up-stops (pages S s) (Stands S h s) _ p a b g n))
+  stops-broken (joinable z f e p a b g n) =
+      inr (z, inr (f, stops-after (upward (pages S s) (Stands S h s)) _ p (up-every (pages S s) (Stands S h s) e) (up-stops (pages S s) (Parted S h s) _ p a b g n)))
+  stops-broken (depth-last z f e g n) =
+      inr (z, inr (f, stops-after (upward (pages S s) (Stands S h s)) _ 0 (up-every (pages S s) (Stands S h s) e) (stops-after (upward (pages S s) (Parted S h s)) _ 0 (up-every (pages S s) (Parted S h s) g) (inl (n, refl)))))
 
-      upper : Stops (upward (pages S s) (Stands S h s) ++ (again ++ (rule 0 (Deepest S s) ∷ []))) p → p < pages S s
-      upper e = ⊎-elim (stops-up (pages S s) (Stands S h s) p)
-          (λ f. ⊎-elim (stops-up (pages S s) (Parted S h s) p) last (stops-in again (rule 0 (Deepest S s) ∷ []) p f))
-          (stops-in (upward (pages S s) (Stands S h s)) (again ++ (rule 0 (Deepest S s) ∷ [])) p e)
+  pub stops-below : {p : ℕ} → 2 ≤ pages S s → StopsAt S h s p → p < pages S s
+  stops-below two (page-0 n) = omega arith
+  stops-below two (page-1 z n) = omega arith
+  stops-below two (standing z f p a b g n) = b
+  stops-below two (joinable z f e p a b g n) = b
+  stops-below two (depth-last z f e g n) = omega arith
+
+  pub broken-below : 2 ≤ pages S s → (p : ℕ) → Broken S h s p → p < pages S s
+  broken-below two p b = stops-below two (broken-stops p b)

@@ -1,7 +1,8 @@
--- Demands 2 and 3, whole: for every page size and every hash of 32 bits, and with nothing left to assume.
+-- The demands, whole: for every page size and every hash of 32 bits, and with nothing left to assume.
 -- Assumes nothing.
-use Rattle.store.specs.Demands.{Demand2, Demand3}
-use Rattle.store.proofs.Kept.{check-exact, lookup-is-map, put-refused}
+use Rattle.store.specs.Demands.{Demand1, Demand2, Demand3}
+use Rattle.store.proofs.Kept.{refusal-keeps, output-kept, check-exact, lookup-is-map, put-refused}
+use Rattle.store.proofs.Order.{refused-in-order, format-succeeds}
 use Rattle.store.proofs.Format.{format-accepted, accepted-always}
 use Rattle.store.proofs.Walked.{listed-once}
 use Rattle.store.proofs.Given.{count-is-size, row-is-listed, inspect-is-slot, place-comes-back}
@@ -9,6 +10,9 @@ use Rattle.store.proofs.PutRows.{put-rows}
 use Rattle.store.proofs.MoveRows.{remove-rows}
 use Rattle.store.proofs.Afresh.{put-map, remove-map, always-afresh, next-put-same}
 use Rattle.store.proofs.KeptPages.{kept-pages}
+
+pub demand-1 : Demand1
+demand-1 S h = (refused-in-order S h, format-succeeds S h, refusal-keeps S h, output-kept S h)
 
 pub demand-2 : Demand2
 demand-2 S h sized hash =

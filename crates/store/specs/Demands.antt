@@ -5,7 +5,7 @@ use mathlib.Core.Bool.{Bool, true, false}
 use mathlib.Core.List.{List, [], _∷_, map}
 use mathlib.Core.Logic.{_↔_, _⊎_}
 use mathlib.Core.Option.{Option, some, none}
-use Prim.Native.Nat.{ℕ, zero, suc, _-_, _*_, _^_, _≤_, _<_}
+use Prim.Native.Nat.{ℕ, zero, suc, _+_, _*_, _^_, _≤_, _<_}
 use lib.ListN.{length, getElem?}
 use Rattle.ground.specs.Lists.{byte, tab}
 use Rattle.page.specs.Page.{Record, depth, rows}
@@ -17,7 +17,7 @@ use Rattle.ground.specs.Ladder.{Answers}
 use Rattle.words.specs.Codes.{order}
 use Rattle.partition.specs.Listing.{by, without, inOrder, listing, placeOf, Once}
 use Rattle.store.specs.Pages.{S1024, size, pages, page, Page, free, bucket, read, asRow, rowsHeld, dirDepth, entryAt}
-use Rattle.store.specs.Accepted.{GoodLength, Zero, Bucket, Accepted}
+use Rattle.store.specs.Accepted.{Zero, Bucket, Page0, Page1, Stands, Parted, Deepest, Accepted}
 use Rattle.store.specs.Moves.{pick}
 use Rattle.page.specs.Places.{place, stored, Negative, InRange}
 use Rattle.store.specs.Tables.{Out, refused, refusedAt, formatted, accepted, new, replaced, found, counted, row, Refusal4, Refusal6, Refusal7, formatTable, checkTable, countTable, lookupTable, putTable, removeTable, rowTable, inspectTable}
@@ -58,9 +58,73 @@ ok (found p) = true
 ok (counted n) = true
 ok (row n p) = true
 
--- ---- demand 1: a refused call keeps every byte of store and output
+-- ---- demand 1: any bytes may come; what is wrong with them has its number, and a refused call keeps every byte of store and output
+
+-- A code is 1 to 64 bytes.
+pub record GoodCode (c : List ℕ) : Type 0 where
+  pub least : 1 ≤ length c
+  pub most : length c ≤ 64
+
+-- a store is whole pages, 3 at least, at most the entries and 2
+abbrev pub WholePages : Shape → List ℕ → Type 0
+WholePages S s = (n : ℕ) × (length s ≡ n * size S) × (3 ≤ n) × (n ≤ S .entries + 2)
+
+-- the pages from 2 up to n, without n
+abbrev pub Below : ℕ → (ℕ → Type 0) → Type 0
+Below n Keeps = (q : ℕ) → 2 ≤ q → q < n → Keeps q
+
+-- The check stops at page p, the first that breaks a rule: page 0; page 1; pages 2 upward; again upward, all of them standing; last, page 0 for its depth.
+pub data StopsAt (S : Shape) (h : List ℕ → ℕ) (s : List ℕ) : ℕ → Type 0 where
+  page-0 : (Page0 S s → ⊥) → StopsAt S h s 0
+  page-1 : Page0 S s → (Page1 S s → ⊥) → StopsAt S h s 1
+  standing : Page0 S s → Page1 S s → (p : ℕ) → 2 ≤ p → p < pages S s → Below p (Stands S h s) → (Stands S h s p → ⊥) → StopsAt S h s p
+  joinable : Page0 S s → Page1 S s → Below (pages S s) (Stands S h s)
+      → (p : ℕ) → 2 ≤ p → p < pages S s → Below p (Parted S h s) → (Parted S h s p → ⊥) → StopsAt S h s p
+  depth-last : Page0 S s → Page1 S s → Below (pages S s) (Stands S h s) → Below (pages S s) (Parted S h s) → (Deepest S s → ⊥) → StopsAt S h s 0
+
+-- inspection carries page number 0, for a page that is neither free nor a bucket of a depth that there is
+abbrev pub NoPage : Shape → (List ℕ → ℕ) → List ℕ → ℕ → Type 0
+NoPage S h g p = (p ≡ 0) × (Zero g → ⊥) × (Bucket h g → depth g ≤ S .deepest → ⊥)
+
+-- what can be wrong with what a call is given, in the order of the refusals: 1, 3, 4, 8 and, with its page, 2
+pub record Faults : Type 1 where
+  pub bad-length : Type 0
+  pub bad-code : Type 0
+  pub bad-place : Type 0
+  pub short-output : Type 0
+  pub bad-page : ℕ → Type 0
+
+abbrev pub in-turn : Type 0 → Type 0 → Type 0 → Type 0 → (ℕ → Type 0) → Faults
+in-turn l c p o g = record { bad-length = l; bad-code = c; bad-place = p; short-output = o; bad-page = g }
+
+-- by which calls: 1 by all, 3 by lookup, put and remove, 4 by put, 8 by row at place n and inspection, 2 by all but format
+abbrev pub faults : Shape → (List ℕ → ℕ) → Call → List ℕ → Faults
+faults S h format s = in-turn (WholePages S s → ⊥) ⊥ ⊥ ⊥ (λ p. ⊥)
+faults S h check s = in-turn (WholePages S s → ⊥) ⊥ ⊥ ⊥ (StopsAt S h s)
+faults S h count s = in-turn (WholePages S s → ⊥) ⊥ ⊥ ⊥ (StopsAt S h s)
+faults S h (lookup c) s = in-turn (WholePages S s → ⊥) (GoodCode c → ⊥) ⊥ ⊥ (StopsAt S h s)
+faults S h (remove c) s = in-turn (WholePages S s → ⊥) (GoodCode c → ⊥) ⊥ ⊥ (StopsAt S h s)
+faults S h (put c p) s = in-turn (WholePages S s → ⊥) (GoodCode c → ⊥) (Negative p) ⊥ (StopsAt S h s)
+faults S h (rowAt n out) s = in-turn (WholePages S s → ⊥) ⊥ ⊥ (length out < 64) (StopsAt S h s)
+faults S h (inspect g n out) s = in-turn (length g ≡ size S → ⊥) ⊥ ⊥ (length out < 64) (NoPage S h g)
+
+-- each number given exactly when its fault is the first
+pub record ExactlyWhen (w : Faults) (o : Out) : Type 0 where
+  pub one : (o ≡ refused 1) ↔ w .bad-length
+  pub three : (o ≡ refused 3) ↔ ((w .bad-length → ⊥) × w .bad-code)
+  pub four : (o ≡ refused 4) ↔ ((w .bad-length → ⊥) × (w .bad-code → ⊥) × w .bad-place)
+  pub eight : (o ≡ refused 8) ↔ ((w .bad-length → ⊥) × (w .bad-code → ⊥) × (w .bad-place → ⊥) × w .short-output)
+  pub two : (p : ℕ) → (o ≡ refusedAt 2 p) ↔ ((w .bad-length → ⊥) × (w .bad-code → ⊥) × (w .bad-place → ⊥) × (w .short-output → ⊥) × w .bad-page p)
 
 module _ (S : Shape) (h : List ℕ → ℕ) where
+  -- of any call, over all bytes
+  abbrev pub RefusedInOrder : Type 0
+  RefusedInOrder = (c : Call) (s : List ℕ) (o : Out) (t : List ℕ) → Made S h c s o t → ExactlyWhen (faults S h c s) o
+
+  -- format is refused by its length alone, whatever the store held
+  abbrev pub FormatSucceeds : Type 0
+  FormatSucceeds = (s : List ℕ) (o : Out) (t : List ℕ) → Made S h format s o t → WholePages S s → o ≡ formatted
+
   -- of any call
   abbrev pub RefusalKeeps : Type 0
   RefusalKeeps = (c : Call) (s : List ℕ) (o : Out) (t : List ℕ) → Made S h c s o t → ok o ≡ false → t ≡ s
@@ -79,11 +143,6 @@ map-of S s c = placeOf (rowsHeld S s) c
 unfoldable pub update : (List ℕ → Option (List ℕ)) → List ℕ → Option (List ℕ) → List ℕ → Option (List ℕ)
 unfolding order
 update m c b x = by (order x c) (m x) b (m x)
-
--- A code is 1 to 64 bytes.
-pub record GoodCode (c : List ℕ) : Type 0 where
-  pub least : 1 ≤ length c
-  pub most : length c ≤ 64
 
 -- the code at the start of the output, the bytes after it left
 pub record AtStart (c out out′ : List ℕ) : Type 0 where
@@ -111,10 +170,9 @@ module _ (S : Shape) (h : List ℕ → ℕ) where
   abbrev pub CheckExact : Type 0
   CheckExact = (s : List ℕ) → (Made S h check s accepted s ↔ Accepted S h s)
 
-  -- lookup answers the map's place, 5 where there is none; 3 exactly for what is no code
+  -- lookup answers the map's place, 5 where there is none
   abbrev pub LookupIsMap : Type 0
-  LookupIsMap = (s c : List ℕ) (o : Out) (t : List ℕ) → Accepted S h s → Made S h (lookup c) s o t
-      → (GoodCode c → o ≡ answerOf (map-of S s c)) × ((GoodCode c → ⊥) → o ≡ refused 3)
+  LookupIsMap = (s c : List ℕ) (o : Out) (t : List ℕ) → Accepted S h s → Made S h (lookup c) s o t → GoodCode c → o ≡ answerOf (map-of S s c)
 
   -- a put that is not refused sets its code, one that is changes nothing
   abbrev pub PutIsMap : Type 0
@@ -124,9 +182,8 @@ module _ (S : Shape) (h : List ℕ → ℕ) where
 
   -- remove answers as lookup does, and the map afterwards is the map without the code
   abbrev pub RemoveIsMap : Type 0
-  RemoveIsMap = (s c : List ℕ) (o : Out) (t : List ℕ) → Accepted S h s → Made S h (remove c) s o t
-      → (GoodCode c → (o ≡ answerOf (map-of S s c)) × ((x : List ℕ) → map-of S t x ≡ update (map-of S s) c none x))
-      × ((GoodCode c → ⊥) → (o ≡ refused 3) × (t ≡ s))
+  RemoveIsMap = (s c : List ℕ) (o : Out) (t : List ℕ) → Accepted S h s → Made S h (remove c) s o t → GoodCode c
+      → (o ≡ answerOf (map-of S s c)) × ((x : List ℕ) → map-of S t x ≡ update (map-of S s) c none x)
 
   -- a put on an accepted store is refused exactly when the table says
   abbrev pub Refuses : List ℕ → List ℕ → Place → Row → Type 0
@@ -145,20 +202,16 @@ module _ (S : Shape) (h : List ℕ → ℕ) where
   abbrev pub CountIsSize : Type 0
   CountIsSize = (s : List ℕ) (o : Out) (t : List ℕ) → Accepted S h s → Made S h count s o t → o ≡ counted (length (listing S h (rowsHeld S s)))
 
-  -- row at place n is element n of the listing; 8 exactly for a short output, before the check
+  -- row at place n is element n of the listing
   abbrev pub RowIsListed : Type 0
-  RowIsListed = (s : List ℕ) (n : ℕ) (out : List ℕ) (o : Out) (out′ : List ℕ) → Answers (rowTable S h s n out) (o, out′)
-      → (GoodLength S s → (o ≡ refused 8) ↔ (length out < 64))
-      × (Accepted S h s → 64 ≤ length out → Nth (listing S h (rowsHeld S s)) n out o out′)
+  RowIsListed = (s : List ℕ) (n : ℕ) (out : List ℕ) (o : Out) (out′ : List ℕ) → Accepted S h s → 64 ≤ length out → Answers (rowTable S h s n out) (o, out′)
+      → Nth (listing S h (rowsHeld S s)) n out o out′
 
-  -- inspection is slot n of a page: 9 on a free page, 2 with page 0 on a page that is neither free nor a bucket of a depth that there is
+  -- inspection is slot n of a bucket page; 9 on a free page
   abbrev pub InspectIsSlot : Type 0
-  InspectIsSlot = (g : List ℕ) (n : ℕ) (out : List ℕ) (o : Out) (out′ : List ℕ) → length g ≡ size S → Answers (inspectTable S h g n out) (o, out′)
-      → ((o ≡ refused 8) ↔ (length out < 64))
-      × (64 ≤ length out
+  InspectIsSlot = (g : List ℕ) (n : ℕ) (out : List ℕ) (o : Out) (out′ : List ℕ) → length g ≡ size S → 64 ≤ length out → Answers (inspectTable S h g n out) (o, out′)
       → (Zero g → (o ≡ refused 9) × (out′ ≡ out))
       × (Bucket h g → depth g ≤ S .deepest → Nth (map asRow (rows g)) n out o out′)
-      × ((Zero g → ⊥) → (Bucket h g → depth g ≤ S .deepest → ⊥) → o ≡ refusedAt 2 0))
 
   -- a place comes back from its 8 bytes, and what the map holds is such bytes
   abbrev pub PlaceComesBack : Type 0
@@ -247,7 +300,7 @@ module _ (S : Shape) (h : List ℕ → ℕ) where
 
 -- all of it, for every page size and every hash
 abbrev pub Demand1 : Type 0
-Demand1 = (S : Shape) (h : List ℕ → ℕ) → RefusalKeeps S h × OutputKept S h
+Demand1 = (S : Shape) (h : List ℕ → ℕ) → RefusedInOrder S h × FormatSucceeds S h × RefusalKeeps S h × OutputKept S h
 
 abbrev pub Demand2 : Type 0
 Demand2 = (S : Shape) (h : List ℕ → ℕ) → Sized S → Hash h
