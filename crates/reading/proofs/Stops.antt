@@ -5,7 +5,7 @@ use native.Mathlib.Omega.{arith}
 use Rattle.partition.specs.declared.Shape.{Shape}
 use Rattle.store.specs.Pages.{pages}
 use Rattle.store.specs.Accepted.{GoodLength, Page0, Page1, Stands, Parted, Deepest}
-use Rattle.store.specs.Demands.{Below, StopsAt, page-0, page-1, standing, joinable, depth-last}
+use Rattle.store.specs.Demands.{Below, StopsAt, page-0, page-1, first-pass, second-pass, last}
 use Rattle.store.proofs.Rules.{stops-broken, stops-below, closed}
 use Rattle.reading.specs.First.{FirstBad, Judged}
 
@@ -32,15 +32,15 @@ module _ (S : Shape) (h : List ℕ → ℕ) (s : List ℕ) (long : GoodLength S 
 
     module _ (first : Page1 S s) where
       pub bad-up : (p : ℕ) → FirstBad (pages S s) (Stands S h s) p → p < pages S s → Judged S h s p
-      bad-up p f l = stopped p (standing zeroth first p (f .start) l (before (pages S s) (Stands S h s) p f) (f .bad l))
+      bad-up p f l = stopped p (first-pass zeroth first p (f .start) l (before (pages S s) (Stands S h s) p f) (f .bad l))
 
       module _ (stands : Below (pages S s) (Stands S h s)) where
         pub bad-again : (p : ℕ) → FirstBad (pages S s) (Parted S h s) p → p < pages S s → Judged S h s p
-        bad-again p f l = stopped p (joinable zeroth first stands p (f .start) l (before (pages S s) (Parted S h s) p f) (f .bad l))
+        bad-again p f l = stopped p (second-pass zeroth first stands p (f .start) l (before (pages S s) (Parted S h s) p f) (f .bad l))
 
         module _ (parted : Below (pages S s) (Parted S h s)) where
           pub bad-last : (Deepest S s → ⊥) → Judged S h s 0
-          bad-last n = stopped 0 (depth-last zeroth first stands parted n)
+          bad-last n = stopped 0 (last zeroth first stands parted n)
 
           pub all-sound : Deepest S s → Judged S h s (pages S s)
           all-sound d = record {

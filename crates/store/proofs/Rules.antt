@@ -8,7 +8,7 @@ use Rattle.ground.specs.Lists.{tab}
 use Rattle.partition.specs.declared.Shape.{Shape}
 use Rattle.store.specs.Pages.{pages}
 use Rattle.store.specs.Accepted.{GoodLength, Page0, Page1, Stands, Parted, Deepest, Rule, rule, rules, upward, Every, Stops, Broken, Accepted}
-use Rattle.store.specs.Demands.{Below, StopsAt, page-0, page-1, standing, joinable, depth-last}
+use Rattle.store.specs.Demands.{Below, StopsAt, page-0, page-1, first-pass, second-pass, last}
 
 -- the check stops at one page at most, and at none where every rule holds
 pub stops-one : (l : List Rule) (p q : ℕ) → Stops l p → Stops l q → p ≡ q
@@ -154,10 +154,10 @@ module _ (S : Shape) (h : List ℕ → ℕ) (s : List ℕ) where
   broken-stops p (inl a) = at p (a .1) (page-0 (a .0))
   broken-stops p (inr (z, inl a)) = at p (a .1) (page-1 z (a .0))
   broken-stops p (inr (z, inr (f, a))) = ⊎-elim
-      (λ w. standing z f p (w .0) (w .1) (w .2) (w .3))
+      (λ w. first-pass z f p (w .0) (w .1) (w .2) (w .3))
       (λ w. ⊎-elim
-      (λ v. joinable z f (w .0) p (v .0) (v .1) (v .2) (v .3))
-      (λ v. ⊎-elim (λ u. at p (u .1) (depth-last z f (w .0) (v .0) (u .0))) (λ u. absurd (u .1)) (v .1))
+      (λ v. second-pass z f (w .0) p (v .0) (v .1) (v .2) (v .3))
+      (λ v. ⊎-elim (λ u. at p (u .1) (last z f (w .0) (v .0) (u .0))) (λ u. absurd (u .1)) (v .1))
       (stops-up (pages S s) (Parted S h s) _ p (w .1)))
       (stops-up (pages S s) (Stands S h s) _ p a)
 
@@ -165,18 +165,18 @@ module _ (S : Shape) (h : List ℕ → ℕ) (s : List ℕ) where
   unfolding Broken rules
   stops-broken (page-0 n) = inl (n, refl)
   stops-broken (page-1 z n) = inr (z, inl (n, refl))
-  stops-broken (standing z f p a b g n) = inr (z, inr (f, up-stops (pages S s) (Stands S h s) _ p a b g n))
-  stops-broken (joinable z f e p a b g n) =
+  stops-broken (first-pass z f p a b g n) = inr (z, inr (f, up-stops (pages S s) (Stands S h s) _ p a b g n))
+  stops-broken (second-pass z f e p a b g n) =
       inr (z, inr (f, stops-after (upward (pages S s) (Stands S h s)) _ p (up-every (pages S s) (Stands S h s) e) (up-stops (pages S s) (Parted S h s) _ p a b g n)))
-  stops-broken (depth-last z f e g n) =
+  stops-broken (last z f e g n) =
       inr (z, inr (f, stops-after (upward (pages S s) (Stands S h s)) _ 0 (up-every (pages S s) (Stands S h s) e) (stops-after (upward (pages S s) (Parted S h s)) _ 0 (up-every (pages S s) (Parted S h s) g) (inl (n, refl)))))
 
   pub stops-below : {p : ℕ} → 2 ≤ pages S s → StopsAt S h s p → p < pages S s
   stops-below two (page-0 n) = omega arith
   stops-below two (page-1 z n) = omega arith
-  stops-below two (standing z f p a b g n) = b
-  stops-below two (joinable z f e p a b g n) = b
-  stops-below two (depth-last z f e g n) = omega arith
+  stops-below two (first-pass z f p a b g n) = b
+  stops-below two (second-pass z f e p a b g n) = b
+  stops-below two (last z f e g n) = omega arith
 
   pub broken-below : 2 ≤ pages S s → (p : ℕ) → Broken S h s p → p < pages S s
   broken-below two p b = stops-below two (broken-stops p b)

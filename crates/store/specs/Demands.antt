@@ -73,14 +73,14 @@ WholePages S s = (n : ℕ) × (length s ≡ n * size S) × (3 ≤ n) × (n ≤ S
 abbrev pub Below : ℕ → (ℕ → Type 0) → Type 0
 Below n Keeps = (q : ℕ) → 2 ≤ q → q < n → Keeps q
 
--- The check stops at page p, the first that breaks a rule: page 0; page 1; pages 2 upward; again upward, all of them standing; last, page 0 for its depth.
+-- The check stops at page p, the first that breaks a rule: page 0; page 1; pages 2 upward; again upward; last, page 0 for its depth.
 pub data StopsAt (S : Shape) (h : List ℕ → ℕ) (s : List ℕ) : ℕ → Type 0 where
   page-0 : (Page0 S s → ⊥) → StopsAt S h s 0
   page-1 : Page0 S s → (Page1 S s → ⊥) → StopsAt S h s 1
-  standing : Page0 S s → Page1 S s → (p : ℕ) → 2 ≤ p → p < pages S s → Below p (Stands S h s) → (Stands S h s p → ⊥) → StopsAt S h s p
-  joinable : Page0 S s → Page1 S s → Below (pages S s) (Stands S h s)
+  first-pass : Page0 S s → Page1 S s → (p : ℕ) → 2 ≤ p → p < pages S s → Below p (Stands S h s) → (Stands S h s p → ⊥) → StopsAt S h s p
+  second-pass : Page0 S s → Page1 S s → Below (pages S s) (Stands S h s)
       → (p : ℕ) → 2 ≤ p → p < pages S s → Below p (Parted S h s) → (Parted S h s p → ⊥) → StopsAt S h s p
-  depth-last : Page0 S s → Page1 S s → Below (pages S s) (Stands S h s) → Below (pages S s) (Parted S h s) → (Deepest S s → ⊥) → StopsAt S h s 0
+  last : Page0 S s → Page1 S s → Below (pages S s) (Stands S h s) → Below (pages S s) (Parted S h s) → (Deepest S s → ⊥) → StopsAt S h s 0
 
 -- inspection carries page number 0, for a page that is neither free nor a bucket of a depth that there is
 abbrev pub NoPage : Shape → (List ℕ → ℕ) → List ℕ → ℕ → Type 0
