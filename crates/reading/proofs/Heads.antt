@@ -1,15 +1,18 @@
 -- Pages 0 and 1: what their tests say of their rules. Assumes nothing.
-use mathlib.Core.Path.{_≡_, refl, sym, ap, _∙_}
+use mathlib.Core.Path.{_≡_, refl, sym, ap, subst, _∙_}
 use mathlib.Core.List.{List}
 use mathlib.Core.Logic.{_⊎_, inl, inr, ⊎-elim}
-use Prim.Native.Nat.{ℕ, _+_, _-_, _^_, _≤_, _<_}
+use Prim.Native.Nat.{ℕ, _+_, _-_, _*_, _^_, _≤_, _<_}
 use native.Mathlib.Omega.{arith}
+use native.Mathlib.Nat.{div-add-mod'}
 use lib.ListN.{length, getD, take, drop, List·getD-eq-default}
 use Rattle.ground.specs.Lists.{byte, part}
 use Rattle.ground.proofs.Sides.{side, same}
 use Rattle.ground.proofs.Parts.{byte-part, length-part, lent-part}
 use Rattle.words.specs.Zeros.{Zero}
-use Rattle.store.specs.Pages.{S1024, pages, dirDepth, entryAt}
+use Rattle.partition.specs.declared.Shape.{Shape}
+use Rattle.store.specs.Demands.{Sized}
+use Rattle.store.specs.Pages.{size, pages, dirDepth, entryAt}
 use Rattle.hash.specs.Fnv.{fnv}
 use Rattle.store.specs.Accepted.{GoodLength, Page0, Page1, Stands}
 use Rattle.reading.specs.Directory.{Entries, AllAre, AllBelow, Ranges}
@@ -29,28 +32,38 @@ zero-lent s a e l m z k =
     (λ ge. List·getD-eq-default (part s a (e - a)) 0 (omega (arith, length-part s a (e - a) (omega arith)))) (side k (e - a))
 
 -- page 1, by its entries
-module _ (s dir : List ℕ) (n m : ℕ) (decoded : Entries s dir) (number : n ≡ pages S1024 s) (more : 3 ≤ n) (power : m ≡ 2 ^ dirDepth s) where
-  pub to-page1 : Ranges dir n m → Page1 S1024 s
+module _ (S : Shape) (s dir : List ℕ) (n m : ℕ) (decoded : Entries S s dir) (number : n ≡ pages S s) (more : 3 ≤ n) (power : m ≡ 2 ^ dirDepth s) where
+  low : (i : ℕ) → i < length dir → i < S .entries
+  low i l = subst (λ m. i < m) (decoded .long) l
+
+  high : (i : ℕ) → i < S .entries → i < length dir
+  high i l = subst (λ m. i < m) (sym (decoded .long)) l
+
+  pub to-page1 : Ranges dir n m → Page1 S s
   to-page1 r = record {
     range = λ i l.
-        let e : getD dir i 0 ≡ entryAt S1024 s i = decoded .entry i l in
-        ⊎-elim (λ z. inl z) (λ nz. inr (omega (arith, nz, r .not-one i (omega arith) l, r .below i (omega arith) l), omega (arith, r .below i (omega arith) l)))
-        (same (entryAt S1024 s i) 0);
-    beyond = λ i l h. sym (decoded .entry i l) ∙ r .beyond i (omega arith) l;
+        let e : getD dir i 0 ≡ entryAt S s i = decoded .entry i l in
+        ⊎-elim (λ z. inl z) (λ nz. inr (omega (arith, nz, r .not-one i (omega arith) (high i l), r .below i (omega arith) (high i l)), omega (arith, r .below i (omega arith) (high i l))))
+        (same (entryAt S s i) 0);
+    beyond = λ i l h. sym (decoded .entry i l) ∙ r .beyond i (omega arith) (high i l);
   }
 
-  pub of-page1 : Page1 S1024 s → Ranges dir n m
+  pub of-page1 : Page1 S s → Ranges dir n m
   of-page1 r = record {
-    not-one = λ i _ l q. ⊎-elim (λ z. omega (arith, decoded .entry i l)) (λ b. omega (arith, decoded .entry i l, b .0)) (r .range i l);
-    below = λ i _ l. ⊎-elim (λ z. omega (arith, decoded .entry i l)) (λ b. omega (arith, decoded .entry i l, b .1)) (r .range i l);
-    beyond = λ i h l. decoded .entry i l ∙ r .beyond i l (omega arith);
+    not-one = λ i _ l q. ⊎-elim (λ z. omega (arith, decoded .entry i (low i l))) (λ b. omega (arith, decoded .entry i (low i l), b .0)) (r .range i (low i l));
+    below = λ i _ l. ⊎-elim (λ z. omega (arith, decoded .entry i (low i l))) (λ b. omega (arith, decoded .entry i (low i l), b .1)) (r .range i (low i l));
+    beyond = λ i h l. decoded .entry i (low i l) ∙ r .beyond i (low i l) (omega arith);
   }
 
 -- what the passes over the pages start from
-module _ (s : List ℕ) (good : GoodLength S1024 s) (zeroth : Page0 S1024 s) where
-  pub begun : (dir : List ℕ) (d : ℕ) → d ≡ dirDepth s → Entries s dir → AllBelow dir 0 256 (pages S1024 s) → AllAre dir (2 ^ d) 256 0 → Begun s dir (pages S1024 s) d
+module _ (S : Shape) (sized : Sized S) (s : List ℕ) (good : GoodLength S s) (zeroth : Page0 S s) where
+  pub whole-long : length s ≡ pages S s * size S
+  whole-long = omega (arith, div-add-mod' (length s) (size S), good .whole)
+
+  pub begun : (dir : List ℕ) (d : ℕ) → d ≡ dirDepth s → Entries S s dir → AllBelow dir 0 (length dir) (pages S s) → AllAre dir (2 ^ d) (length dir) 0 → Begun S s dir (pages S s) d
   begun dir d e decoded b z = record {
-    long = omega (arith, good .whole);
+    sized = sized;
+    long = whole-long;
     number = refl;
     least = good .least;
     most = good .most;
@@ -61,5 +74,5 @@ module _ (s : List ℕ) (good : GoodLength S1024 s) (zeroth : Page0 S1024 s) whe
     beyond = z;
   }
 
-  pub standing : ((p : ℕ) → 2 ≤ p → p < pages S1024 s → Stands S1024 fnv s p) → Standing s (pages S1024 s)
-  standing f = record { long = omega (arith, good .whole); number = refl; least = good .least; most = good .most; deep = zeroth .depth; each = f }
+  pub standing : ((p : ℕ) → 2 ≤ p → p < pages S s → Stands S fnv s p) → Standing S s (pages S s)
+  standing f = record { sized = sized; long = whole-long; number = refl; least = good .least; most = good .most; deep = zeroth .depth; each = f }

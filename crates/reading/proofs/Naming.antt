@@ -5,8 +5,10 @@ use mathlib.Core.Logic.{⊎-elim}
 use Prim.Native.Nat.{ℕ, _-_, _^_, _≤_, _<_}
 use native.Mathlib.Omega.{arith}
 use lib.Pow.{pow-mono}
-use lib.ListN.{getD}
+use lib.ListN.{length, getD}
 use Rattle.ground.proofs.Sides.{side}
+use Rattle.partition.specs.declared.Shape.{Shape}
+use Rattle.partition.specs.Sizes.{Sized}
 use Rattle.partition.specs.Partition.{first, after}
 use Rattle.partition.proofs.Tree.{pfx}
 use Rattle.partition.proofs.Directory.{holds-range}
@@ -14,10 +16,10 @@ use Rattle.reading.specs.Directory.{AllAre, NoneIs, Exactly, Counted, Na
 use Rattle.reading.proofs.Counts.{exactly-counted, counted-exactly}
 
 -- a directory has no more entries than page 1 has room for
-pub entries-256 : (d : ℕ) → d ≤ 8 → 2 ^ d ≤ 256
-entries-256 d l = let m : 2 ^ d ≤ 2 ^ 8 = pow-mono l in omega arith
+pub room : (S : Shape) → Sized S → (d : ℕ) → d ≤ S .deepest → 2 ^ d ≤ S .entries
+room S z d l = let m : 2 ^ d ≤ 2 ^ S .deepest = pow-mono l in omega (arith, z .deep)
 
-module _ (dir : List ℕ) (d p : ℕ) (some : 2 ≤ p) (beyond : AllAre dir (2 ^ d) 256 0) where
+module _ (dir : List ℕ) (d p : ℕ) (some : 2 ≤ p) (beyond : AllAre dir (2 ^ d) (length dir) 0) where
   to-named : (k v : ℕ) → Exactly dir (2 ^ d) (first d (pfx k v)) (after d (pfx k v)) p → Named dir d k v p
   to-named k v e i l = (
     (λ q. ⊎-elim
@@ -26,13 +28,13 @@ module _ (dir : List ℕ) (d p : ℕ) (some : 2 ≤ p) (beyond : AllAre dir (2 ^
     (λ c. e i (c .below) .1 (holds-range d i (pfx k v) .0 (c .bits))),
   )
 
-  of-named : (k v : ℕ) → 2 ^ d ≤ 256 → Named dir d k v p → Exactly dir (2 ^ d) (first d (pfx k v)) (after d (pfx k v)) p
+  of-named : (k v : ℕ) → 2 ^ d ≤ length dir → Named dir d k v p → Exactly dir (2 ^ d) (first d (pfx k v)) (after d (pfx k v)) p
   of-named k v m n i l = (
     (λ q. holds-range d i (pfx k v) .0 (n i (omega arith) .0 q .bits)),
     (λ r. n i (omega arith) .1 (record { below = l; bits = holds-range d i (pfx k v) .1 r })),
   )
 
-  module _ (counts : List ℕ) (C : Counted dir (2 ^ d) counts) (last : p < 258) (fits : 2 ^ d ≤ 256) where
+  module _ (n : ℕ) (counts : List ℕ) (C : Counted dir (2 ^ d) n counts) (last : p < n) (fits : 2 ^ d ≤ length dir) where
     -- the run all p, and its length the number of entries that are p
     module _ (k v a b : ℕ) (begins : a ≡ first d (pfx k v)) (ends : b ≡ after d (pfx k v)) (up : a ≤ b) (within : b ≤ 2 ^ d) where
       pub run-named : AllAre dir a b p → getD counts p 0 ≡ b - a → Named dir d k v p
@@ -44,10 +46,10 @@ module _ (dir : List ℕ) (d p : ℕ) (some : 2 ≤ p) (beyond : AllAre dir (2 ^
           (y .0, C .each p last ∙ y .1)
 
     -- a page that no entry names
-    pub unnamed : getD counts p 0 ≡ 0 → NoneIs dir 0 256 p
+    pub unnamed : getD counts p 0 ≡ 0 → NoneIs dir 0 (length dir) p
     unnamed e i a l q = ⊎-elim
         (λ lt. let y = exactly-counted dir (2 ^ d) p 0 0 (omega arith) (omega arith) (λ j x y. absurd (omega arith)) (sym (C .each p last) ∙ e) i lt .0 q in omega (arith, y .1))
         (λ ge. omega (arith, beyond i ge l)) (side i (2 ^ d))
 
-    pub none-named : NoneIs dir 0 256 p → getD counts p 0 ≡ 0
+    pub none-named : NoneIs dir 0 (length dir) p → getD counts p 0 ≡ 0
     none-named n = C .each p last ∙ counted-exactly dir (2 ^ d) p 0 0 (omega arith) (omega arith) (λ i l. ((λ q. absurd (n i (omega arith) (omega arith) q)), (λ x. absurd (omega (arith, x .1))))) .1

@@ -1,20 +1,24 @@
 // The directory, read once, and runs of its entries.
 ghost use mathlib.Core.Path.{_≡_};
-ghost use Prim.Native.Nat.{_≤_, _<_, _^_};
+ghost use Prim.Native.Nat.{_*_, _^_, _≤_, _<_};
 ghost use lib.ListN.{length};
 ghost use Rattle.ground.specs.Says.{Says};
 ghost use Rattle.words.specs.Zeros.{Zero};
 ghost use Rattle.reading.specs.Directory.{Entries, AllAre, NoneIs, AllBelow, Counted, Ranges, Named};
 ghost use Rattle.partition.specs.Bits.{top};
+ghost use Rattle.store.specs.Pages.{size};
+ghost use Rattle.store.specs.Demands.{Sized};
+use partition::Shape;
 
 // The directory's entries.
-pub fn entries(s: &[u8], dir: &mut [u32])
-    requires { ⌜ (2048 ≤ length (now s)) × (length (now dir) ≡ 256) ⌝ }
-    ensures { λ _. ⌜ Entries (now (s .entry)) (now (dir .exit)) ⌝ }
+pub fn entries(s: &[u8], z: Shape, dir: &mut [u32])
+    requires { ⌜ Sized z × (2 * size z ≤ length (now s)) × (length (now dir) ≡ z .entries) ⌝ }
+    ensures { λ _. ⌜ Entries z (now (s .entry)) (now (dir .exit)) ⌝ }
 {
+    let m = z.entries;
     let mut i = 0;
-    while i < 256 {
-        dir[i] = words::get32(s, 1024 + 4 * i) as u32;
+    while i < m {
+        dir[i] = words::get32(s, 8 + z.capacity + 4 * i) as u32;
         i += 1;
     }
 }
@@ -69,22 +73,22 @@ fn all_below(dir: &[u32], a: usize, b: usize, n: u32) -> bool
 
 // Whether the entries are in range for n pages, and zero from m on.
 pub fn ranges(dir: &[u32], n: u32, m: usize) -> bool
-    requires { ⌜ (length (now dir) ≡ 256) × (m ≤ 256) ⌝ }
+    requires { ⌜ m ≤ length (now dir) ⌝ }
     ensures { λ r. ⌜ Says r (Ranges (now (dir .entry)) n m) ⌝ }
 {
-    if !none_is(dir, 0, 256, 1) {
+    if !none_is(dir, 0, dir.len(), 1) {
         return false;
     }
-    if !all_below(dir, 0, 256, n) {
+    if !all_below(dir, 0, dir.len(), n) {
         return false;
     }
-    all_are(dir, m, 256, 0)
+    all_are(dir, m, dir.len(), 0)
 }
 
 // How many of the entries up to m name each page.
 pub fn tally(dir: &[u32], m: usize, counts: &mut [u32])
-    requires { ⌜ (m ≤ length (now dir)) × (m ≤ 256) × AllBelow (now dir) 0 m 258 × (length (now counts) ≡ 258) × Zero (now counts) ⌝ }
-    ensures { λ _. ⌜ Counted (now (dir .entry)) m (now (counts .exit)) ⌝ }
+    requires { ⌜ (m ≤ length (now dir)) × (m ≤ 4096) × AllBelow (now dir) 0 m (length (now counts)) × Zero (now counts) ⌝ }
+    ensures { λ _. ⌜ Counted (now (dir .entry)) m (length (now (counts .entry))) (now (counts .exit)) ⌝ }
 {
     let mut i = 0;
     while i < m {
@@ -96,7 +100,7 @@ pub fn tally(dir: &[u32], m: usize, counts: &mut [u32])
 
 // Whether page p is named by exactly the entries that the first k bits of the hash x call for, in a directory of depth d: all of them, and as many as name p.
 pub fn named(dir: &[u32], counts: &[u32], d: u32, k: u32, x: u32, p: u32) -> bool
-    requires { ⌜ (length (now dir) ≡ 256) × (d ≤ 8) × (k ≤ d) × (2 ≤ p) × (p < 258) × AllAre (now dir) (2 ^ d) 256 0 × Counted (now dir) (2 ^ d) (now counts) ⌝ }
+    requires { ⌜ (2 ^ d ≤ length (now dir)) × (d ≤ 12) × (k ≤ d) × (2 ≤ p) × (p < length (now counts)) × AllAre (now dir) (2 ^ d) (length (now dir)) 0 × Counted (now dir) (2 ^ d) (length (now counts)) (now counts) ⌝ }
     ensures { λ r. ⌜ Says r (Named (now (dir .entry)) d k (top k x) p) ⌝ }
 {
     let run = partition::run_of(x, k, d);

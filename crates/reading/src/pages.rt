@@ -1,18 +1,18 @@
 // Pass 1: pages 2 upward, each for its own bytes, its depth and the entries that name it.
 ghost use mathlib.Core.Path.{_≡_};
-ghost use Prim.Native.Nat.{_<_, _^_};
+ghost use Prim.Native.Nat.{_+_, _^_, _<_};
 ghost use lib.ListN.{length};
 ghost use Rattle.ground.specs.Says.{Says};
 ghost use Rattle.words.specs.Zeros.{Zero};
 ghost use Rattle.hash.specs.Fnv.{fnv};
-ghost use Rattle.store.specs.Pages.{S1024};
+ghost use Rattle.store.specs.Pages.{size};
 ghost use Rattle.store.specs.Accepted.{Stands};
 ghost use Rattle.reading.specs.First.{FirstBad};
 ghost use Rattle.reading.specs.Directory.{Counted};
 ghost use Rattle.reading.specs.Begun.{Begun, Free, Own};
 ghost use Rattle.reading.specs.Digest.{Hashed};
 use super::directory::named;
-use super::directory::tally;
+use partition::Shape;
 
 // Whether a page is free and named by none.
 fn free_ok(pg: &[u8], counts: &[u32], p: usize) -> bool
@@ -37,28 +37,28 @@ fn own_ok(pg: &[u8], tab: &mut [u8], d: u32) -> bool
     (pg[1] as u32) <= d
 }
 
-// The first page that does not stand, or n; and the first hash of each page before it.
-fn first_unsound(
+// The first page that does not stand, or n; and the first hash of each page before it. tab is as for audit::page_ok.
+pub fn first_unsound(
     s: &[u8],
+    z: Shape,
     dir: &[u32],
     counts: &[u32],
     n: usize,
     d: u32,
+    tab: &mut [u8],
     hashes: &mut [u32],
 ) -> usize
-    requires { ⌜ Begun (now s) (now dir) n d × Counted (now dir) (2 ^ d) (now counts) × (length (now hashes) ≡ 258) ⌝ }
-    ensures stops { λ r. ⌜ FirstBad n (Stands S1024 fnv (now (s .entry))) r ⌝ }
-    ensures hashed { λ r. ⌜ Hashed (now (s .entry)) r (now (hashes .exit)) ⌝ }
+    requires { ⌜ Begun z (now s) (now dir) n d × Counted (now dir) (2 ^ d) (z .entries + 2) (now counts) × (length (now tab) ≡ size z) × Zero (now tab) × (length (now hashes) ≡ z .entries + 2) ⌝ }
+    ensures { λ r. ⌜ FirstBad n (Stands z fnv (now (s .entry))) r × Hashed z (now (s .entry)) r (now (hashes .exit)) ⌝ }
 {
-    let mut tab = [0u8; 1024];
     let mut p = 2;
     'pages: loop {
         if n <= p {
             break 'pages n;
         }
-        let a = p * 1024;
-        let e = a + 1024;
-        let pg = &s[a..e];
+        let size = 8 + z.capacity;
+        let a = p * size;
+        let pg = &s[a..a + size];
         if pg[0] == 0 {
             if !free_ok(pg, counts, p) {
                 break 'pages p;
@@ -67,7 +67,7 @@ fn first_unsound(
             p += 1;
             continue 'pages;
         }
-        if !own_ok(pg, &mut tab, d) {
+        if !own_ok(pg, tab, d) {
             break 'pages p;
         }
         let k = pg[1];
@@ -86,15 +86,4 @@ fn first_unsound(
         hashes[p] = first;
         p += 1;
     }
-}
-
-// The same, the entries that name each page counted once.
-pub fn pass_one(s: &[u8], dir: &[u32], n: usize, d: u32, hashes: &mut [u32]) -> usize
-    requires { ⌜ Begun (now s) (now dir) n d × (length (now hashes) ≡ 258) ⌝ }
-    ensures stops { λ r. ⌜ FirstBad n (Stands S1024 fnv (now (s .entry))) r ⌝ }
-    ensures hashed { λ r. ⌜ Hashed (now (s .entry)) r (now (hashes .exit)) ⌝ }
-{
-    let mut counts = [0u32; 258];
-    tally(dir, partition::two_to(d), &mut counts);
-    first_unsound(s, dir, &counts, n, d, hashes)
 }

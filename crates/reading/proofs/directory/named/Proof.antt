@@ -8,7 +8,7 @@ use lib.ListN.{getD}
 use Rattle.ground.proofs.Tests.{says-same}
 use Rattle.partition.specs.Bits.{top}
 use Rattle.reading.specs.Directory.{AllAre, Named}
-use Rattle.reading.proofs.Naming.{entries-256, run-named, named-run}
+use Rattle.reading.proofs.Naming.{run-named, named-run}
 use Rattle.reading.proofs.directory.named.Statement.{statement}
 use Rattle.reading.proofs.directory.named.Tie as tie
 
@@ -29,15 +29,12 @@ module _ (c : tie.After-run-of) where
   abbrev All : Type 0
   All = AllAre dir (c .run-of .result .from) (c .run-of .result .to) (start .args .p)
 
-  fits : 2 ^ start .args .d ≤ 256
-  fits = entries-256 (start .args .d) (start .pre .1)
-
   to-right : All → getD counts (start .args .p) 0 ≡ c .run-of .result .to - c .run-of .result .from → Right
-  to-right = run-named dir (start .args .d) (start .args .p) (start .pre .3) (start .pre .5) counts (start .pre .6) (start .pre .4) fits
+  to-right = run-named dir (start .args .d) (start .args .p) (start .pre .3) (start .pre .5) _ counts (start .pre .6) (start .pre .4) (start .pre .0)
       (start .args .k) (top (start .args .k) (start .args .x)) _ _ (c .run-of .ensures .0) (c .run-of .ensures .1) (c .run-of .ensures .2) (c .run-of .ensures .3)
 
   of-right : Right → All × (getD counts (start .args .p) 0 ≡ c .run-of .result .to - c .run-of .result .from)
-  of-right = named-run dir (start .args .d) (start .args .p) (start .pre .3) (start .pre .5) counts (start .pre .6) (start .pre .4) fits
+  of-right = named-run dir (start .args .d) (start .args .p) (start .pre .3) (start .pre .5) _ counts (start .pre .6) (start .pre .4) (start .pre .0)
       (start .args .k) (top (start .args .k) (start .args .x)) _ _ (c .run-of .ensures .0) (c .run-of .ensures .1) (c .run-of .ensures .2) (c .run-of .ensures .3)
 
 run-of-requires : tie.Need-run-of-requires
@@ -47,7 +44,7 @@ mul-if1 : tie.Need-mul-if1
 mul-if1 c = search needs
 
 shared-slice-read-if1 : tie.Need-shared-slice-read-if1
-shared-slice-read-if1 c = omega (arith, start (c .before) .pre .4, start (c .before) .pre .6 .long)
+shared-slice-read-if1 c = omega (arith, start (c .before) .pre .4)
 
 cast-if1 : tie.Need-cast-if1
 cast-if1 c = record { fits = omega (arith, c .shared-slice-known3 .given (start (c .before) .args .p)) }
@@ -61,7 +58,7 @@ returns c = λ n. let e = of-right (c .before .before .before) n .1 in omega (ar
 all-are-requires : tie.Need-all-are-requires
 all-are-requires c κs =
     let b = c .before .before .before in
-    (b .run-of .ensures .2, omega (arith, b .run-of .ensures .3, fits b, start b .pre .0))
+    (b .run-of .ensures .2, omega (arith, b .run-of .ensures .3, start b .pre .0))
 
 returns-2 : tie.Need-returns-2
 returns-2 c =

@@ -1,6 +1,7 @@
 -- `reading::directory::ranges` meets its contract. Assumes nothing.
 use borrow.Author.Tests.{not-true, not-false}
 use borrow.Author.Needs.{needs}
+use lib.ListN.{length}
 use Rattle.ground.proofs.Tests.{says-true, says-false, says-same}
 use Rattle.reading.specs.Directory.{AllAre, AllBelow, NoneIs}
 use Rattle.reading.proofs.directory.ranges.Statement.{statement}
@@ -12,7 +13,7 @@ none-is-requires c κs = search needs
 returns : tie.Need-returns
 returns c =
     let x = c .before .before .before .args in
-    λ e. says-false {P = NoneIs (x .dir .now) 0 256 1} (c .before .none-is .result) (not-true _ (c .if1 .taken)) (c .before .none-is .ensures) (e .not-one)
+    λ e. says-false {P = NoneIs (x .dir .now) 0 (length (x .dir .now)) 1} (c .before .none-is .result) (not-true _ (c .if1 .taken)) (c .before .none-is .ensures) (e .not-one)
 
 all-below-requires : tie.Need-all-below-requires
 all-below-requires c κs = search needs
@@ -20,7 +21,7 @@ all-below-requires c κs = search needs
 returns-2 : tie.Need-returns-2
 returns-2 c =
     let x = c .before .before .before .before .before .args in
-    λ e. says-false {P = AllBelow (x .dir .now) 0 256 (x .n)} (c .before .all-below .result) (not-true _ (c .if2 .taken)) (c .before .all-below .ensures) (e .below)
+    λ e. says-false {P = AllBelow (x .dir .now) 0 (length (x .dir .now)) (x .n)} (c .before .all-below .result) (not-true _ (c .if2 .taken)) (c .before .all-below .ensures) (e .below)
 
 all-are-requires : tie.Need-all-are-requires
 all-are-requires c κs = search needs
@@ -28,10 +29,10 @@ all-are-requires c κs = search needs
 returns-3 : tie.Need-returns-3
 returns-3 c =
     let x = c .before .before .before .before .before .before .args in
-    says-same {P = AllAre (x .dir .now) (x .m) 256 0} (c .all-are .result) (c .all-are .ensures)
+    says-same {P = AllAre (x .dir .now) (x .m) (length (x .dir .now)) 0} (c .all-are .result) (c .all-are .ensures)
     (λ b. record {
-      not-one = says-true {P = NoneIs (x .dir .now) 0 256 1} (c .before .before .before .before .none-is .result) (not-false _ (c .before .before .before .if1 .left)) (c .before .before .before .before .none-is .ensures);
-      below = says-true {P = AllBelow (x .dir .now) 0 256 (x .n)} (c .before .before .all-below .result) (not-false _ (c .before .if2 .left)) (c .before .before .all-below .ensures);
+      not-one = says-true {P = NoneIs (x .dir .now) 0 (length (x .dir .now)) 1} (c .before .before .before .before .none-is .result) (not-false _ (c .before .before .before .if1 .left)) (c .before .before .before .before .none-is .ensures);
+      below = says-true {P = AllBelow (x .dir .now) 0 (length (x .dir .now)) (x .n)} (c .before .before .all-below .result) (not-false _ (c .before .if2 .left)) (c .before .before .all-below .ensures);
       beyond = b;
     })
     (λ e. e .beyond)

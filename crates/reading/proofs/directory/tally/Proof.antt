@@ -3,14 +3,14 @@ use mathlib.Core.Path.{_≡_, refl, sym, subst, _∙_}
 use mathlib.Core.List.{List}
 use Prim.Native.Nat.{ℕ, _-_, _≤_, _<_}
 use native.Mathlib.Omega.{arith}
-use lib.ListN.{getD}
+use lib.ListN.{length, getD}
 use Rattle.reading.specs.Directory.{Counted}
 use Rattle.reading.proofs.Heaps.{heaped-none, heaped-more, heap-most}
 use Rattle.reading.proofs.directory.tally.Statement.{statement}
 use Rattle.reading.proofs.directory.tally.Tie as tie
 
 abbrev Inv-loop : tie.InvT-loop
-Inv-loop dir m counts₀ i₀ counts i = (i ≤ m) × Counted dir i counts
+Inv-loop dir m counts₀ i₀ counts i = (i ≤ m) × Counted dir i (length counts₀) counts
 
 abbrev μ-loop : tie.MeasureT-loop
 μ-loop dir m counts₀ i₀ counts i = m - i
@@ -23,14 +23,14 @@ module _ (c : tie.In-loop Inv-loop μ-loop) where
   abbrev at : ℕ
   at = c .before .loop .i
 
-  named : getD dir at 0 < 258
+  named : getD dir at 0 < length (c .before .before .args .counts .now)
   named = c .before .before .pre .2 at (omega arith) (c .loop-test .taken)
 
   few : getD (c .before .loop .counts) (getD dir at 0) 0 ≤ at
   few = omega (arith, c .before .loop .inv .1 .each (getD dir at 0) named, heap-most (λ i. getD dir i 0) (λ i. 1) at 1 (λ i _. omega arith) (getD dir at 0))
 
 loop-holds : tie.Need-loop-holds Inv-loop μ-loop
-loop-holds c = (omega arith, heaped-none (λ i. getD (c .args .dir .now) i 0) (λ i. 1) 258 _ (c .pre .3) (c .pre .4))
+loop-holds c = (omega arith, heaped-none (λ i. getD (c .args .dir .now) i 0) (λ i. 1) _ _ refl (c .pre .3))
 
 mul-e : tie.Need-mul-e Inv-loop μ-loop
 mul-e c = omega arith
@@ -68,14 +68,14 @@ loop-again c =
     (omega (arith, b .loop-test .taken), heaped-more (λ i. getD (dir b) i 0) (λ i. 1) (b .before .loop .inv .1) refl (named b) refl)
 
 same-length : tie.Need-same-length Inv-loop μ-loop
-same-length c = c .before .loop .inv .1 .long ∙ sym (c .before .before .pre .3)
+same-length c = c .before .loop .inv .1 .long
 
 returns : tie.Need-returns Inv-loop μ-loop
 returns c =
     let l = c .before .loop in
     let a = c .before .before .args in
     let e : l .i ≡ a .m = omega (arith, l .inv .0, c .loop-test .left) in
-    subst (λ m. Counted (a .dir .now) m (l .counts)) e (l .inv .1)
+    subst (λ m. Counted (a .dir .now) m (length (a .counts .now)) (l .counts)) e (l .inv .1)
 
 pub tally-spec : {M : Type 1} → statement M
 tally-spec =

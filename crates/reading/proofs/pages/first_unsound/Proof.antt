@@ -4,7 +4,7 @@ use borrow.Author.Tests.{not-true, not-false}
 use borrow.Author.Needs.{needs}
 use mathlib.Core.Path.{_≡_, refl, sym, ap, subst, _∙_}
 use mathlib.Core.List.{List}
-use Prim.Native.Nat.{ℕ, _+_, _-_, _*_, _≤_, _<_}
+use Prim.Native.Nat.{ℕ, _+_, _-_, _*_, _^_, _≤_, _<_}
 use native.Mathlib.Omega.{arith}
 use lib.ListN.{length, set, take, drop}
 use Rattle.ground.specs.Lists.{byte}
@@ -15,29 +15,32 @@ use Rattle.hash.specs.Fnv.{fnv}
 use Rattle.partition.specs.Bits.{top}
 use Rattle.page.specs.Page.{depth, code, count}
 use Rattle.store.specs.Accepted.{Stands}
-use Rattle.store.specs.Pages.{S1024, page}
-use Rattle.store.proofs.PageTies.{zeros}
+use Rattle.partition.specs.declared.Shape.{Shape}
+use Rattle.partition.proofs.Sizes.{twelve}
+use Rattle.store.specs.Pages.{size, page}
+use Rattle.store.proofs.Unique.{within, page-long}
 use Rattle.store.proofs.Views.{page-lent}
 use Rattle.reading.specs.First.{FirstBad}
-use Rattle.reading.specs.Directory.{Named}
+use Rattle.reading.specs.Directory.{Counted, Named}
 use Rattle.reading.specs.Begun.{Free, Own}
 use Rattle.reading.specs.Digest.{Hashed, firstOf}
+use Rattle.reading.proofs.Naming.{room}
 use Rattle.reading.proofs.Parting.{hashed-none, hashed-more, hashed-all, first-free, first-used}
 use Rattle.reading.proofs.Standing.{prefixOf, ends-bad, ends-fine, Like, free-stands, used-stands, stands-free, stands-own, stands-like, stands-named}
 use Rattle.reading.proofs.pages.first_unsound.Statement.{statement}
 use Rattle.reading.proofs.pages.first_unsound.Tie as tie
 
 abbrev Inv-slots : tie.InvT-slots
-Inv-slots s dir counts n d hashes tab p a e pg k first count i₀ i = (1 ≤ i) × (i ≤ count) × ((j : ℕ) → j < i → Like pg j)
+Inv-slots s z dir counts n d tab hashes p size a pg k first count i₀ i = (1 ≤ i) × (i ≤ count) × ((j : ℕ) → j < i → Like pg j)
 
 abbrev μ-slots : tie.MeasureT-slots
-μ-slots s dir counts n d hashes tab p a e pg k first count i₀ i = count - i
+μ-slots s z dir counts n d tab hashes p size a pg k first count i₀ i = count - i
 
 abbrev Inv-pages : tie.InvT-pages
-Inv-pages s dir counts n d hashes₀ tab₀ p₀ hashes tab p = (length tab ≡ 1024) × Zero tab × (2 ≤ p) × (p ≤ n) × ((q : ℕ) → q < p → 2 ≤ q → Stands S1024 fnv s q) × Hashed s p hashes
+Inv-pages s z dir counts n d tab₀ hashes₀ p₀ tab hashes p = (length tab ≡ size z) × Zero tab × (2 ≤ p) × (p ≤ n) × ((q : ℕ) → q < p → 2 ≤ q → Stands z fnv s q) × Hashed z s p hashes
 
 abbrev μ-pages : tie.MeasureT-pages
-μ-pages s dir counts n d hashes₀ tab₀ p₀ hashes tab p = n - p
+μ-pages s z dir counts n d tab₀ hashes₀ p₀ tab hashes p = n - p
 
 -- the page that a turn looks at, as it is lent
 module _ (c : tie.Else1 Inv-slots μ-slots Inv-pages μ-pages) where
@@ -48,7 +51,10 @@ module _ (c : tie.Else1 Inv-slots μ-slots Inv-pages μ-pages) where
   p-of = turn .pages .p
 
   abbrev start : tie.Start Inv-slots μ-slots Inv-pages μ-pages
-  start = turn .before .before .before .before .before
+  start = turn .before .before .before .before .before .before
+
+  abbrev S : Shape
+  S = start .args .z
 
   abbrev store : List ℕ
   store = start .args .s .now
@@ -63,53 +69,68 @@ module _ (c : tie.Else1 Inv-slots μ-slots Inv-pages μ-pages) where
   deep = start .args .d
 
   abbrev pg-of : List ℕ
-  pg-of = take (p-of * 1024 + 1024 - p-of * 1024) (drop (p-of * 1024) store)
+  pg-of = take (p-of * size S + size S - p-of * size S) (drop (p-of * size S) store)
 
-  lent : pg-of ≡ page S1024 store p-of
-  lent = page-lent S1024 store p-of
+  lent : pg-of ≡ page S store p-of
+  lent = page-lent S store p-of
 
-  in-range : p-of < 258
+  lies : p-of * size S + size S ≤ length store
+  lies = within S store p-of (omega (arith, start .pre .0 .number, c .if1 .left))
+
+  long : length pg-of ≡ size S
+  long = ap length lent ∙ page-long S store p-of (omega (arith, start .pre .0 .number, c .if1 .left))
+
+  in-range : p-of < S .entries + 2
   in-range = omega (arith, c .if1 .left, start .pre .0 .most)
 
+  few : S .deepest ≤ 12
+  few = twelve S (start .pre .0 .sized)
+
+  few-entries : S .entries ≤ 4096
+  few-entries = omega (arith, start .pre .0 .sized .whole, start .pre .0 .sized .most)
+
+  fits : 2 ^ deep ≤ length dir-of
+  fits = omega (arith, room S (start .pre .0 .sized) deep (start .pre .0 .deep), start .pre .0 .entries .long)
+
   -- it breaks its rule
-  ends : (Stands S1024 fnv store p-of → ⊥) → FirstBad (start .args .n) (Stands S1024 fnv store) p-of
+  ends : (Stands S fnv store p-of → ⊥) → FirstBad (start .args .n) (Stands S fnv store) p-of
   ends bad = ends-bad _ _ p-of (turn .pages .inv .2) (turn .pages .inv .3) (turn .pages .inv .4) bad
 
   -- it keeps it
-  goes : Stands S1024 fnv store p-of → (q : ℕ) → q < p-of + 1 → 2 ≤ q → Stands S1024 fnv store q
-  goes st = below-more (λ q. 2 ≤ q → Stands S1024 fnv store q) _ (turn .pages .inv .4) (λ _. st)
+  goes : Stands S fnv store p-of → (q : ℕ) → q < p-of + 1 → 2 ≤ q → Stands S fnv store q
+  goes st = below-more (λ q. 2 ≤ q → Stands S fnv store q) _ (turn .pages .inv .4) (λ _. st)
 
-  keeps : {x : ℕ} → x ≡ firstOf pg-of → Hashed store (p-of + 1) (set (turn .pages .hashes) p-of x)
-  keeps e = hashed-more store (turn .pages .inv .5) (turn .pages .inv .2) in-range (e ∙ ap firstOf lent)
+  keeps : {x : ℕ} → x ≡ firstOf pg-of → Hashed S store (p-of + 1) (set (turn .pages .hashes) p-of x)
+  keeps e = hashed-more S store (turn .pages .inv .5) (turn .pages .inv .2) in-range (e ∙ ap firstOf lent)
 
-  fine-free : Free pg-of counts-of p-of → Stands S1024 fnv store p-of
-  fine-free = free-stands store dir-of counts-of (start .args .n) deep p-of (start .pre .0) (start .pre .1) (turn .pages .inv .2) (c .if1 .left) pg-of lent
+  fine-free : Free pg-of counts-of p-of → Stands S fnv store p-of
+  fine-free = free-stands S store dir-of counts-of (start .args .n) deep p-of (start .pre .0) (start .pre .1) (turn .pages .inv .2) (c .if1 .left) pg-of lent
 
-  fine-used : Own pg-of deep → ((i : ℕ) → i < count pg-of → Like pg-of i) → Named dir-of deep (depth pg-of) (prefixOf pg-of) p-of → Stands S1024 fnv store p-of
-  fine-used = used-stands store dir-of counts-of (start .args .n) deep p-of (start .pre .0) (start .pre .1) (turn .pages .inv .2) (c .if1 .left) pg-of lent
+  fine-used : Own pg-of deep → ((i : ℕ) → i < count pg-of → Like pg-of i) → Named dir-of deep (depth pg-of) (prefixOf pg-of) p-of → Stands S fnv store p-of
+  fine-used = used-stands S store dir-of counts-of (start .args .n) deep p-of (start .pre .0) (start .pre .1) (turn .pages .inv .2) (c .if1 .left) pg-of lent
 
-  free-of : byte pg-of 0 ≡ 0 → Stands S1024 fnv store p-of → Free pg-of counts-of p-of
-  free-of = stands-free store dir-of counts-of (start .args .n) deep p-of (start .pre .0) (start .pre .1) (turn .pages .inv .2) (c .if1 .left) pg-of lent
+  free-of : byte pg-of 0 ≡ 0 → Stands S fnv store p-of → Free pg-of counts-of p-of
+  free-of = stands-free S store dir-of counts-of (start .args .n) deep p-of (start .pre .0) (start .pre .1) (turn .pages .inv .2) (c .if1 .left) pg-of lent
 
   module _ (nz : byte pg-of 0 ≡ 0 → ⊥) where
-    own-of : Stands S1024 fnv store p-of → Own pg-of deep
-    own-of = stands-own store dir-of counts-of (start .args .n) deep p-of (start .pre .0) (start .pre .1) (turn .pages .inv .2) (c .if1 .left) pg-of lent nz
+    own-of : Stands S fnv store p-of → Own pg-of deep
+    own-of = stands-own S store dir-of counts-of (start .args .n) deep p-of (start .pre .0) (start .pre .1) (turn .pages .inv .2) (c .if1 .left) pg-of lent nz
 
-    like-of : Stands S1024 fnv store p-of → (i : ℕ) → i < count pg-of → Like pg-of i
-    like-of = stands-like store dir-of counts-of (start .args .n) deep p-of (start .pre .0) (start .pre .1) (turn .pages .inv .2) (c .if1 .left) pg-of lent nz
+    like-of : Stands S fnv store p-of → (i : ℕ) → i < count pg-of → Like pg-of i
+    like-of = stands-like S store dir-of counts-of (start .args .n) deep p-of (start .pre .0) (start .pre .1) (turn .pages .inv .2) (c .if1 .left) pg-of lent nz
 
-    named-of : Stands S1024 fnv store p-of → Named dir-of deep (depth pg-of) (prefixOf pg-of) p-of
-    named-of = stands-named store dir-of counts-of (start .args .n) deep p-of (start .pre .0) (start .pre .1) (turn .pages .inv .2) (c .if1 .left) pg-of lent nz
+    named-of : Stands S fnv store p-of → Named dir-of deep (depth pg-of) (prefixOf pg-of) p-of
+    named-of = stands-named S store dir-of counts-of (start .args .n) deep p-of (start .pre .0) (start .pre .1) (turn .pages .inv .2) (c .if1 .left) pg-of lent nz
 
 -- past the page's own rules
 abbrev Past : Type 0
 Past = tie.Else4 Inv-slots μ-slots Inv-pages μ-pages
 
 abbrev at : Past → tie.Else1 Inv-slots μ-slots Inv-pages μ-pages
-at c = c .before .before .before .before .before .before .before
+at c = c .before .before .before .before .before .before .before .before .before
 
 own : (c : Past) → Own (pg-of (at c)) (deep (at c))
-own c = says-true {P = Own (pg-of (at c)) (deep (at c))} (c .before .before .own-ok .result) (not-false _ (c .if4 .left)) (c .before .before .own-ok .ensures .0)
+own c = says-true {P = Own (pg-of (at c)) (deep (at c))} (c .before .before .before .own-ok .result) (not-false _ (c .if4 .left)) (c .before .before .before .own-ok .ensures .0)
 
 -- what the test of slot i says
 slot-said : (c : tie.After-shares Inv-slots μ-slots Inv-pages μ-pages) → let g = pg-of (at (c .before .before .before .before .before .before .before)) in Says (c .shares .result) (Like g (c .before .before .before .slots .i))
@@ -126,13 +147,16 @@ name-said c =
     subst (λ y. Says (c .named .result) (Named (dir-of x) (deep x) (depth (pg-of x)) (top (depth (pg-of x)) y) (p-of x))) (c .before .before .before .before .hash-slot .ensures) (c .named .ensures)
 
 pages-holds : tie.Need-pages-holds Inv-slots μ-slots Inv-pages μ-pages
-pages-holds c = let a = c .before .before .before .before in (refl, zeros 1024, omega arith, omega (arith, a .pre .0 .least), (λ q l h. absurd (omega arith)), hashed-none _ _ (a .pre .2))
+pages-holds c = let a = c .before .before .before .before .before in (a .pre .2, a .pre .3, omega arith, omega (arith, a .pre .0 .least), (λ q l h. absurd (omega arith)), hashed-none _ _ _ (a .pre .4))
+
+add-size : tie.Need-add-size Inv-slots μ-slots Inv-pages μ-pages
+add-size c = omega (arith, lies (c .before))
 
 mul-a : tie.Need-mul-a Inv-slots μ-slots Inv-pages μ-pages
-mul-a c = search needs
+mul-a c = omega (arith, lies (c .before))
 
-add-e : tie.Need-add-e Inv-slots μ-slots Inv-pages μ-pages
-add-e c = search needs
+add-pg : tie.Need-add-pg Inv-slots μ-slots Inv-pages μ-pages
+add-pg c = omega (arith, lies (c .before))
 
 sub-pg : tie.Need-sub-pg Inv-slots μ-slots Inv-pages μ-pages
 sub-pg c = search needs
@@ -141,19 +165,19 @@ part-pg-start : tie.Need-part-pg-start Inv-slots μ-slots Inv-pages μ-pages
 part-pg-start c = search needs
 
 part-pg-end : tie.Need-part-pg-end Inv-slots μ-slots Inv-pages μ-pages
-part-pg-end c = search needs
+part-pg-end c = omega (arith, lies (c .before))
 
 shared-slice-read-if2 : tie.Need-shared-slice-read-if2 Inv-slots μ-slots Inv-pages μ-pages
-shared-slice-read-if2 c = search needs
+shared-slice-read-if2 c = omega (arith, long (c .before .before .before))
 
 free-ok-requires : tie.Need-free-ok-requires Inv-slots μ-slots Inv-pages μ-pages
-free-ok-requires c κs = omega (arith, in-range (c .before .before .before), start (c .before .before .before) .pre .1 .long)
+free-ok-requires c κs = let x = c .before .before .before .before in omega (arith, in-range x, start x .pre .1 .long)
 
 mul-hashes : tie.Need-mul-hashes Inv-slots μ-slots Inv-pages μ-pages
 mul-hashes c = search needs
 
 slice-write-hashes : tie.Need-slice-write-hashes Inv-slots μ-slots Inv-pages μ-pages
-slice-write-hashes c = let x = c .before .before .before .before .before in omega (arith, in-range x, turn x .pages .inv .5 .long)
+slice-write-hashes c = let x = c .before .before .before .before .before .before in omega (arith, in-range x, turn x .pages .inv .5 .long)
 
 add-p : tie.Need-add-p Inv-slots μ-slots Inv-pages μ-pages
 add-p c = search needs
@@ -163,30 +187,27 @@ pages-less c = search needs
 
 pages-again : tie.Need-pages-again Inv-slots μ-slots Inv-pages μ-pages
 pages-again c =
-    let x = c .before .before .before .before .before in
+    let x = c .before .before .before .before .before .before in
     let l = turn x .pages in (
       l .inv .0,
       l .inv .1,
       omega arith,
       omega arith,
       goes x (fine-free x (says-true {P = Free (pg-of x) (counts-of x) (p-of x)} (c .before .free-ok .result) (not-false _ (c .if3 .left)) (c .before .free-ok .ensures))),
-      keeps x (sym (first-free (pg-of x) (c .before .before .if2 .taken))),
+      keeps x (omega (arith, first-free (pg-of x) (c .before .before .if2 .taken))),
     )
 
-slice-aggregate-own-ok : tie.Need-slice-aggregate-own-ok Inv-slots μ-slots Inv-pages μ-pages
-slice-aggregate-own-ok c = search needs
-
 own-ok-requires : tie.Need-own-ok-requires Inv-slots μ-slots Inv-pages μ-pages
-own-ok-requires c κs = search needs
+own-ok-requires c κs = let x = c .before .before .before .before .before in (turn x .pages .inv .0 ∙ sym (long x), turn x .pages .inv .1)
 
 shared-slice-read-k : tie.Need-shared-slice-read-k Inv-slots μ-slots Inv-pages μ-pages
-shared-slice-read-k c = search needs
+shared-slice-read-k c = omega (arith, long (at (c .before)))
 
 hash-slot-requires : tie.Need-hash-slot-requires Inv-slots μ-slots Inv-pages μ-pages
 hash-slot-requires c κs = (own (c .before) .rules, own (c .before) .rules .some)
 
 get16-requires : tie.Need-get16-requires Inv-slots μ-slots Inv-pages μ-pages
-get16-requires c κs = search needs
+get16-requires c κs = omega (arith, long (at (c .before .before)))
 
 slots-holds : tie.Need-slots-holds Inv-slots μ-slots Inv-pages μ-pages
 slots-holds c = (omega arith, omega (arith, own (c .before .before .before) .rules .some, c .get16 .ensures .0), λ j h. let e : j ≡ 0 = omega arith in rw e refl)
@@ -197,7 +218,7 @@ hash-slot-requires-2 c κs = (own (c .before .before .before .before .before) .r
 shares-requires : tie.Need-shares-requires Inv-slots μ-slots Inv-pages μ-pages
 shares-requires c κs =
     let x = c .before .before .before .before .before .before in
-    omega (arith, own x .deep, start (at x) .pre .0 .deep)
+    omega (arith, own x .deep, start (at x) .pre .0 .deep, few (at x))
 
 add-i : tie.Need-add-i Inv-slots μ-slots Inv-pages μ-pages
 add-i c = search needs
@@ -217,17 +238,17 @@ slots-again c =
 cast-named : tie.Need-cast-named Inv-slots μ-slots Inv-pages μ-pages
 cast-named c =
     let x = c .before .before .before .before .before in
-    record { fits = omega (arith, own x .deep, start (at x) .pre .0 .deep) }
+    record { fits = omega (arith, own x .deep, start (at x) .pre .0 .deep, few (at x)) }
 
 cast-named-2 : tie.Need-cast-named-2 Inv-slots μ-slots Inv-pages μ-pages
-cast-named-2 c = search needs
+cast-named-2 c = let x = at (c .before .before .before .before .before) in record { fits = omega (arith, in-range x, few-entries x) }
 
 named-requires : tie.Need-named-requires Inv-slots μ-slots Inv-pages μ-pages
 named-requires c κs =
     let x = c .before .before .before .before .before in
     let a = start (at x) in
     let b = a .pre .0 in
-    (b .entries .long, b .deep, own x .deep, omega arith, in-range (at x), b .beyond, a .pre .1)
+    (fits (at x), omega (arith, b .deep, few (at x)), own x .deep, turn (at x) .pages .inv .2, omega (arith, in-range (at x), a .pre .1 .long), b .beyond, subst (λ m. Counted (dir-of (at x)) (2 ^ deep (at x)) m (counts-of (at x))) (sym (a .pre .1 .long)) (a .pre .1))
 
 mul-hashes-2 : tie.Need-mul-hashes-2 Inv-slots μ-slots Inv-pages μ-pages
 mul-hashes-2 c = search needs
@@ -246,40 +267,52 @@ pages-again-2 c =
     let y = c .before .before .before .before .before .before .before in
     let x = at y in
     let l = turn x .pages in (
-      y .before .before .own-ok .kept .1 .0 ∙ l .inv .0,
-      y .before .before .own-ok .ensures .1,
+      y .before .before .before .own-ok .kept .1 .0 ∙ l .inv .0,
+      y .before .before .before .own-ok .ensures .1,
       omega arith,
       omega arith,
       goes x (fine-used x (own y)
           (λ i m. c .before .before .before .slots .inv .2 i (omega (arith, c .before .before .slots-test .left, c .before .before .before .before .get16 .ensures .0)))
           (says-true {P = Named (dir-of x) (deep x) (depth (pg-of x)) (prefixOf (pg-of x)) (p-of x)} (c .before .named .result) (not-false _ (c .if6 .left)) (name-said (c .before)))),
-      keeps x (c .before .before .before .before .before .hash-slot .ensures ∙ sym (first-used (pg-of x) (y .before .before .before .before .if2 .left))),
+      keeps x (omega (arith, c .before .before .before .before .before .hash-slot .ensures, first-used (pg-of x) (y .before .before .before .before .before .if2 .left))),
     )
 
 same-length : tie.Need-same-length Inv-slots μ-slots Inv-pages μ-pages
-same-length c = let t = c .before in t .pages .inv .5 .long ∙ sym (t .before .before .before .before .before .pre .2)
-
-returns : tie.Need-returns Inv-slots μ-slots Inv-pages μ-pages
-returns c = let l = c .before .pages in (ends-fine _ _ (l .p) (l .inv .2) (l .inv .3) (c .if1 .taken) (l .inv .4), hashed-all _ _ _ (l .p) (l .inv .5) (c .if1 .taken))
+same-length c = let t = c .before in t .pages .inv .0 ∙ sym (t .before .before .before .before .before .before .pre .2)
 
 same-length-2 : tie.Need-same-length-2 Inv-slots μ-slots Inv-pages μ-pages
-same-length-2 c = let t = turn (c .before .before .before .before .before) in t .pages .inv .5 .long ∙ sym (t .before .before .before .before .before .pre .2)
+same-length-2 c = let t = c .before in t .pages .inv .5 .long ∙ sym (t .before .before .before .before .before .before .pre .4)
+
+returns : tie.Need-returns Inv-slots μ-slots Inv-pages μ-pages
+returns c = let l = c .before .pages in (ends-fine _ _ (l .p) (l .inv .2) (l .inv .3) (c .if1 .taken) (l .inv .4), hashed-all _ _ _ _ (l .p) (l .inv .5) (c .if1 .taken))
+
+same-length-3 : tie.Need-same-length-3 Inv-slots μ-slots Inv-pages μ-pages
+same-length-3 c = let t = turn (c .before .before .before .before .before .before) in t .pages .inv .0 ∙ sym (t .before .before .before .before .before .before .pre .2)
+
+same-length-4 : tie.Need-same-length-4 Inv-slots μ-slots Inv-pages μ-pages
+same-length-4 c = let t = turn (c .before .before .before .before .before .before) in t .pages .inv .5 .long ∙ sym (t .before .before .before .before .before .before .pre .4)
 
 returns-2 : tie.Need-returns-2 Inv-slots μ-slots Inv-pages μ-pages
 returns-2 c =
-    let x = c .before .before .before .before .before in
+    let x = c .before .before .before .before .before .before in
     (ends x (λ st. says-false {P = Free (pg-of x) (counts-of x) (p-of x)} (c .before .free-ok .result) (not-true _ (c .if3 .taken)) (c .before .free-ok .ensures) (free-of x (c .before .before .if2 .taken) st)), turn x .pages .inv .5)
 
-same-length-3 : tie.Need-same-length-3 Inv-slots μ-slots Inv-pages μ-pages
-same-length-3 c = let t = turn (c .before .before .before .before .before .before .before) in t .pages .inv .5 .long ∙ sym (t .before .before .before .before .before .pre .2)
+same-length-5 : tie.Need-same-length-5 Inv-slots μ-slots Inv-pages μ-pages
+same-length-5 c = let t = turn (c .before .before .before .before .before .before .before .before .before) in c .before .before .before .own-ok .kept .1 .0 ∙ t .pages .inv .0 ∙ sym (t .before .before .before .before .before .before .pre .2)
+
+same-length-6 : tie.Need-same-length-6 Inv-slots μ-slots Inv-pages μ-pages
+same-length-6 c = let t = turn (c .before .before .before .before .before .before .before .before .before) in t .pages .inv .5 .long ∙ sym (t .before .before .before .before .before .before .pre .4)
 
 returns-3 : tie.Need-returns-3 Inv-slots μ-slots Inv-pages μ-pages
 returns-3 c =
-    let x = c .before .before .before .before .before .before .before in
-    (ends x (λ st. says-false {P = Own (pg-of x) (deep x)} (c .before .before .own-ok .result) (not-true _ (c .if4 .taken)) (c .before .before .own-ok .ensures .0) (own-of x (c .before .before .before .before .if2 .left) st)), turn x .pages .inv .5)
+    let x = c .before .before .before .before .before .before .before .before .before in
+    (ends x (λ st. says-false {P = Own (pg-of x) (deep x)} (c .before .before .before .own-ok .result) (not-true _ (c .if4 .taken)) (c .before .before .before .own-ok .ensures .0) (own-of x (c .before .before .before .before .before .if2 .left) st)), turn x .pages .inv .5)
 
-same-length-4 : tie.Need-same-length-4 Inv-slots μ-slots Inv-pages μ-pages
-same-length-4 c = let t = turn (at (c .before .before .before .before .before .before .before .before)) in t .pages .inv .5 .long ∙ sym (t .before .before .before .before .before .pre .2)
+same-length-7 : tie.Need-same-length-7 Inv-slots μ-slots Inv-pages μ-pages
+same-length-7 c = let t = turn (at (c .before .before .before .before .before .before .before .before)) in c .before .before .before .before .before .before .before .before .before .before .before .own-ok .kept .1 .0 ∙ t .pages .inv .0 ∙ sym (t .before .before .before .before .before .before .pre .2)
+
+same-length-8 : tie.Need-same-length-8 Inv-slots μ-slots Inv-pages μ-pages
+same-length-8 c = let t = turn (at (c .before .before .before .before .before .before .before .before)) in t .pages .inv .5 .long ∙ sym (t .before .before .before .before .before .before .pre .4)
 
 returns-4 : tie.Need-returns-4 Inv-slots μ-slots Inv-pages μ-pages
 returns-4 c =
@@ -287,19 +320,22 @@ returns-4 c =
     let x = at y in
     let i = c .before .before .before .before .slots .i in (
       ends x (λ st. says-false {P = Like (pg-of x) i} (c .before .shares .result) (not-true _ (c .if5 .taken)) (slot-said (c .before))
-          (like-of x (y .before .before .before .before .if2 .left) st i (omega (arith, c .before .before .before .before .before .get16 .ensures .0)))),
+          (like-of x (y .before .before .before .before .before .if2 .left) st i (omega (arith, c .before .before .before .before .before .get16 .ensures .0)))),
       turn x .pages .inv .5,
     )
 
-same-length-5 : tie.Need-same-length-5 Inv-slots μ-slots Inv-pages μ-pages
-same-length-5 c = let t = turn (at (c .before .before .before .before .before .before .before)) in t .pages .inv .5 .long ∙ sym (t .before .before .before .before .before .pre .2)
+same-length-9 : tie.Need-same-length-9 Inv-slots μ-slots Inv-pages μ-pages
+same-length-9 c = let t = turn (at (c .before .before .before .before .before .before .before)) in c .before .before .before .before .before .before .before .before .before .before .own-ok .kept .1 .0 ∙ t .pages .inv .0 ∙ sym (t .before .before .before .before .before .before .pre .2)
+
+same-length-10 : tie.Need-same-length-10 Inv-slots μ-slots Inv-pages μ-pages
+same-length-10 c = let t = turn (at (c .before .before .before .before .before .before .before)) in t .pages .inv .5 .long ∙ sym (t .before .before .before .before .before .before .pre .4)
 
 returns-5 : tie.Need-returns-5 Inv-slots μ-slots Inv-pages μ-pages
 returns-5 c =
     let y = c .before .before .before .before .before .before .before in
     let x = at y in (
       ends x (λ st. says-false {P = Named (dir-of x) (deep x) (depth (pg-of x)) (prefixOf (pg-of x)) (p-of x)} (c .before .named .result) (not-true _ (c .if6 .taken)) (name-said (c .before))
-          (named-of x (y .before .before .before .before .if2 .left) st)),
+          (named-of x (y .before .before .before .before .before .if2 .left) st)),
       turn x .pages .inv .5,
     )
 
@@ -312,8 +348,9 @@ first-unsound-spec =
     Inv-pages
     μ-pages
     pages-holds
+    add-size
     mul-a
-    add-e
+    add-pg
     sub-pg
     part-pg-start
     part-pg-end
@@ -324,7 +361,6 @@ first-unsound-spec =
     add-p
     pages-less
     pages-again
-    slice-aggregate-own-ok
     own-ok-requires
     shared-slice-read-k
     hash-slot-requires
@@ -344,12 +380,17 @@ first-unsound-spec =
     pages-less-2
     pages-again-2
     same-length
-    returns
     same-length-2
-    returns-2
+    returns
     same-length-3
-    returns-3
     same-length-4
-    returns-4
+    returns-2
     same-length-5
+    same-length-6
+    returns-3
+    same-length-7
+    same-length-8
+    returns-4
+    same-length-9
+    same-length-10
     returns-5)
