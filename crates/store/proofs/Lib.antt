@@ -46,3 +46,4 @@ pub mod Shared
 pub mod Decisions
 pub mod Decided
 pub mod Answered
+pub mod Encoded
