@@ -24,21 +24,21 @@ pub record Of (r : Record) (k : ℕ) : Type 0 where
   pub from : r .start ≤ k
   pub to : k < r .start + (8 + length (r .code))
 
--- a record that a page may hold
-pub record Good (r : Record) : Type 0 where
-  pub after : 8 ≤ r .start
-  pub natural : Natural (r .place)
-  pub some : 1 ≤ length (r .code)
-  pub most : length (r .code) ≤ 64
-  pub placed : Small (r .place)
-  pub coded : Small (r .code)
+-- a place and a code that a page may hold
+pub record Storable (pl c : List ℕ) : Type 0 where
+  pub natural : Natural pl
+  pub some : 1 ≤ length c
+  pub most : length c ≤ 64
+  pub placed : Small pl
+  pub coded : Small c
 
 -- the records f 0, f 1, .. f (n - 1) can lie in a page of z bytes and depth d
 pub record Lay (z d n : ℕ) (f : ℕ → Record) : Type 0 where
   pub least : 16 ≤ z
   pub most : z ≤ 16384
   pub deep : d < 256
-  pub good : (i : ℕ) → i < n → Good (f i)
+  pub after : (i : ℕ) → i < n → 8 ≤ f i .start
+  pub good : (i : ℕ) → i < n → Storable (f i .place) (f i .code)
   pub room : frontierOf (tab f n) + 4 * n ≤ z
   pub apart : (i j k : ℕ) → i < n → j < n → Of (f i) k → Of (f j) k → i ≡ j
   pub ascending : (i j : ℕ) → i < j → j < n → Before (f i .code) (f j .code)
@@ -151,7 +151,7 @@ module _ (z d n : ℕ) (f : ℕ → Record) where
     word-is : (i : ℕ) → i < n → word g i ≡ slot-word i
     unfolding word
     word-is i l =
-        let r : Good (f i) = L .good i l in
+        let r : Storable (f i .place) (f i .code) = L .good i l in
         let m : 4 * (i + 1) ≤ z = omega (arith, ends i l) in
         rw encode-long (le32-moved (bytes 4 (slot-word i)) g (z - 4 * (i + 1)) 0 (λ j b.
         let e : (z - 1 - (z - 4 * (i + 1) + j)) / 4 ≡ i = omega arith in
@@ -180,7 +180,7 @@ module _ (z d n : ℕ) (f : ℕ → Record) where
     -- ---- records
 
     own-in : (i k : ℕ) → i < n → Of (f i) k → byte g k ≡ byte (f i .place ++ f i .code) (k - f i .start)
-    own-in i k l x = mid-is k (omega (arith, x .from, L .good i l .after)) (omega (arith, x .to, ends i l)) ∙ go (owned k)
+    own-in i k l x = mid-is k (omega (arith, x .from, L .after i l)) (omega (arith, x .to, ends i l)) ∙ go (owned k)
       where
         go : (w : Dec (Owned k)) → own k w ≡ byte (f i .place ++ f i .code) (k - f i .start)
         go (yes w) = ap (λ j. byte (f j .place ++ f j .code) (k - f j .start)) (L .apart (w .0) i k (w .1) l (w .2) x)
@@ -196,7 +196,7 @@ module _ (z d n : ℕ) (f : ℕ → Record) where
     place-is : (i : ℕ) → i < n → place g i ≡ f i .place
     unfolding place
     place-is i l =
-        let r : Good (f i) = L .good i l in
+        let r : Storable (f i .place) (f i .code) = L .good i l in
         let p : length (f i .place) ≡ 8 = r .natural .long in
         rw (off-is i l) (subst (λ m. part g (f i .start) m ≡ f i .place) p (part-is g (f i .start) (f i .place) (omega (arith, ends i l, encode-long)) (λ j b.
         let e : f i .start + j - f i .start ≡ j = omega arith in
@@ -245,11 +245,11 @@ module _ (z d n : ℕ) (f : ℕ → Record) where
       kinds = λ i l. kind-is i (below i l);
       short = λ i l. omega (arith, len-is i (below i l), L .good i (below i l) .some);
       long = λ i l. omega (arith, len-is i (below i l), L .good i (below i l) .most);
-      after = λ i l. omega (arith, off-is i (below i l), L .good i (below i l) .after);
+      after = λ i l. omega (arith, off-is i (below i l), L .after i (below i l));
       inside = λ i l. omega (arith, off-is i (below i l), len-is i (below i l), fronted, H .most i (below i l));
       start = omega (arith, fronted, H .least);
       empty = λ e. ⊎-elim (λ l. absurd (let w = H .reached l in omega (arith, w .1, counted))) (λ l. omega (arith, fronted, H .least)) (side 8 F);
-      top = λ l. let w = H .reached (omega (arith, H .most 0 (omega (arith, counted)), L .good 0 (omega (arith, counted)) .after)) in
+      top = λ l. let w = H .reached (omega (arith, H .most 0 (omega (arith, counted)), L .after 0 (omega (arith, counted)))) in
           (w .0, omega (arith, w .1, counted), omega (arith, w .2, off-is (w .0) (w .1), len-is (w .0) (w .1), fronted));
       places = λ i l. rw (place-is i (below i l)) (L .good i (below i l) .natural);
       apart = λ i j k a b x y. L .apart i j k (below i a) (below j b) (in-of i k (below i a) x) (in-of j k (below j b) y);

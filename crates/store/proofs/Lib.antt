@@ -47,3 +47,5 @@ pub mod Decisions
 pub mod Decided
 pub mod Answered
 pub mod Encoded
+pub mod Fitting
+pub mod Fitted
