@@ -110,7 +110,7 @@ module _ (p : List ℕ) where
 
 -- ---- a store
 
-calls : (d k v i : ℕ) → Dec (Calls d k v i)
+pub calls : (d k v i : ℕ) → Dec (Calls d k v i)
 calls d k v i = map-dec (λ t. search) (λ c. search) (both (decLt i (2 ^ d)) (ℕ-discrete (i / 2 ^ (d - k)) v))
 
 module _ (S : Shape) (s : List ℕ) where

@@ -45,7 +45,7 @@ pub record Lay (z d n : ℕ) (f : ℕ → Record) : Type 0 where
   pub fit : total (λ i. 12 + length (f i .code)) n ≤ z - 8
 
 -- the number in four bytes comes back
-le32-of : (w : ℕ) → w < 2 ^ 32 → le32 (bytes 4 w) 0 ≡ w
+pub le32-of : (w : ℕ) → w < 2 ^ 32 → le32 (bytes 4 w) 0 ≡ w
 unfolding bytes le32 le16
 le32-of w l = omega arith
 

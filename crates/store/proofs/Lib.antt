@@ -49,3 +49,6 @@ pub mod Answered
 pub mod Encoded
 pub mod Fitting
 pub mod Fitted
+pub mod PageBytes
+pub mod Assembled
+pub mod Total
