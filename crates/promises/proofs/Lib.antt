@@ -3,3 +3,4 @@ pub mod Runs
 pub mod Programs
 pub mod OneBucket
 pub mod Turned
+pub mod Exists

@@ -1,34 +1,37 @@
 -- ONE BUCKET FOR EVERYTHING IS TURNED AWAY: rows that do not fit together have a directory of more than one entry. Under any hash, after any history;
--- and under the hash chosen for the worked cases a program that keeps the tables comes to such rows. Assumes nothing.
-use borrow.Author.Tests.{leb-true}
-use mathlib.Core.Path.{_≡_, refl, sym, ap, _∙_}
-use mathlib.Core.Bool.{Bool, true, false, true≢false}
-use mathlib.Core.List.{List, [], _∷_, List·Memᴰ·head}
-use mathlib.Core.Logic.{⊎-elim}
-use mathlib.Core.Option.{Option, some, none}
-use Prim.Native.Nat.{ℕ, zero, suc, _^_, _≤_, _<_}
+-- and under a hash that parts fourteen long codes, as the one chosen for the worked cases does, a program that keeps the tables comes to such rows. Assumes nothing.
+use borrow.Author.Tests.{le-leb, lt-leb}
+use mathlib.Core.Path.{_≡_, refl, sym, ap, ap₂, subst, _∙_}
+use mathlib.Core.Bool.{Bool, true, false}
+use mathlib.Core.List.{List, [], _∷_, _++_, List·Memᴰ, List·Memᴰ·head, List·Memᴰ·not-nil, List·Memᴰ·cases-cons}
+use mathlib.Core.Logic.{_⊎_, inl, inr, ⊎-elim}
+use mathlib.Core.Option.{none}
+use Prim.Native.Nat.{ℕ, zero, suc, _+_, _-_, _*_, _/_, _^_, _≤_, _<_}
 use native.Mathlib.Omega.{arith}
+use native.Mathlib.Nat.{mul-mod-left}
 use lib.Dec.{leb}
 use lib.ListN.{length, replicate}
+use lib.Pow.{pow-add}
+use Rattle.ground.specs.Lists.{byte}
 use Rattle.ground.proofs.Sides.{side}
 use Rattle.partition.specs.Bits.{top}
-use Rattle.words.specs.Codes.{order}
 use Rattle.words.proofs.Bytes.{small-zeros}
 use Rattle.partition.specs.Cases.{chosen}
 use Rattle.partition.specs.Listing.{placeOf}
-use Rattle.partition.specs.Partition.{Row, Fine, IsBucket, need, needs, rowsOf, grade, walk, buckets, depthOf}
-use Rattle.partition.proofs.Cases.{chosen-lt}
+use Rattle.partition.specs.Partition.{Row, Fine, IsBucket, Grade, fits, over, fitting, need, needs, rowsOf, grade, walk, buckets, depthOf}
 use Rattle.partition.proofs.Bits.{top-lt}
 use Rattle.partition.proofs.Directory.{depth-bound}
-use Rattle.partition.proofs.Rows.{rows-all, listed}
+use Rattle.partition.proofs.Laws.{share-fewer}
+use Rattle.partition.proofs.Maps.{missing}
+use Rattle.partition.proofs.Rows.{rows-all, rows-on, rows-off, listed}
 use Rattle.partition.proofs.Store.{fine-reordered, every-row}
 use Rattle.partition.proofs.Tree.{pfx}
 use Rattle.store.specs.Pages.{S1024, dirDepth}
-use Rattle.store.specs.Demands.{Hash, GoodCode, History, sized-1024}
+use Rattle.store.specs.Demands.{Hash, History, sized-1024}
 use Rattle.store.proofs.Showing.{accepted-shows}
 use Rattle.store.proofs.Whole.{demand-3}
-use Rattle.promises.specs.Programs.{Program, Bytes, Meets, OneBucket}
-use Rattle.promises.proofs.Runs.{rowOf, at, in-range, natural, At, begun, at-first, at-next}
+use Rattle.promises.specs.Programs.{Program, Bytes, Meets, OneBucket, Parting}
+use Rattle.promises.proofs.Runs.{rowOf, at, in-range, natural, near, room, At, begun, at-first, at-next}
 
 module _ (h : List ℕ → ℕ) (hash : Hash h) where
   -- a row's bucket at depth 0 holds all rows
@@ -51,101 +54,141 @@ module _ (h : List ℕ → ℕ) (hash : Hash h) where
       (λ z. z)
       (side (dirDepth t) 1)
 
--- ---- thirteen rows at 0 and one at 1, as in case 7, each with a code of 64 bytes
+  -- ---- rows of the codes that the hash parts, each put after those before it
+
+  module _ (G : Parting h) where
+    abbrev row : ℕ → Row
+    row n = rowOf (G .code n) (at 0)
+
+    rows-of : ℕ → List Row
+    rows-of zero = []
+    rows-of (suc n) = row n ∷ rows-of n
+
+    needs-of : (n : ℕ) → n ≤ 14 → needs (rows-of n) ≡ 76 * n
+    unfolding rows-of needs need
+    needs-of zero l = omega arith
+    needs-of (suc n) l = omega (arith, G .long n (omega arith), needs-of n (omega arith))
+
+    from : (n : ℕ) (r : Row) → List·Memᴰ r (rows-of n) → (i : ℕ) × (i < n) × (r .code ≡ G .code i)
+    unfolding rows-of
+    from zero r m = absurd (List·Memᴰ·not-nil m)
+    from (suc n) r m = go (List·Memᴰ·cases-cons m) (from n r)
+      where
+        go : (r ≡ row n) ⊎ List·Memᴰ r (rows-of n) → (List·Memᴰ r (rows-of n) → (i : ℕ) × (i < n) × (r .code ≡ G .code i)) → (i : ℕ) × (i < suc n) × (r .code ≡ G .code i)
+        go (inl e) f = (n, omega arith, ap (λ q. q .code) e)
+        go (inr x) f = let w = f x in (w .0, omega (arith, w .1), w .2)
+
+    fresh : (n : ℕ) → n < 14 → placeOf (rows-of n) (G .code n) ≡ none
+    fresh n l = missing (rows-of n) (G .code n) (λ r m e. let w = from n r m in G .apart (w .0) n (w .1) l (sym (e ∙ w .2)))
+
+    -- of the first thirteen all begin with 0
+    all-zeros : (n : ℕ) → n ≤ 13 → rowsOf h (rows-of n) 1 0 ≡ rows-of n
+    unfolding rows-of rowsOf
+    all-zeros zero l = refl
+    all-zeros (suc n) l = let z : top 1 (h (G .code n)) ≡ 0 = G .zeros n (omega arith) in
+        subst (λ v. rowsOf h (rows-of (suc n)) 1 v ≡ row n ∷ rowsOf h (rows-of n) 1 v) z (rows-on h (row n) (rows-of n) 1) ∙ ap (λ (q : List Row). row n ∷ q) (all-zeros n (omega arith))
+
+    -- and none has a prefix of the last
+    none-one : (n k v : ℕ) → n ≤ 13 → ((i : ℕ) → i < 13 → top k (h (G .code i)) ≡ v → ⊥) → rowsOf h (rows-of n) k v ≡ []
+    unfolding rows-of rowsOf
+    none-one zero k v l f = refl
+    none-one (suc n) k v l f = rows-off h (row n) (rows-of n) k v (f n (omega arith)) ∙ none-one n k v (omega arith) f
+
+    last-on : (k v : ℕ) → top k (h (G .code 13)) ≡ v → ((i : ℕ) → i < 13 → top k (h (G .code i)) ≡ v → ⊥) → rowsOf h (rows-of 14) k v ≡ row 13 ∷ []
+    unfolding rows-of
+    last-on k v e f =
+        subst (λ w. rowsOf h (rows-of 14) k w ≡ row 13 ∷ rowsOf h (rows-of 13) k w) e (rows-on h (row 13) (rows-of 13) k) ∙ ap (λ (q : List Row). row 13 ∷ q) (none-one 13 k v (omega arith) f)
+
+    apart-8 : (i : ℕ) → i < 13 → top 8 (h (G .code i)) ≡ top 8 (h (G .code 13)) → ⊥
+    apart-8 i l e = omega (arith, share-fewer (h (G .code i)) (h (G .code 13)) 1 8 (omega arith) e, G .zeros i l, G .one)
+
+    need-last : needs (row 13 ∷ []) ≡ 76
+    unfolding needs need
+    need-last = omega (arith, G .long 13 (omega arith))
+
+    near-of : (n : ℕ) → n < 14 → needs (rowsOf h (rows-of (suc n)) 8 (top 8 (h (G .code n)))) ≤ 1016
+    near-of n l = ⊎-elim
+        (λ m. omega (arith, near h hash (rows-of (suc n)) 8 (top 8 (h (G .code n))), needs-of (suc n) (omega arith)))
+        (λ (m : 13 ≤ n). let e : n ≡ 13 = omega arith in rw e (omega (arith, ap needs (last-on 8 (top 8 (h (G .code 13))) refl apart-8), need-last)))
+        (side n 13)
+
+    -- the fourteen have two buckets
+    graded : (rs : List Row) → 0 < length rs → (b : Bool) → leb (needs rs) 1016 ≡ b → grade 1016 rs ≡ fitting b
+    unfolding grade
+    graded [] l b e = absurd (omega arith)
+    graded (r ∷ rs) l b e = ap fitting e
+
+    some : (n : ℕ) → 0 < length (rows-of (suc n))
+    unfolding rows-of
+    some n = omega arith
+
+    others : rowsOf h (rows-of 14) 1 0 ≡ rows-of 13
+    unfolding rows-of
+    others = rows-off h (row 13) (rows-of 13) 1 0 (λ e. omega (arith, e, G .one)) ∙ all-zeros 13 (omega arith)
+
+    two : length (buckets S1024 h (rows-of 14)) ≤ 2
+    unfolding buckets walk
+    two =
+        let q : ℕ → ℕ → Grade = λ k v. grade 1016 (rowsOf h (rows-of 14) k v) in
+        let o : grade 1016 (rowsOf h (rows-of 14) 0 0) ≡ over = ap (grade 1016) (rows-all h hash (rows-of 14)) ∙ graded (rows-of 14) (some 13) false (lt-leb (needs (rows-of 14)) 1016 (omega (arith, needs-of 14 (omega arith)))) in
+        let a : grade 1016 (rowsOf h (rows-of 14) 1 0) ≡ fits = ap (grade 1016) others
+        ∙ graded (rows-of 13) (some 12) true (le-leb (needs (rows-of 13)) 1016 (omega (arith, needs-of 13 (omega arith)))) in
+        let b : grade 1016 (rowsOf h (rows-of 14) 1 1) ≡ fits = ap (grade 1016) (last-on 1 1 (G .one) (λ i l e. omega (arith, e, G .zeros i l)))
+        ∙ graded (row 13 ∷ []) (omega arith) true (le-leb (needs (row 13 ∷ [])) 1016 (omega (arith, need-last))) in
+        let w : buckets S1024 h (rows-of 14) ≡ pfx 1 0 ∷ pfx 1 1 ∷ [] = ap (λ g. walk q 8 g 0 0) o
+        ∙ ap₂ (λ x y. walk q 7 x 1 0 ++ walk q 7 y 1 1) a b in
+        omega (arith, ap length w)
+
+    room-of : (n : ℕ) → n < 14 → length (buckets S1024 h (rows-of (suc n))) ≤ 2
+    unfolding rows-of
+    room-of n l = ⊎-elim
+        (λ m. omega (arith, room h hash (row n) (rows-of n) (omega (arith, needs-of (suc n) (omega arith)))))
+        (λ m. let e : n ≡ 13 = omega arith in rw e two)
+        (side n 13)
+
+    module _ (P : Program) (meets : Meets h P) (f : OneBucket P) where
+      -- a program that keeps the tables puts them all, and has one directory entry all the time
+      put-all : (n : ℕ) → n ≤ 14 → (t : List ℕ) × At h hash P meets (rows-of n) t × (dirDepth t ≡ 0)
+      unfolding rows-of buckets grade rowsOf walk depthOf
+      put-all zero l = (begun h hash P meets, at-first h hash P meets, demand-3 S1024 h sized-1024 hash .0 [] (begun h hash P meets) (at-first h hash P meets .past) .depth)
+      put-all (suc n) l =
+          let w = put-all n (omega arith) in
+          let m : n < 14 = omega arith in (
+            P .put (w .0) (G .code n) (at 0) .1,
+            at-next h hash P meets (w .1) (G .code n) (at 0) (record { least = omega (arith, G .long n m); most = omega (arith, G .long n m) }) (G .small n m) (in-range 0 (omega arith)) (natural 0)
+                (fresh n m) (near-of n m) (room-of n m),
+            f (w .0) (G .code n) (at 0) (w .2),
+          )
+
+      pub comes-to-two : ⊥
+      comes-to-two =
+          let w = put-all 14 (omega arith) in
+          omega (arith, w .2, more-than-one (rows-of 14) (w .0) (w .1 .past) (omega (arith, needs-of 14 (omega arith))))
+
+-- ONE BUCKET FOR EVERYTHING
+pub one-bucket : (h : List ℕ → ℕ) → Hash h → (P : Program) → Meets h P → Parting h → OneBucket P → ⊥
+one-bucket h hash P meets G f = comes-to-two h hash G P meets f
+
+-- ---- the hash chosen for the worked cases: codes that begin with 0 to 12, and with 80
 
 abbrev coded : ℕ → List ℕ
 coded x = x ∷ replicate 63 0
-
-abbrev rows-of : List ℕ → List Row
-rows-of [] = []
-rows-of (x ∷ xs) = rowOf (coded x) (at 0) ∷ rows-of xs
-
--- each may be put after those behind it
-record May (x : ℕ) (xs : List ℕ) : Type 0 where
-  small : x ≤ 255
-  new : placeOf (rows-of xs) (coded x) ≡ none
-  near : needs (rowsOf chosen (rows-of (x ∷ xs)) 8 (top 8 (chosen (coded x)))) ≤ 1016
-  room : length (buckets S1024 chosen (rows-of (x ∷ xs))) ≤ 2
-
-abbrev Puts : List ℕ → Type 0
-Puts [] = Unit {0}
-Puts (x ∷ xs) = May x xs × Puts xs
-
--- the same, computed
-abbrev also : Bool → Bool → Bool
-also true t = t
-also false t = false
-
-both : (p q : Bool) → also p q ≡ true → (p ≡ true) × (q ≡ true)
-both true q e = (refl, e)
-both false q e = absurd (true≢false (sym e))
-
-abbrev isNone : Option (List ℕ) → Bool
-isNone none = true
-isNone (some p) = false
-
-none-of : (m : Option (List ℕ)) → isNone m ≡ true → m ≡ none
-none-of none e = refl
-none-of (some p) e = absurd (true≢false (sym e))
-
-may : ℕ → List ℕ → Bool
-may x xs =
-    also (leb x 255)
-    (also (isNone (placeOf (rows-of xs) (coded x)))
-    (also (leb (needs (rowsOf chosen (rows-of (x ∷ xs)) 8 (top 8 (chosen (coded x))))) 1016)
-    (leb (length (buckets S1024 chosen (rows-of (x ∷ xs)))) 2)))
-
-may-of : (x : ℕ) (xs : List ℕ) → may x xs ≡ true → May x xs
-unfolding may
-may-of x xs e =
-    let p = both (leb x 255) _ e in
-    let q = both (isNone (placeOf (rows-of xs) (coded x))) _ (p .1) in
-    let r = both (leb (needs (rowsOf chosen (rows-of (x ∷ xs)) 8 (top 8 (chosen (coded x))))) 1016) _ (q .1) in
-    record { small = leb-true _ _ (p .0); new = none-of _ (q .0); near = leb-true _ _ (r .0); room = leb-true _ _ (r .1) }
-
-abbrev thirteen : List ℕ
-thirteen = 1 ∷ 2 ∷ 3 ∷ 4 ∷ 5 ∷ 6 ∷ 7 ∷ 8 ∷ 9 ∷ 10 ∷ 11 ∷ 12 ∷ 80 ∷ []
-
-all-may : List ℕ → Bool
-unfolding may
-all-may [] = true
-all-may (x ∷ xs) = also (may x xs) (all-may xs)
-
-puts-of : (xs : List ℕ) → all-may xs ≡ true → Puts xs
-unfolding all-may
-puts-of [] e = tt
-puts-of (x ∷ xs) e = let p = both (may x xs) (all-may xs) e in (may-of x xs (p .0), puts-of xs (p .1))
-
-fourteen-may : all-may (0 ∷ thirteen) ≡ true
-unfolding all-may may needs need rowsOf buckets grade walk placeOf order top
-fourteen-may = refl
-
-fourteen-need : needs (rows-of (0 ∷ thirteen)) ≡ 1064
-unfolding needs need
-fourteen-need = refl
-
-coded-good : (x : ℕ) → GoodCode (coded x)
-coded-good x = record { least = omega arith; most = omega arith }
 
 coded-small : (x : ℕ) → x ≤ 255 → Bytes (coded x)
 coded-small x l zero = omega arith
 coded-small x l (suc k) = small-zeros 63 .at k
 
-module _ (P : Program) (meets : Meets chosen P) where
-  -- a program that keeps the tables puts them all
-  put-one : (x : ℕ) (xs : List ℕ) (t : List ℕ) → May x xs → At chosen chosen-lt P meets (rows-of xs) t → At chosen chosen-lt P meets (rows-of (x ∷ xs)) (P .put t (coded x) (at 0) .1)
-  put-one x xs t m w =
-      at-next chosen chosen-lt P meets w (coded x) (at 0) (coded-good x) (coded-small x (m .small)) (in-range 0 (omega arith)) (natural 0) (m .new) (m .near) (m .room)
+-- no bit where the code begins with a byte below 80
+no-bit : (x : ℕ) → x < 80 → chosen (coded x) ≡ 0
+no-bit x l = let e : 111 - x ≡ (79 - x) + 32 = omega arith in rw (e, pow-add 2 (79 - x) 32) (mul-mod-left (2 ^ (79 - x)) (2 ^ 32))
 
-  put-all : (xs : List ℕ) → Puts xs → (t : List ℕ) × At chosen chosen-lt P meets (rows-of xs) t
-  put-all [] p = (begun chosen chosen-lt P meets, at-first chosen chosen-lt P meets)
-  put-all (x ∷ xs) p = let w = put-all xs (p .1) in (P .put (w .0) (coded x) (at 0) .1, put-one x xs (w .0) (p .0) (w .1))
-
-  -- ONE BUCKET FOR EVERYTHING
-  pub one-bucket : OneBucket P → ⊥
-  one-bucket f =
-      let p = puts-of (0 ∷ thirteen) fourteen-may in
-      let w = put-all thirteen (p .1) in
-      let v = put-one 0 thirteen (w .0) (p .0) (w .1) in
-      let d = more-than-one chosen chosen-lt (rows-of (0 ∷ thirteen)) (P .put (w .0) (coded 0) (at 0) .1) (v .past) (omega (arith, fourteen-need)) in
-      omega (arith, f (w .0) (coded 0) (at 0))
+pub chosen-parts : Parting chosen
+unfolding top
+chosen-parts = record {
+  code = λ i. coded (i + 67 * (i / 13));
+  long = λ i l. refl;
+  small = λ i l. coded-small (i + 67 * (i / 13)) (omega arith);
+  apart = λ i j l m e. omega (arith, ap (λ c. byte c 0) e);
+  zeros = λ i l. ap (top 1) (no-bit (i + 67 * (i / 13)) (omega arith));
+  one = refl;
+}

@@ -1,13 +1,11 @@
 -- THE WRONG PROGRAMS ARE TURNED AWAY: none of them keeps the tables. Assumes nothing.
-use borrow.Author.Tests.{le-leb}
 use mathlib.Core.Path.{_≡_, refl, sym, ap, subst, _∙_}
-use mathlib.Core.Bool.{Bool, true, false, true≢false}
+use mathlib.Core.Bool.{true, true≢false}
 use mathlib.Core.List.{List, [], _∷_}
 use mathlib.Core.Logic.{⊎-elim}
 use mathlib.Core.Option.{some}
-use Prim.Native.Nat.{ℕ, zero, suc, _+_, _≤_, _<_}
+use Prim.Native.Nat.{ℕ, zero, suc, _≤_, _<_}
 use native.Mathlib.Omega.{arith}
-use lib.Dec.{eqb}
 use lib.Signed.{mag}
 use lib.ListN.{length, replicate, getElem?}
 use lib.Seq.{ext-getD}
@@ -17,12 +15,10 @@ use Rattle.ground.proofs.Sides.{side}
 use Rattle.words.specs.Codes.{order}
 use Rattle.words.proofs.Bytes.{small-zeros}
 use Rattle.partition.specs.Bits.{top}
-use Rattle.partition.specs.Partition.{Row, keep, need, needs, rowsOf, grade, fitting, walk, buckets}
+use Rattle.partition.specs.Partition.{Row, need, needs}
 use Rattle.partition.specs.Listing.{placeOf, listing, Once}
 use Rattle.partition.proofs.Maps.{absent}
 use Rattle.partition.proofs.Reorders.{length-same}
-use Rattle.partition.proofs.Rows.{rows-all}
-use Rattle.partition.proofs.Splice.{walk-fits}
 use Rattle.page.specs.declared.Place.{Place}
 use Rattle.page.specs.Places.{place, stored}
 use Rattle.store.specs.Pages.{S1024, rowsHeld}
@@ -32,7 +28,7 @@ use Rattle.store.specs.Demands.{Hash, lookup, remove, count, ok, GoodCode, AtSt
 use Rattle.store.proofs.Given.{member}
 use Rattle.store.proofs.Whole.{demand-2}
 use Rattle.promises.specs.Programs.{Program, Bytes, Meets, RefusesEveryPut, OneFixedPlace, RepeatsOneRow, OnlyAnswers, StoresOnlyTheFirst, Miscounts}
-use Rattle.promises.proofs.Runs.{rowOf, at, in-range, natural, At, accepted-at, same-at, map-at, begun, at-first, says-new, at-next}
+use Rattle.promises.proofs.Runs.{rowOf, at, in-range, natural, near, room, At, accepted-at, same-at, map-at, begun, at-first, says-new, at-next}
 
 -- ---- what is put: the codes "a" and "b", at the places (n, 0, 0)
 
@@ -96,26 +92,7 @@ module _ (h : List ℕ → ℕ) (hash : Hash h) where
       size : {i j : ℕ} {f g : Place} → row i f ≡ row j g → i ≡ j
       size r = cc
 
--- rows that fit together have one bucket, whatever the hash
 module _ (h : List ℕ → ℕ) (hash : Hash h) where
-  near : (qs : List Row) (k v : ℕ) → needs (rowsOf h qs k v) ≤ needs qs
-  unfolding needs rowsOf
-  near [] k v = omega arith
-  near (q ∷ qs) k v = go (eqb (top k (h (q .code))) v) (near qs k v)
-    where
-      go : (t : Bool) → needs (rowsOf h qs k v) ≤ needs qs → needs (keep t q (rowsOf h qs k v)) ≤ need q + needs qs
-      go true l = omega arith
-      go false l = omega arith
-
-  room : (q : Row) (qs : List Row) → needs (q ∷ qs) ≤ 1016 → length (buckets S1024 h (q ∷ qs)) ≤ 1
-  unfolding buckets grade
-  room q qs l =
-      let e : buckets S1024 h (q ∷ qs) ≡ walk (λ k v. grade 1016 (rowsOf h (q ∷ qs) k v)) 8 (grade 1016 (q ∷ qs)) 0 0
-      = ap (λ rs. walk (λ k v. grade 1016 (rowsOf h (q ∷ qs) k v)) 8 (grade 1016 rs) 0 0) (rows-all h hash (q ∷ qs)) in
-      let f = walk-fits (λ k v. grade 1016 (rowsOf h (q ∷ qs) k v)) 8 0 0 in
-      let g : grade 1016 (q ∷ qs) ≡ fitting true = ap fitting (le-leb (needs (q ∷ qs)) 1016 l) in
-      omega (arith, ap length (e ∙ ap (λ g. walk (λ k v. grade 1016 (rowsOf h (q ∷ qs) k v)) 8 g 0 0) g ∙ f))
-
   module _ (P : Program) (meets : Meets h P) where
     -- "a" is put into a new store
     abbrev one : ℕ → List ℕ
@@ -133,12 +110,12 @@ module _ (h : List ℕ → ℕ) (hash : Hash h) where
       said-a : P .put (begun h hash P meets) a (at n) .0 ≡ new
       unfolding placeOf
       said-a = says-new h hash P meets (at-first h hash P meets) a (at n) (one-good 97) (one-small 97 (omega arith)) (in-range n l) (natural n) refl
-          (omega (arith, near (row-a n ∷ []) 8 (top 8 (h a)), needs-a n)) (omega (arith, room (row-a n) [] (omega (arith, needs-a n))))
+          (omega (arith, near h hash (row-a n ∷ []) 8 (top 8 (h a)), needs-a n)) (omega (arith, room h hash (row-a n) [] (omega (arith, needs-a n))))
 
       with-a : At h hash P meets (row-a n ∷ []) (one n)
       unfolding placeOf
       with-a = at-next h hash P meets (at-first h hash P meets) a (at n) (one-good 97) (one-small 97 (omega arith)) (in-range n l) (natural n) refl
-          (omega (arith, near (row-a n ∷ []) 8 (top 8 (h a)), needs-a n)) (omega (arith, room (row-a n) [] (omega (arith, needs-a n))))
+          (omega (arith, near h hash (row-a n ∷ []) 8 (top 8 (h a)), needs-a n)) (omega (arith, room h hash (row-a n) [] (omega (arith, needs-a n))))
 
       holds-a : map-of S1024 (one n) a ≡ some (stored (at n))
       unfolding placeOf order
@@ -189,12 +166,12 @@ module _ (h : List ℕ → ℕ) (hash : Hash h) where
     said-b : P .put (one 0) b (at 1) .0 ≡ new
     unfolding placeOf order
     said-b = says-new h hash P meets (with-a 0 (omega arith)) b (at 1) (one-good 98) (one-small 98 (omega arith)) (in-range 1 (omega arith)) (natural 1) refl
-        (omega (arith, near (row-b ∷ row-a 0 ∷ []) 8 (top 8 (h b)), needs-b)) (omega (arith, room row-b (row-a 0 ∷ []) (omega (arith, needs-b))))
+        (omega (arith, near h hash (row-b ∷ row-a 0 ∷ []) 8 (top 8 (h b)), needs-b)) (omega (arith, room h hash row-b (row-a 0 ∷ []) (omega (arith, needs-b))))
 
     with-b : At h hash P meets (row-b ∷ row-a 0 ∷ []) two
     unfolding placeOf order
     with-b = at-next h hash P meets (with-a 0 (omega arith)) b (at 1) (one-good 98) (one-small 98 (omega arith)) (in-range 1 (omega arith)) (natural 1) refl
-        (omega (arith, near (row-b ∷ row-a 0 ∷ []) 8 (top 8 (h b)), needs-b)) (omega (arith, room row-b (row-a 0 ∷ []) (omega (arith, needs-b))))
+        (omega (arith, near h hash (row-b ∷ row-a 0 ∷ []) 8 (top 8 (h b)), needs-b)) (omega (arith, room h hash row-b (row-a 0 ∷ []) (omega (arith, needs-b))))
 
     -- A PUT THAT STORES THE FIRST ROW AND THEN ONLY SAYS "NEW"
     pub stores-only-the-first : StoresOnlyTheFirst P → ⊥

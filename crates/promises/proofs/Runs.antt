@@ -1,10 +1,12 @@
 -- A program that keeps the tables, run from a format of four pages: what it has stored so far, and that a put that need not be refused is not. Assumes nothing.
+use borrow.Author.Tests.{le-leb}
 use mathlib.Core.Path.{_≡_, refl, sym, ap, subst, _∙_}
 use mathlib.Core.Bool.{Bool, true, false}
 use mathlib.Core.List.{List, [], _∷_}
 use mathlib.Core.Logic.{_⊎_, inl, inr, ⊎-elim}
 use mathlib.Core.Option.{none}
-use Prim.Native.Nat.{ℕ, _-_, _/_, _≤_, _<_}
+use Prim.Native.Nat.{ℕ, _+_, _-_, _/_, _≤_, _<_}
+use lib.Dec.{eqb}
 use native.Mathlib.Omega.{arith}
 use lib.IntN.{pos}
 use lib.ListN.{length, replicate, length-replicate}
@@ -12,12 +14,14 @@ use Rattle.ground.specs.Ladder.{Answers}
 use Rattle.ground.proofs.Ladders.{each}
 use Rattle.words.proofs.Bytes.{small-append, small-bytes, small-zeros}
 use Rattle.partition.specs.Bits.{top}
-use Rattle.partition.specs.Partition.{Row, Reordered, front, needs, rowsOf, buckets}
+use Rattle.partition.specs.Partition.{Row, Reordered, front, keep, need, needs, rowsOf, grade, fitting, walk, buckets}
 use Rattle.partition.specs.Listing.{placeOf}
 use Rattle.partition.proofs.Laws.{load-reordered, reordered}
 use Rattle.partition.proofs.Maps.{cut-none}
 use Rattle.partition.proofs.Reorders.{turned}
+use Rattle.partition.proofs.Rows.{rows-all}
 use Rattle.partition.proofs.Sorted.{same-map}
+use Rattle.partition.proofs.Splice.{walk-fits}
 use Rattle.page.specs.declared.Place.{Place}
 use Rattle.page.specs.Places.{stored, Negative, InRange}
 use Rattle.page.proofs.Signs.{positive}
@@ -58,6 +62,26 @@ put-bytes h s c p b = each (λ x. Bytes (x .1)) (putTable S1024 h s c p) (
   where
     kept : {o : Out} (x : Out × List ℕ) → x ≡ (o, s) → Bytes (x .1)
     kept x e = rw (ap (λ q. q .1) e) b
+
+-- rows of a prefix need no more than all, and rows that fit together have one bucket, whatever the hash
+module _ (h : List ℕ → ℕ) (hash : Hash h) where
+  pub near : (qs : List Row) (k v : ℕ) → needs (rowsOf h qs k v) ≤ needs qs
+  unfolding needs rowsOf
+  near [] k v = omega arith
+  near (q ∷ qs) k v = go (eqb (top k (h (q .code))) v) (near qs k v)
+    where
+      go : (t : Bool) → needs (rowsOf h qs k v) ≤ needs qs → needs (keep t q (rowsOf h qs k v)) ≤ need q + needs qs
+      go true l = omega arith
+      go false l = omega arith
+
+  pub room : (q : Row) (qs : List Row) → needs (q ∷ qs) ≤ 1016 → length (buckets S1024 h (q ∷ qs)) ≤ 1
+  unfolding buckets grade
+  room q qs l =
+      let e : buckets S1024 h (q ∷ qs) ≡ walk (λ k v. grade 1016 (rowsOf h (q ∷ qs) k v)) 8 (grade 1016 (q ∷ qs)) 0 0
+      = ap (λ rs. walk (λ k v. grade 1016 (rowsOf h (q ∷ qs) k v)) 8 (grade 1016 rs) 0 0) (rows-all h hash (q ∷ qs)) in
+      let f = walk-fits (λ k v. grade 1016 (rowsOf h (q ∷ qs) k v)) 8 0 0 in
+      let g : grade 1016 (q ∷ qs) ≡ fitting true = ap fitting (le-leb (needs (q ∷ qs)) 1016 l) in
+      omega (arith, ap length (e ∙ ap (λ g. walk (λ k v. grade 1016 (rowsOf h (q ∷ qs) k v)) 8 g 0 0) g ∙ f))
 
 -- four pages of zeros
 unfoldable pub zeros : List ℕ

@@ -5,7 +5,7 @@ use Rattle.hash.specs.Fnv.{fnv, fnv-lt}
 use Rattle.store.specs.Demands.{Hash}
 use Rattle.promises.specs.Programs.{Program, Meets, TurnedAway}
 use Rattle.promises.proofs.Programs.{refuses-every-put, one-fixed-place, repeats-one-row, only-answers, stores-only-the-first, miscounts}
-use Rattle.promises.proofs.OneBucket.{more-than-one}
+use Rattle.promises.proofs.OneBucket.{more-than-one, one-bucket}
 
 pub turned-away : (h : List ℕ → ℕ) → Hash h → (P : Program) → Meets h P → TurnedAway h P
 turned-away h hash P meets = record {
@@ -15,6 +15,7 @@ turned-away h hash P meets = record {
   only-answers = only-answers h hash P meets;
   stores-only-the-first = stores-only-the-first h hash P meets;
   miscounts = miscounts h hash P meets;
+  one-bucket = one-bucket h hash P meets;
   more-than-one-bucket = more-than-one h hash;
 }
 

@@ -6,6 +6,7 @@ use Prim.Native.Nat.{ℕ, _<_}
 use lib.ListN.{length}
 use Rattle.ground.specs.Ladder.{Answers}
 use Rattle.ground.specs.Lists.{byte}
+use Rattle.partition.specs.Bits.{top}
 use Rattle.partition.specs.Partition.{Row, needs}
 use Rattle.partition.specs.Listing.{listing}
 use Rattle.page.specs.declared.Place.{Place}
@@ -63,9 +64,18 @@ StoresOnlyTheFirst P = (s c : List ℕ) (p : Place) → (rowsHeld S1024 s ≡ []
 abbrev pub Miscounts : (List ℕ → ℕ) → Program → Type 0
 Miscounts h P = (s : List ℕ) × Bytes s × Accepted S1024 h s × (P .count s ≡ counted (length (listing S1024 h (rowsHeld S1024 s))) → ⊥)
 
--- one bucket for everything: the stores that put leaves have no second directory entry
+-- one bucket for everything: a put never gives a store a second directory entry
 abbrev pub OneBucket : Program → Type 0
-OneBucket P = (s c : List ℕ) (p : Place) → dirDepth (P .put s c p .1) ≡ 0
+OneBucket P = (s c : List ℕ) (p : Place) → dirDepth s ≡ 0 → dirDepth (P .put s c p .1) ≡ 0
+
+-- fourteen codes of 64 bytes, whose rows do not fit together: the hashes of thirteen begin with 0, that of the last with 1
+pub record Parting (h : List ℕ → ℕ) : Type 0 where
+  pub code : ℕ → List ℕ
+  pub long : (i : ℕ) → i < 14 → length (code i) ≡ 64
+  pub small : (i : ℕ) → i < 14 → Bytes (code i)
+  pub apart : (i j : ℕ) → i < j → j < 14 → code i ≡ code j → ⊥
+  pub zeros : (i : ℕ) → i < 13 → top 1 (h (code i)) ≡ 0
+  pub one : top 1 (h (code 13)) ≡ 1
 
 -- a program that keeps the tables is none of these
 pub record TurnedAway (h : List ℕ → ℕ) (P : Program) : Type 0 where
@@ -75,5 +85,7 @@ pub record TurnedAway (h : List ℕ → ℕ) (P : Program) : Type 0 where
   pub only-answers : OnlyAnswers P → ⊥
   pub stores-only-the-first : StoresOnlyTheFirst P → ⊥
   pub miscounts : Miscounts h P → ⊥
-  -- rows that do not fit together have a second directory entry
+  -- under a hash that has such codes
+  pub one-bucket : Parting h → OneBucket P → ⊥
+  -- and under any hash rows that do not fit together have a second directory entry
   pub more-than-one-bucket : (rs : List Row) (t : List ℕ) → History S1024 h rs t → 1016 < needs rs → 0 < dirDepth t

@@ -44,3 +44,12 @@ pub mod PageTies
 pub mod Views
 pub mod Depths
 pub mod Shared
+pub mod Decisions
+pub mod Decided
+pub mod Answered
+pub mod Encoded
+pub mod Fitting
+pub mod Fitted
+pub mod PageBytes
+pub mod Assembled
+pub mod Total
