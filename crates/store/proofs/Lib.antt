@@ -43,3 +43,6 @@ pub mod PageTies
 pub mod Views
 pub mod Depths
 pub mod Shared
+pub mod Chosen
+pub mod Rejoined
+pub mod Choice
