@@ -12,10 +12,8 @@ use lib.Pow.{pow-pos, pow-mono}
 use lib.ListN.{length, getD, drop, set, length-append, length-map, length-set}
 use lib.Seq.{drop-cons, drop-length, getD-set-same, getD-set-other}
 use Rattle.ground.proofs.Tables.{length-tab, getD-tab}
-use Rattle.ground.specs.Lists.{total}
 use Rattle.page.specs.Page.{Slotted, count, code, rows, rowAt}
-use Rattle.page.specs.Page as InPage
-use Rattle.page.proofs.Sums.{total-more, len-of-code}
+use Rattle.page.proofs.Sums.{len-of-code}
 use Rattle.partition.specs.Bits.{top}
 use Rattle.partition.specs.Partition.{Row, Grade, bare, fits, over, keep, need, needs, rowsOf, grade, walk, buckets}
 use Rattle.partition.proofs.Tree.{pfx, Means}
@@ -45,17 +43,9 @@ told f g c {l = l} F n e a b x q = record {
   new = ap (λ k. getD (set l n x) k 0) (sym e) ∙ getD-set-same l n x 0 (omega (arith, F .long)) ∙ q;
 }
 
--- a row of a page needs 13 at least and 76 at most
+-- a row of a page needs 76 at most
 pub light : (g : List ℕ) (i : ℕ) → Slotted g → i < count g → weight (code g i) ≤ 76
 light g i Z l = omega (arith, len-of-code g i Z l, Z .long i l)
-
-most-rows : (f : ℕ → ℕ) (n : ℕ) → ((i : ℕ) → i < n → 13 ≤ f i) → 13 * n ≤ total f n
-most-rows f zero e = omega arith
-most-rows f (suc n) e = let o : suc n ≡ n + 1 = omega arith in omega (arith, ap (total f) o, total-more f n, e n (omega arith), most-rows f n (λ i l. e i (omega arith)))
-
--- so a page has few
-pub few : (g : List ℕ) → Slotted g → 13 * count g + 8 ≤ length g
-few g Z = omega (arith, Z .unused, Z .least, most-rows (InPage.need g) (count g) (λ i l. omega (arith, Z .short i l)))
 
 module _ (h : List ℕ → ℕ) where
   -- a row's place does not weigh

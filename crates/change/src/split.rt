@@ -62,8 +62,9 @@ pub fn split(s: &mut [u8], p: usize, i: usize, key: &[u8], place: &[u8]) -> stor
     let e = a + 1024;
     let mut from = [0u8; 1024];
     words::copy_at(&mut from, 0, &s[a..e]);
-    let mut hs = [0u32; 80];
-    let mut ns = [0u32; 80];
+    // A page has at most 78 rows, and here comes one more.
+    let mut hs = [0u32; 79];
+    let mut ns = [0u32; 79];
     gather(&from, key, &mut hs, &mut ns);
     let x = hash::hash(key);
     if 1016 < load(&from, key, &hs, &ns, 8, partition::top_bits(x, 8)) {

@@ -14,7 +14,7 @@ ghost use Rattle.change.specs.Split.{weight, keyed, below, Told};
 
 // The hashes and needs of the page's rows, slot by slot, and then of a row of the code.
 pub fn gather(page: &[u8], key: &[u8], hs: &mut [u32], ns: &mut [u32])
-    requires { ⌜ Slotted (now page) × (length (now key) ≤ 64) × (count (now page) < 80) × (length (now hs) ≡ 80) × (length (now ns) ≡ 80) ⌝ }
+    requires { ⌜ Slotted (now page) × (length (now key) ≤ 64) × (count (now page) < 79) × (length (now hs) ≡ 79) × (length (now ns) ≡ 79) ⌝ }
     ensures { λ _. ⌜ Told fnv (now (page .entry)) (now (key .entry)) (now (hs .exit)) × Told weight (now (page .entry)) (now (key .entry)) (now (ns .exit)) ⌝ }
 {
     let n = words::get16(page, 2);

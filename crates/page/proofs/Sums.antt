@@ -1,5 +1,5 @@
 -- Laws of totals and of an insertion's rows. Assumes nothing.
-use Prim.Native.Nat.{ℕ, zero, suc, _+_, _*_, _-_, _≤_, _<_}
+use Prim.Native.Nat.{ℕ, zero, suc, _+_, _*_, _-_, _/_, _≤_, _<_}
 use mathlib.Core.Path.{_≡_, refl, sym, ap, _∙_}
 use mathlib.Core.List.{List}
 use native.Mathlib.Omega.{arith}
@@ -8,7 +8,7 @@ use lib.ListN.{length, getD, take, drop, length-append, length-take, length-drop
 use lib.Seq.{getD-take, getD-append-seam, length-take-le}
 use Rattle.ground.specs.Lists.{part, total, insertAt}
 use Rattle.ground.proofs.Parts.{length-part}
-use Rattle.page.specs.Page.{Slotted, Record, rows, rowAt, count, frontier, off, len, code, place, need}
+use Rattle.page.specs.Page.{Slotted, BucketPage, Record, rows, rowAt, count, frontier, off, len, code, place, need}
 use Rattle.page.specs.Steps.{Inserted}
 use Rattle.page.proofs.Slots.{Lies, lies}
 use Rattle.ground.proofs.Tables.{length-tab, getD-tab}
@@ -38,6 +38,21 @@ total-le f m n h = let e : m + (n - m) ≡ n = omega arith in rw e at (total-up 
 pub total-need : (p : List ℕ) (n : ℕ) → total (need p) n ≡ 4 * n + total (len p) n
 total-need p zero = omega (arith, total-none (need p), total-none (len p))
 total-need p (suc n) = let ih : total (need p) n ≡ 4 * n + total (len p) n = total-need p n in omega (arith, total-suc (need p) n, total-suc (len p) n)
+
+total-least : (f : ℕ → ℕ) (n : ℕ) → ((i : ℕ) → i < n → 13 ≤ f i) → 13 * n ≤ total f n
+total-least f zero e = omega arith
+total-least f (suc n) e = omega (arith, total-suc f n, e n (omega arith), total-least f n (λ i l. e i (omega arith)))
+
+-- a row needs at least 13 bytes, so a page has at most (its size less 8) / 13 rows
+pub row-room : (p : List ℕ) → Slotted p → 13 * count p + 8 ≤ length p
+row-room p b = omega (arith, b .unused, b .least, total-least (need p) (count p) (λ i l. omega (arith, b .short i l)))
+
+pub most-rows : (p : List ℕ) → Slotted p → count p ≤ (length p - 8) / 13
+most-rows p b = omega (arith, row-room p b)
+
+-- row count (1 to 78)
+pub row-count : (p : List ℕ) → BucketPage p → length p ≡ 1024 → (1 ≤ count p) × (count p ≤ 78)
+row-count p b l = (b .some, omega (arith, row-room p (b .rules)))
 
 pub len-of-code : (p : List ℕ) (i : ℕ) → Slotted p → i < count p → len p i ≡ 8 + length (code p i)
 unfolding code

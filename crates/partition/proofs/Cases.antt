@@ -91,4 +91,4 @@ cases-hold f e ea eb ec =
 
 pub edges-hold : (f : List ℕ → ℕ) → All f edges
 unfolding once needs buckets depthOf entry tab
-edges-hold f = all-hold f edges ((refl, refl, refl) & (refl, refl, refl) & (refl, refl, refl, refl) & (refl, refl, refl, refl) & (refl, refl, refl, refl) & tt)
+edges-hold f = all-hold f edges ((refl, refl, refl) & (refl, refl, refl) & (refl, refl, refl, refl) & (refl, refl, refl, refl) & (refl, refl, refl, refl) & (refl, refl, refl, refl) & tt)

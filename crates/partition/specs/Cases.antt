@@ -110,8 +110,8 @@ table =
     ∷ growing large ladder 1 6
     ∷ []
 
--- The edges that these leave open: rows that need just 1,016 are a bucket and of 1,017 none; where rows that share 8 bits do not fit there is no bucket,
--- though the ninth bit would part them.
+-- The edges that these leave open: rows that need just 1,016 are a bucket and of 1,017 none; the eighth bit parts rows that do not fit, into buckets of
+-- depth 8; where rows that share 8 bits do not fit there is no bucket, though the ninth bit would part them.
 abbrev pub just : List Row
 just = rows 12 76 0 ++ rows 8 13 20
 
@@ -124,5 +124,6 @@ edges =
     ∷ needing beyond 1017 false
     ∷ parting just (pre 0 0 ∷ []) 0 (named 1 0 0)
     ∷ parting beyond [] 0 (none ∷ [])
+    ∷ parting (thirteen ++ rows 1 76 87) (pre 8 0 ∷ pre 8 1 ∷ []) 8 (named 1 8 0 ++ named 1 8 1 ++ replicate 254 none)
     ∷ parting (thirteen ++ rows 1 76 88) [] 0 (none ∷ [])
     ∷ []

@@ -24,6 +24,7 @@ use Rattle.store.proofs.Meaning.{meaning-one}
 use Rattle.store.proofs.Kept.{no-three}
 use Rattle.store.proofs.Order.{good-length, whole-pages}
 use Rattle.store.proofs.Whole.{demand-1, demand-2, demand-3}
+use Rattle.store.proofs.Choice.{put-chooses, remove-chooses}
 use Rattle.promises.specs.Promises.{First, joining, near, PutSays, Second, Third, Promised}
 
 pair : {A B : Type 0} (x y : A × B) → x ≡ y → (x .0 ≡ y .0) × (x .1 ≡ y .1)
@@ -134,7 +135,17 @@ second =
     }
 
 third : Third
-third = let d = demand-3 S1024 fnv sized-1024 fnv-lt in record { since-format = λ rs. refl; refused-keeps = λ c o rs e. ap (λ b. pick b (after c rs) rs) e; afresh = d .0; same-refusals = d .1; kept-pages = d .2 }
+third =
+    let d = demand-3 S1024 fnv sized-1024 fnv-lt in
+    record {
+      since-format = λ rs. refl;
+      refused-keeps = λ c o rs e. ap (λ b. pick b (after c rs) rs) e;
+      afresh = d .0;
+      same-refusals = d .1;
+      kept-pages = d .2;
+      put-pages = put-chooses S1024 fnv sized-1024 fnv-lt;
+      remove-pages = remove-chooses S1024 fnv sized-1024 fnv-lt;
+    }
 
 pub promised : Promised
 promised = record { first = first; second = second; third = third }

@@ -17,6 +17,7 @@ use Rattle.store.specs.Pages.{S1024, rowsHeld}
 use Rattle.store.specs.Accepted.{GoodLength, Accepted}
 use Rattle.store.specs.Tables.{Out, refused, formatted, new, replaced, meaning, rowTable, inspectTable}
 use Rattle.store.specs.Demands.{Call, format, put as a-put, Made, ok, surviving, GoodCode, map-of, WholePages, RefusedInOrder, FormatSucceeds, RefusalKeeps, OutputKept, CheckExact, LookupIsMap, PutIsMap, RemoveIsMap, PutRefused, ListedOnce, CountIsSize, RowIsListed, InspectIsSlot, PlaceComesBack, AcceptedAgain, FormatAccepted, AfreshAlways, SameRefusals, KeptPages}
+use Rattle.store.specs.Choice.{PutChooses, RemoveChooses}
 
 -- a finished promise: for every input the answer and each byte of store and output are settled, refused calls too; so is the enum's case
 pub record Settled : Type 0 where
@@ -79,6 +80,9 @@ pub record Third : Type 0 where
   pub same-refusals : SameRefusals S1024 fnv
   -- in each call but format, a bucket whose rows and depth come out the same keeps its page and all its bytes
   pub kept-pages : KeptPages S1024 fnv
+  -- the pages that a put and a remove use: the old one, the lowest free ones in prefix order, the lowest of those joined
+  pub put-pages : PutChooses S1024 fnv
+  pub remove-pages : RemoveChooses S1024 fnv
 
 pub record Promised : Type 0 where
   pub first : First

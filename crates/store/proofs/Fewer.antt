@@ -57,9 +57,10 @@ module _ (S : Shape) (h : List ℕ → ℕ) where
       cleared : needs (rowsOf h W j (top j x)) ≡ 0 → Left free
       filled : (rs : List Record) → OnPage S h W j rs → prefixOn h j rs ≡ top j x → Left (bucket j rs)
 
-    -- the pages afterwards: page m is that one, of the others those of the prefix are free
+    -- the pages afterwards: page m, the lowest of the prefix, is that one, of the others those of the prefix are free
     pub record Fewer (m : ℕ) (hs : List Page) : Type 0 where
       pub was : within h j (top j x) (getD gs m free) ≡ true
+      pub lowest : (i : ℕ) → within h j (top j x) (getD gs i free) ≡ true → m ≤ i
       pub left : Left (getD hs m free)
       pub others : (i : ℕ) → i ≢ m → getD hs i free ≡ pick (within h j (top j x) (getD gs i free)) free (getD gs i free)
 

@@ -53,3 +53,6 @@ pub mod Fitted
 pub mod PageBytes
 pub mod Assembled
 pub mod Total
+pub mod Chosen
+pub mod Rejoined
+pub mod Choice

@@ -2,14 +2,15 @@
 -- Assumes nothing.
 use borrow.Author.Tests.{eqb-true}
 use mathlib.Core.Path.{_≡_, refl, sym, ap, subst, _∙_}
-use mathlib.Core.Bool.{Bool, true, false}
+use mathlib.Core.Bool.{Bool, true, false, true≢false}
 use mathlib.Core.List.{List, _∷_, map, List·Memᴰ·head}
 use mathlib.Core.Logic.{_⊎_, inl, inr, _≢_}
 use mathlib.Core.Option.{some, none}
 use Prim.Native.Nat.{ℕ, _^_, _≤_, _<_}
+use native.Mathlib.Decide.{ℕ-discrete}
 use native.Mathlib.Omega.{arith}
 use lib.Dec.{eqb}
-use lib.ListN.{length, getD, set, length-map, List·getD-map}
+use lib.ListN.{length, getD, set, length-map, List·getD-map, List·getD-eq-default}
 use lib.Seq.{getD-set-same, getD-set-other}
 use Rattle.ground.proofs.Sides.{side}
 use Rattle.words.proofs.Orders.{order-refl}
@@ -69,7 +70,7 @@ module _ (S : Shape) (h : List ℕ → ℕ) (small : (c : List ℕ) → h c < 2 
   in-pages : here < length gs
   in-pages = within-pages gs here (its .depth) (its .records) (its .there)
 
-  its-within : within h j (top j x) (getD gs here free) ≡ true
+  pub its-within : within h j (top j x) (getD gs here free) ≡ true
   its-within =
       ap (within h j (top j x)) (its .there)
       ∙ within-on h j (top j x) (its .depth) (its .records) (its-page .some) .1 (share-fewer (h (firstCode (its .records))) x j (its .depth) not-deeper (its .begins))
@@ -94,9 +95,14 @@ module _ (S : Shape) (h : List ℕ → ℕ) (small : (c : List ℕ) → h c < 2 
   one-page : j ≡ its .depth → (g : Page) → Left S h small r W gs s j f g → Fewer S h small r W gs s j f here (set gs here g)
   one-page d g l = record {
     was = its-within;
+    lowest = λ i t. sole i t (ℕ-discrete i here);
     left = subst (Left S h small r W gs s j f) (sym (getD-set-same gs here g free in-pages)) l;
     others = λ i n. getD-set-other gs here i g free n ∙ alone d i n;
   }
+    where
+      sole : (i : ℕ) → within h j (top j x) (getD gs i free) ≡ true → Dec (i ≡ here) → here ≤ i
+      sole i t (yes q) = omega arith
+      sole i t (no n) = absurd (true≢false (sym t ∙ ap (within h j (top j x)) (alone d i n ∙ ap (λ b. pick b free (getD gs i free)) t)))
 
   -- nothing left: the page's only row was this one
   its-own : needs (rowsOf h W j (top j x)) ≡ 0 → j ≡ its .depth
@@ -154,12 +160,21 @@ module _ (S : Shape) (h : List ℕ → ℕ) (small : (c : List ℕ) → h c < 2 
     first-in : first < length gs
     first-in = omega (arith, find-least (within h j (top j x)) gs here in-pages its-within, in-pages)
 
+    -- a page past the last is of no prefix
+    in-use : (i : ℕ) → within h j (top j x) (getD gs i free) ≡ true → i < length gs
+    in-use i t = go (side i (length gs))
+      where
+        go : (i < length gs) ⊎ (length gs ≤ i) → i < length gs
+        go (inl l) = l
+        go (inr l) = absurd (true≢false (sym t ∙ ap (within h j (top j x)) (List·getD-eq-default gs free l)))
+
     pub joins : Then (joined h gs W (pfx j (top j x)))
     unfolding packed
     joins = (
       first,
       record {
         was = find-passes (within h j (top j x)) gs first-in;
+        lowest = λ i t. find-least (within h j (top j x)) gs i (in-use i t) t;
         left = subst (Left S h small r W gs s j f) (sym (getD-set-same (map emptied gs) first (packed h W (pfx j (top j x))) free (subst (λ n. first < n) (sym (length-map gs emptied)) first-in)))
             (fills (packFrom 8 (inOrder (rowsOf h W j (top j x)))) (rows-packed 8 (inOrder (rowsOf h W j (top j x)))));
         others = λ i n. getD-set-other (map emptied gs) first i (packed h W (pfx j (top j x))) free n ∙ List·getD-map emptied gs i free;
@@ -196,13 +211,13 @@ module _ (S : Shape) (h : List ℕ → ℕ) (small : (c : List ℕ) → h c < 2 
   abbrev row : Row
   row = record { code = c; place = old }
 
-  front : Shows S h (row ∷ cut c (rowsIn gs)) gs
+  pub front : Shows S h (row ∷ cut c (rowsIn gs)) gs
   front = shows-reordered S h gs (cut-front c old (rowsIn gs) (held .once) (same-map (s .same) (held .once) .1 c ∙ e)) held
 
-  depth : (j : ℕ) × (j ≤ S .deepest) × Shallowest S h (cut c (rowsIn gs)) (h c) j
+  pub depth : (j : ℕ) × (j ≤ S .deepest) × Shallowest S h (cut c (rowsIn gs)) (h c) j
   depth = home S h (cut c (rowsIn gs)) (fine-drop S h row (cut c (rowsIn gs)) (front .fine)) (h c)
 
-  made : Then S h small row (cut c (rowsIn gs)) gs front (depth .0) (depth .2) (removed S h gs c)
+  pub made : Then S h small row (cut c (rowsIn gs)) gs front (depth .0) (depth .2) (removed S h gs c)
   unfolding removed
   made = removes S h small row (cut c (rowsIn gs)) gs front (depth .0) (depth .2)
 

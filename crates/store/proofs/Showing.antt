@@ -11,6 +11,7 @@ use Rattle.ground.specs.Lists.{tab}
 use Rattle.ground.proofs.Sides.{side}
 use Rattle.ground.proofs.Tables.{length-tab}
 use Rattle.page.specs.Page.{Record, BucketPage, depth, count, code, rows, rowAt}
+use Rattle.page.proofs.Sums.{most-rows}
 use Rattle.partition.specs.Bits.{top}
 use Rattle.partition.specs.declared.Shape.{Shape}
 use Rattle.partition.specs.Partition.{Row, needs, rowsOf, Fine}
@@ -23,7 +24,7 @@ use Rattle.partition.proofs.Rows.{load, load-mono}
 use Rattle.partition.proofs.Sum.{prefix-row}
 use Rattle.partition.proofs.Pages as P
 use Rattle.partition.proofs.Members.{once-append}
-use Rattle.store.specs.Pages.{pages, page, dirDepth, entryAt, Page, free, bucket, read, contents, asRow, rowsIn, rowsHeld}
+use Rattle.store.specs.Pages.{pages, page, dirDepth, entryAt, Page, free, bucket, read, contents, asRow, rowsOn, rowsIn, rowsHeld}
 use Rattle.store.specs.Accepted.{Bucket, Calls, Stands, unused, used, Accepted}
 use Rattle.store.specs.Demands.{Sized, Hash}
 use Rattle.store.proofs.Rules.{Opened, opened}
@@ -267,3 +268,18 @@ module _ (S : Shape) (h : List ℕ → ℕ) (sized : Sized S) (hash : Hash h) (s
 -- AN ACCEPTED STORE SHOWS ITS ROWS
 pub accepted-shows : (S : Shape) (h : List ℕ → ℕ) → Sized S → Hash h → (s : List ℕ) → Accepted S h s → Shows S h (rowsHeld S s) (contents S s)
 accepted-shows S h sized hash s a = sound-shows S h (contents S s) (sound S h sized hash s (opened S h s a))
+
+-- NO PAGE OF AN ACCEPTED STORE HAS MORE ROWS THAN 13 GOES INTO THE CAPACITY: 78 of 1,016
+pub accepted-rows : (S : Shape) (h : List ℕ → ℕ) (s : List ℕ) → Accepted S h s → (p : ℕ) → 2 ≤ p → p < pages S s → length (rowsOn (read (page S s p))) ≤ S .capacity / 13
+accepted-rows S h s a p l m = go (opened S h s a .stands p l m)
+  where
+    go : Stands S h s p → length (rowsOn (read (page S s p))) ≤ S .capacity / 13
+    go (unused z _) = omega (arith, ap (λ g. length (rowsOn g)) (read-zero (page S s p) z))
+    go (used b _ _) =
+        let g : List ℕ = page S s p in
+        omega (
+          arith,
+          ap (λ y. length (rowsOn y)) (read-bucket h g b) ∙ length-map (rows g) asRow ∙ length-tab (rowAt g) (count g),
+          most-rows g (b .rules .rules),
+          page-long S s p m,
+        )

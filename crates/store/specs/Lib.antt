@@ -3,3 +3,4 @@ pub mod Accepted
 pub mod Moves
 pub mod Tables
 pub mod Demands
+pub mod Choice

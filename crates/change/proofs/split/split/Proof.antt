@@ -1,6 +1,5 @@
 -- `change::split` meets its contract: refusals 6 and 7, else the new buckets, then the directory. Assumes nothing.
 use Rattle.change.proofs.Heavy.{shallow, heavy-six, heavy-seven, source, writable, heavy-new}
-use Rattle.change.proofs.Weighs.{few}
 use Rattle.change.proofs.Settles.{settling}
 use Rattle.change.proofs.OnePage.{lent}
 use Rattle.change.specs.Split.{keyed, below, Source, Writable, Wrote}
@@ -10,6 +9,7 @@ use Rattle.store.specs.Pages.{S1024, page, contents, asRow}
 use Rattle.partition.specs.Partition.{Row, needs, rowsOf}
 use Rattle.partition.proofs.Bits.{top-lt}
 use Rattle.partition.specs.Bits.{top}
+use Rattle.page.proofs.Sums.{row-room}
 use Rattle.page.specs.Page.{Slotted, depth, rows}
 use Rattle.words.proofs.Bytes.{copied-whole}
 use Rattle.hash.specs.Fnv.{fnv, fnv-lt}
@@ -146,7 +146,7 @@ gather-requires : tie.Need-gather-requires
 gather-requires c κs =
     let b = c .before .before .before .before in
     let S = slotted b in
-    (S, z b .pre .0 .short, omega (arith, few (from b) S, long b), search Needs.needs, search Needs.needs)
+    (S, z b .pre .0 .short, omega (arith, row-room (from b) S, long b), search Needs.needs, search Needs.needs)
 
 hash-requires : tie.Need-hash-requires
 hash-requires c κs = search Needs.needs

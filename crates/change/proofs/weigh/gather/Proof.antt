@@ -17,7 +17,7 @@ use Rattle.change.proofs.weigh.gather.Statement.{statement}
 use Rattle.change.proofs.weigh.gather.Tie as tie
 
 abbrev Inv-loop : tie.InvT-loop
-Inv-loop page key hs₀ ns₀ n i₀ hs ns i = (i ≤ n) × Filled (λ j x. x ≡ fnv (code page j)) 80 0 i hs × Filled (λ j x. x ≡ weight (code page j)) 80 0 i ns
+Inv-loop page key hs₀ ns₀ n i₀ hs ns i = (i ≤ n) × Filled (λ j x. x ≡ fnv (code page j)) 79 0 i hs × Filled (λ j x. x ≡ weight (code page j)) 79 0 i ns
 
 abbrev μ-loop : tie.MeasureT-loop
 μ-loop page key hs₀ ns₀ n i₀ hs ns i = n - i
@@ -33,7 +33,7 @@ module _ (l : tie.At-loop Inv-loop μ-loop) where
   all : l .before .get16 .result ≡ count page
   all = l .before .get16 .ensures .0
 
-  small : l .before .get16 .result < 80
+  small : l .before .get16 .result < 79
   small = omega (arith, all, z .pre .2)
 
   module _ (t : l .loop .i < l .before .get16 .result) where
@@ -49,7 +49,7 @@ get16-requires c κs = omega (arith, c .before .before .before .before .pre .0 .
 loop-holds : tie.Need-loop-holds Inv-loop μ-loop
 loop-holds c =
     let z = c .before .before .before .before .before in
-    (omega arith, filled-none _ 80 0 _ (z .pre .3), filled-none _ 80 0 _ (z .pre .4))
+    (omega arith, filled-none _ 79 0 _ (z .pre .3), filled-none _ 79 0 _ (z .pre .4))
 
 extent-of-requires : tie.Need-extent-of-requires Inv-loop μ-loop
 extent-of-requires c κs = let l = c .before in let s = slot l (c .loop-test .taken) in let i = there l (c .loop-test .taken) in (omega (arith, i, s), omega (arith, s))
@@ -92,7 +92,7 @@ loop-again : tie.Need-loop-again Inv-loop μ-loop
 loop-again c =
     let l = c .before .before .before .before in
     let t = c .before .before .before .loop-test .taken in
-    let m : l .loop .i < 80 = omega (arith, small l, t) in (
+    let m : l .loop .i < 79 = omega (arith, small l, t) in (
       omega (arith, t),
       filled-more _ (l .loop .inv .1) m (c .before .hash-slot .ensures),
       filled-more _ (l .loop .inv .2) m (omega (arith, len-of-code (page l) (l .loop .i) (z l .pre .0) (there l t), c .before .before .extent-of .ensures .1)),
