@@ -42,6 +42,18 @@ fn show_long() {
     show(b"chongo was here!");
 }
 
+// The FNV authors' binary ones.
+fn show_binary() {
+    show(b"\xff\x00\x00\x01");
+    show(b"\x01\x00\x00\xff");
+    show(b"\xff\x00\x00\x02");
+    show(b"\x02\x00\x00\xff");
+    show(b"\xff\x00\x00\x03");
+    show(b"\x03\x00\x00\xff");
+    show(b"\xff\x00\x00\x04");
+    show(b"\x04\x00\x00\xff");
+}
+
 // Fills the code from standard input, as far as that goes, and shows it.
 fn show_read(code: &mut [u8]) {
     let n = io::read_full(STDIN_FILENO, code);
@@ -70,6 +82,7 @@ fn take_record() -> bool {
 fn main() {
     show_short();
     show_long();
+    show_binary();
     let mut turns = u64::MAX;
     while turns > 0 && take_record() {
         turns -= 1;

@@ -23,7 +23,7 @@ goes-on h b c = refl
 each-lt : (h : ℕ) (c : List ℕ) → h < 2 ^ 32 → each h c < 2 ^ 32
 unfolding each
 each-lt h [] l = l
-each-lt h (b ∷ c) l = each-lt (bitXor h b * 16777619 % 2 ^ 32) c (mod-lt (bitXor h b * 16777619) (pow-pos 32))
+each-lt h (b ∷ c) l = each-lt _ c (mod-lt _ (pow-pos 32))
 
 -- the hash has 32 bits
 pub fnv-lt : (c : List ℕ) → fnv c < 2 ^ 32
@@ -46,3 +46,8 @@ fnv-b = refl
 pub fnv-c : fnv (99 ∷ []) ≡ 0xE60C2C52
 unfolding fnv each
 fnv-c = refl
+
+-- a published vector: every bit of a byte counts
+pub fnv-high : fnv (255 ∷ 0 ∷ 0 ∷ 1 ∷ []) ≡ 0xC48FB86D
+unfolding fnv each
+fnv-high = refl

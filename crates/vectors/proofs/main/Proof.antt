@@ -16,6 +16,9 @@ show-short-requires c κs = search needs
 show-long-requires : tie.Need-show-long-requires Inv-loop μ-loop
 show-long-requires c κs = search needs
 
+show-binary-requires : tie.Need-show-binary-requires Inv-loop μ-loop
+show-binary-requires c κs = search needs
+
 loop-holds : tie.Need-loop-holds Inv-loop μ-loop
 loop-holds c = search needs
 
@@ -45,6 +48,7 @@ main-spec =
     μ-loop
     show-short-requires
     show-long-requires
+    show-binary-requires
     loop-holds
     take-record-requires
     sub-turns
