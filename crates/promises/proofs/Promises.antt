@@ -22,6 +22,7 @@ use Rattle.store.proofs.Rules.{accepted-whole}
 use Rattle.store.proofs.Settled.{format-settled, check-settled, count-settled, lookup-settled, row-settled, inspect-settled, put-settled, remove-settled}
 use Rattle.store.proofs.Meaning.{meaning-one}
 use Rattle.store.proofs.Kept.{demand-1, no-three, three}
+use Rattle.store.proofs.Total.{answered-always}
 use Rattle.store.proofs.Whole.{demand-2, demand-3}
 use Rattle.promises.specs.Promises.{First, joining, near, PutSays, Second, Third, Promised}
 
@@ -44,6 +45,7 @@ first : First
 first =
     let d = demand-1 S1024 fnv in
     record {
+      answered = answered-always S1024 fnv sized-1024 fnv-lt;
       settled = record { store = store-settled; row = row-settled S1024 fnv; inspection = inspect-settled S1024 fnv; enum = meaning-one };
       store-kept = d .0;
       output-kept = d .1;

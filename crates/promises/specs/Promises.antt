@@ -16,7 +16,7 @@ use Rattle.store.specs.declared.Answer.{Answer}
 use Rattle.store.specs.Pages.{S1024, rowsHeld}
 use Rattle.store.specs.Accepted.{GoodLength, Accepted}
 use Rattle.store.specs.Tables.{Out, refused, formatted, new, replaced, meaning, rowTable, inspectTable}
-use Rattle.store.specs.Demands.{Call, format, put as a-put, Made, ok, surviving, GoodCode, map-of, RefusalKeeps, OutputKept, CheckExact, LookupIsMap, PutIsMap, RemoveIsMap, PutRefused, ListedOnce, CountIsSize, RowIsListed, InspectIsSlot, PlaceComesBack, AcceptedAgain, FormatAccepted, AfreshAlways, SameRefusals, KeptPages}
+use Rattle.store.specs.Demands.{Call, format, put as a-put, Made, ok, surviving, GoodCode, map-of, Answered, RefusalKeeps, OutputKept, CheckExact, LookupIsMap, PutIsMap, RemoveIsMap, PutRefused, ListedOnce, CountIsSize, RowIsListed, InspectIsSlot, PlaceComesBack, AcceptedAgain, FormatAccepted, AfreshAlways, SameRefusals, KeptPages}
 
 -- a finished promise: for every input the answer and each byte of store and output are settled, refused calls too; so is the enum's case
 pub record Settled : Type 0 where
@@ -27,6 +27,7 @@ pub record Settled : Type 0 where
 
 -- 1. Any bytes may come as the store, any code, any row place. .. The store and the output buffer keep every byte.
 pub record First : Type 0 where
+  pub answered : Answered S1024 fnv
   pub settled : Settled
   pub store-kept : RefusalKeeps S1024 fnv
   pub output-kept : OutputKept S1024 fnv
