@@ -25,6 +25,7 @@ use Rattle.store.proofs.Kept.{no-three}
 use Rattle.store.proofs.Order.{good-length, whole-pages}
 use Rattle.store.proofs.Whole.{demand-1, demand-2, demand-3}
 use Rattle.store.proofs.Choice.{put-chooses, remove-chooses}
+use Rattle.store.proofs.Total.{answered-always}
 use Rattle.promises.specs.Promises.{First, joining, near, PutSays, Second, Third, Promised}
 
 pair : {A B : Type 0} (x y : A × B) → x ≡ y → (x .0 ≡ y .0) × (x .1 ≡ y .1)
@@ -46,6 +47,7 @@ first : First
 first =
     let d = demand-1 S1024 fnv in
     record {
+      answered = answered-always S1024 fnv sized-1024 fnv-lt;
       settled = record { store = store-settled; row = row-settled S1024 fnv; inspection = inspect-settled S1024 fnv; enum = meaning-one };
       refused-in-order = d .0;
       format-succeeds = d .1;

@@ -16,7 +16,7 @@ use Rattle.store.specs.declared.Answer.{Answer}
 use Rattle.store.specs.Pages.{S1024, rowsHeld}
 use Rattle.store.specs.Accepted.{GoodLength, Accepted}
 use Rattle.store.specs.Tables.{Out, refused, formatted, new, replaced, meaning, rowTable, inspectTable}
-use Rattle.store.specs.Demands.{Call, format, put as a-put, Made, ok, surviving, GoodCode, map-of, WholePages, RefusedInOrder, FormatSucceeds, RefusalKeeps, OutputKept, CheckExact, LookupIsMap, PutIsMap, RemoveIsMap, PutRefused, ListedOnce, CountIsSize, RowIsListed, InspectIsSlot, PlaceComesBack, AcceptedAgain, FormatAccepted, AfreshAlways, SameRefusals, KeptPages}
+use Rattle.store.specs.Demands.{Call, format, put as a-put, Made, ok, surviving, GoodCode, map-of, Answered, WholePages, RefusedInOrder, FormatSucceeds, RefusalKeeps, OutputKept, CheckExact, LookupIsMap, PutIsMap, RemoveIsMap, PutRefused, ListedOnce, CountIsSize, RowIsListed, InspectIsSlot, PlaceComesBack, AcceptedAgain, FormatAccepted, AfreshAlways, SameRefusals, KeptPages}
 use Rattle.store.specs.Choice.{PutChooses, RemoveChooses}
 
 -- a finished promise: for every input the answer and each byte of store and output are settled, refused calls too; so is the enum's case
@@ -28,6 +28,7 @@ pub record Settled : Type 0 where
 
 -- 1. Any bytes may come as the store, any code, any row place. .. The store and the output buffer keep every byte.
 pub record First : Type 0 where
+  pub answered : Answered S1024 fnv
   pub settled : Settled
   -- 1, 3, 4, 8 and 2 come in this order, each exactly when; the lengths are 3 to 258 pages of 1,024 bytes, in the rules' words too
   pub refused-in-order : RefusedInOrder S1024 fnv

@@ -19,8 +19,8 @@ use Rattle.store.specs.Pages.{pages, Page, contents, rowsHeld}
 use Rattle.store.specs.Accepted.{Accepted}
 use Rattle.store.specs.Moves.{overwritten, putNew, removed}
 use Rattle.store.specs.Tables.{Out, new, replaced, found, Refusal3, Becomes, writes, putAccepted, putTable, removeTable}
-use Rattle.store.specs.Demands.{Sized, Hash}
-use Rattle.store.proofs.Answered.{Result, answered, refused-or, unless, checked-or, found-or, three-or-not, negative-or-not}
+use Rattle.store.specs.Demands.{Sized, Hash, format, check, count, lookup, remove, put, rowAt, inspect, Answered}
+use Rattle.store.proofs.Answered.{Result, answered, refused-or, unless, checked-or, found-or, three-or-not, negative-or-not, format-answered, check-answered, count-answered, lookup-answered, row-answered, inspect-answered}
 use Rattle.store.proofs.Assembled.{store-of}
 use Rattle.store.proofs.Decided.{good-or-not}
 use Rattle.store.proofs.Fitted.{accepted-fits, over-fits, put-fits, remove-fits}
@@ -68,3 +68,16 @@ module _ (S : Shape) (h : List ℕ → ℕ) (sized : Sized S) (hash : Hash h) (s
       (λ old e. written (found (place old)) (removed S h (contents S s) c)
       (store-of S h sized hash s (a .long) _ (removed S h (contents S s) c) (remove-shown S h sized hash s c old a e) (remove-fits S h hash (pages S s - 2) (contents S s) (accepted-fits S h s a) c)))
       (λ e. answered _))))
+
+pub answered-always : (S : Shape) (h : List ℕ → ℕ) → Sized S → Hash h → Answered S h
+answered-always S h sized hash = made
+  where
+    made : Answered S h
+    made format s _ = let w = format-answered S h s in (w .is .0, w .is .1, w .allowed)
+    made check s _ = let w = check-answered S h s in (w .is, s, (w .allowed, refl))
+    made count s _ = let w = count-answered S h s in (w .is, s, (w .allowed, refl))
+    made (lookup c) s _ = let w = lookup-answered S h s c in (w .is, s, (w .allowed, refl))
+    made (remove c) s _ = let w = remove-answered S h sized hash s c in (w .is .0, w .is .1, w .allowed)
+    made (put c p) s g = let w = put-answered S h sized hash s c p (g .0) (g .1) in (w .is .0, w .is .1, w .allowed)
+    made (rowAt n out) s _ = let w = row-answered S h s n out in (w .is .0, s, ((w .is .1, w .allowed), refl))
+    made (inspect g n out) s _ = let w = inspect-answered S h g n out in (w .is .0, s, ((w .is .1, w .allowed), refl))

@@ -133,6 +133,21 @@ module _ (S : Shape) (h : List ℕ → ℕ) where
   abbrev pub OutputKept : Type 0
   OutputKept = (s : List ℕ) (n : ℕ) (out : List ℕ) (o : Out) (out′ : List ℕ) → Answers (rowTable S h s n out) (o, out′) ⊎ Answers (inspectTable S h s n out) (o, out′) → ok o ≡ false → out′ ≡ out
 
+-- what can be given: a code of bytes, a place in its ranges
+abbrev pub Given : Call → Type 0
+Given format = Unit {0}
+Given check = Unit {0}
+Given count = Unit {0}
+Given (lookup c) = Unit {0}
+Given (remove c) = Unit {0}
+Given (put c p) = ((k : ℕ) → byte c k < 256) × InRange p
+Given (rowAt n out) = Unit {0}
+Given (inspect g n out) = Unit {0}
+
+-- each call has a result, whatever the store
+abbrev pub Answered : Shape → (List ℕ → ℕ) → Type 0
+Answered S h = (c : Call) (s : List ℕ) → Given c → (o : Out) × (t : List ℕ) × Made S h c s o t
+
 -- ---- demand 2: on an accepted store the calls answer as a plain map from code to row place
 
 -- the map from code to row place
