@@ -2,7 +2,7 @@
 use mathlib.Core.Path.{_≡_, refl, ap, _∙_}
 use mathlib.Core.Bool.{Bool, true, false}
 use mathlib.Core.List.{List}
-use mathlib.Core.Logic.{⊎-elim}
+use mathlib.Core.Logic.{⊎-elim, _↔_}
 use Prim.Native.Nat.{ℕ, zero, suc, _+_, _-_, _≤_, _<_}
 use native.Mathlib.Omega.{arith}
 use lib.Dec.{eqb, ltb}
@@ -15,8 +15,12 @@ use Rattle.ground.proofs.Tests.{says-true, says-one, says-same, says-ltb, says-
 use Rattle.ground.proofs.Tables.{total-same}
 use Rattle.page.proofs.Sums.{total-more, total-none}
 use Rattle.store.specs.Moves.{pick}
-use Rattle.reading.specs.Directory.{AllAre, Exactly}
+use Rattle.reading.specs.Directory.{AllAre}
 use Rattle.reading.specs.Heaps.{heap}
+
+-- of the entries up to m, exactly those from a up to b are x
+abbrev pub Exactly : List ℕ → ℕ → ℕ → ℕ → ℕ → Type 0
+Exactly dir m a b x = (i : ℕ) → i < m → (getD dir i 0 ≡ x) ↔ ((a ≤ i) × (i < b))
 
 -- sums of numbers that are each at most another's are equal only where all are
 rise : (f g : ℕ → ℕ) (n : ℕ) → ((i : ℕ) → i < n → f i ≤ g i) → total f n ≤ total g n

@@ -12,8 +12,8 @@ use Rattle.partition.specs.Sizes.{Sized}
 use Rattle.partition.specs.Partition.{first, after}
 use Rattle.partition.proofs.Tree.{pfx}
 use Rattle.partition.proofs.Directory.{holds-range}
-use Rattle.reading.specs.Directory.{AllAre, NoneIs, Exactly, Counted, Named}
-use Rattle.reading.proofs.Counts.{exactly-counted, counted-exactly}
+use Rattle.reading.specs.Directory.{AllAre, NoneIs, Counted, Named}
+use Rattle.reading.proofs.Counts.{Exactly, exactly-counted, counted-exactly}
 
 -- a directory has no more entries than page 1 has room for
 pub room : (S : Shape) → Sized S → (d : ℕ) → d ≤ S .deepest → 2 ^ d ≤ S .entries

@@ -35,7 +35,7 @@ use Rattle.store.proofs.PageTies.{page-needs}
 use Rattle.store.proofs.Views.{page-lent}
 use Rattle.reading.specs.Begun.{Standing}
 use Rattle.reading.specs.Heaps.{heap, below, Heaped}
-use Rattle.reading.specs.Digest.{Legible, LoadOf, Hashed, Celled, Digest, firstOf, hashAt, topAt, loadAt, loadOf}
+use Rattle.reading.specs.Digest.{Legible, LoadOf, Hashed, Celled, Digest, firstOf, hashAt, topAt, loadAt}
 use Rattle.reading.proofs.Fills.{filled-more}
 use Rattle.reading.proofs.Heaps.{heaped-more, between, cells-below, heap-most, below-most}
 use Rattle.reading.proofs.Loads.{pick-none, load-shorter}
@@ -100,6 +100,10 @@ module _ (g : List ℕ) (L : Legible g) where
       let f : total-free g + needs (map asRow (rows g)) ≡ length g - 8 = page-needs g (b .rules) in
       let r : needs (rowsOn (read g)) ≡ needs (map asRow (rows g)) = ap (λ y. needs (rowsOn y)) (read-used g b) in
       (omega (arith, L .long), (omega (arith, L .long), omega (arith, L .long)))
+
+-- what the pages need together whose first hash begins with the k bits of v
+abbrev loadOf : Shape → List ℕ → ℕ → ℕ → ℕ → ℕ
+loadOf S s k v n = total (λ i. pick (eqb (top k (hashAt S s i)) v) (loadAt S s i) 0) (n - 2)
 
 module _ (S : Shape) (s : List ℕ) (n : ℕ) (T : Standing S s n) where
   -- no page needs more than the room of the largest size

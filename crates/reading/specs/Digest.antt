@@ -5,7 +5,7 @@ use mathlib.Core.Logic.{_⊎_}
 use Prim.Native.Nat.{ℕ, _+_, _-_, _≤_, _<_}
 use lib.Dec.{eqb}
 use lib.ListN.{length, getD}
-use Rattle.ground.specs.Lists.{byte, total}
+use Rattle.ground.specs.Lists.{byte}
 use Rattle.words.specs.Zeros.{Zero}
 use Rattle.page.specs.Page.{BucketPage, code}
 use Rattle.hash.specs.Fnv.{fnv}
@@ -40,10 +40,6 @@ module _ (S : Shape) (s : List ℕ) where
 
   abbrev pub loadAt : ℕ → ℕ
   loadAt i = needs (rowsOn (read (page S s (i + 2))))
-
-  -- what the pages need together whose first hash begins with the k bits of v
-  abbrev pub loadOf : ℕ → ℕ → ℕ → ℕ
-  loadOf k v n = total (λ i. pick (eqb (top k (hashAt i)) v) (loadAt i) 0) (n - 2)
 
   -- the first hash of each of n pages from 2 on
   pub record Hashed (n : ℕ) (hashes : List ℕ) : Type 0 where

@@ -26,10 +26,6 @@ NoneIs dir a b x = (i : ℕ) → a ≤ i → i < b → getD dir i 0 ≡ x → �
 abbrev pub AllBelow : List ℕ → ℕ → ℕ → ℕ → Type 0
 AllBelow dir a b n = (i : ℕ) → a ≤ i → i < b → getD dir i 0 < n
 
--- of the entries up to m, exactly those from a up to b are x
-abbrev pub Exactly : List ℕ → ℕ → ℕ → ℕ → ℕ → Type 0
-Exactly dir m a b x = (i : ℕ) → i < m → (getD dir i 0 ≡ x) ↔ ((a ≤ i) × (i < b))
-
 -- for each of n pages the number of the entries up to m that name it
 abbrev pub Counted : List ℕ → ℕ → ℕ → List ℕ → Type 0
 Counted dir m n counts = Heaped (λ i. getD dir i 0) (λ i. 1) m n counts

@@ -67,7 +67,7 @@ part-read-place-end c = omega (arith, here (c .before .before) .0 .within)
 read-place-requires : tie.Need-read-place-requires
 read-place-requires c κs = let b = c .before .before .before in
     let w = here b .0 in
-    rw (page-lent (S b) (store b) (page-no b)) (w .rules .rules, w .slot)
+    rw (page-lent (S b) (store b) (page-no b)) (w .rules .rules, omega (arith, w .slot))
 
 enum-told : tie.Need-enum-told
 enum-told c = search needs
