@@ -7,12 +7,12 @@ static uint8_t store[8 * 1024];
 
 static void put(const char *code, int32_t page, int16_t slot, int16_t volume) {
     uint64_t word = lots_put(store, sizeof store, (const uint8_t *)code, strlen(code), page, slot, volume);
-    if (word & LOTS_REFUSED) printf("put %s: refused %u\n", code, (unsigned)(word & 255));
+    if (lots_refusal(word)) printf("put %s: refused %u\n", code, lots_refusal(word));
     else printf("put %s: %s\n", code, word == LOTS_NEW ? "new" : "replaced");
 }
 
 static void print_place(uint64_t word) {
-    printf("page %u, slot %u, volume %u\n", (unsigned)(word & 0xFFFFFFFF), (unsigned)(word >> 32 & 0xFFFF), (unsigned)(word >> 48));
+    printf("page %d, slot %d, volume %d\n", lots_place_page(word), lots_place_slot(word), lots_place_volume(word));
 }
 
 int main(void) {

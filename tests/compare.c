@@ -1,16 +1,19 @@
 /* Drives the proved calls (include/lots.h) beside the reference over seeded histories, damaged stores and random bytes. Every answer and every byte of
- * store and output is compared. Each buffer ends where an unreadable page begins, and begins where one ends or at any offset after it. */
+ * store and output is compared. Each buffer ends where an unreadable page begins, and begins where one ends or at any offset after it. What a call
+ * may not write, all of it where the reference refuses, is lent in memory that cannot be written. */
 #include "../include/lots.h"
 #include "reference.h"
+#include <signal.h>
 #include <stdio.h>
 #include <stdlib.h>
 #include <string.h>
 #include <sys/mman.h>
+#include <unistd.h>
 
-enum { PAGE = 1024, MOST = 258 * PAGE + 2 * PAGE, POOL = 12000 };
+enum { PAGE = 1024, MOST = 258 * PAGE + 4 * PAGE, POOL = 12000 };
 
 static uint64_t state;
-static uint64_t steps, refused[16], reached[9], joins, splits;
+static uint64_t steps, refused[16], inspected[16], reached[9], joins, splits;
 
 static uint32_t draw(void) {
     state ^= state << 13;
@@ -21,28 +24,49 @@ static uint32_t draw(void) {
 
 static uint32_t below(uint32_t n) { return draw() % n; }
 
-/* `size` bytes between two unreadable pages, up against the second. */
-static uint8_t *guarded(size_t size) {
+/* Bytes between two unreadable pages, up against the second. */
+struct lent {
+    uint8_t *end;
+    size_t whole;
+};
+
+static void writable(const struct lent *m, int yes) {
+    if (mprotect(m->end - m->whole, m->whole, yes ? PROT_READ | PROT_WRITE : PROT_READ)) {
+        fprintf(stderr, "compare: memory cannot be protected\n");
+        exit(1);
+    }
+}
+
+static struct lent guarded(size_t size) {
     size_t whole = (size + 4095) / 4096 * 4096;
-    uint8_t *m = mmap(NULL, whole + 8192, PROT_READ | PROT_WRITE, MAP_PRIVATE | MAP_ANONYMOUS, -1, 0);
-    if (m == MAP_FAILED || mprotect(m, 4096, PROT_NONE) || mprotect(m + 4096 + whole, 4096, PROT_NONE)) {
+    uint8_t *m = mmap(NULL, whole + 8192, PROT_NONE, MAP_PRIVATE | MAP_ANONYMOUS, -1, 0);
+    if (m == MAP_FAILED) {
         fprintf(stderr, "compare: no guarded memory\n");
         exit(1);
     }
-    return m + 4096 + whole;
+    struct lent r = {m + 4096 + whole, whole};
+    writable(&r, 1);
+    return r;
 }
 
-static uint8_t *store_end, *code_end, *out_end, *page_end; /* one past the last byte that may be touched */
-static uint8_t ours[MOST], theirs[MOST], our_out[256], their_out[256];
+static void touched(int signal) {
+    static const char said[] = "compare: a call read or wrote where it may not\n";
+    (void)signal;
+    _exit(write(1, said, sizeof said - 1) > 0 ? 1 : 2);
+}
+
+static struct lent store_mem, code_mem, out_mem, page_mem, len_mem;
+static uint8_t ours[MOST], theirs[MOST], our_out[256], their_out[256], given[4 * PAGE];
 
 static void fail(const char *what, uint64_t a, uint64_t b) {
     printf("compare: %s differs after %llu steps: proved %llx, reference %llx\n", what, (unsigned long long)steps, (unsigned long long)a, (unsigned long long)b);
     exit(1);
 }
 
-static void note(uint64_t answer) {
+static void note(int inspection, uint64_t answer) {
     steps++;
-    if (answer & LOTS_REFUSED) refused[answer & 15]++;
+    refused[lots_refusal(answer) & 15]++;
+    if (inspection) inspected[lots_refusal(answer) & 15]++;
 }
 
 struct call {
@@ -53,17 +77,41 @@ struct call {
     int16_t slot, volume;
     uint64_t n;
     size_t out_len;
+    size_t at, page_len; /* inspection: from this page of the store on, so many bytes */
 };
 
 enum { FORMAT, CHECK, LOOKUP, REMOVE, PUT, COUNT, ROW, INSPECT, KINDS };
 
-/* The call on `ours`, lent up against the guard; what it leaves goes back to `ours`. */
-static uint64_t proved(const struct call *c, size_t len, uint32_t *code_len) {
-    uint8_t *s = store_end - len, *key = code_end - c->code_len, *out = out_end - c->out_len, *g = page_end - PAGE;
+/* Only format, put and remove write the store, only row and inspection the output; a refusal writes nothing. */
+static void protect(int kind, int refusal) {
+    int changes = !refusal && (kind == FORMAT || kind == PUT || kind == REMOVE), gives = !refusal && (kind == ROW || kind == INSPECT);
+    writable(&store_mem, changes);
+    writable(&out_mem, gives);
+    writable(&len_mem, gives);
+    writable(&code_mem, 0);
+    writable(&page_mem, 0);
+}
+
+static void unprotect(void) {
+    writable(&store_mem, 1);
+    writable(&out_mem, 1);
+    writable(&len_mem, 1);
+    writable(&code_mem, 1);
+    writable(&page_mem, 1);
+}
+
+/* The call on `ours`, lent up against the guard and, but for what it may write, read-only; what it leaves goes back to `ours`. */
+static uint64_t proved(const struct call *c, size_t len, int refusal, uint32_t *code_len) {
+    uint8_t *s = store_mem.end - len, *key = code_mem.end - c->code_len, *out = out_mem.end - c->out_len, *g = page_mem.end - c->page_len;
+    uint32_t *l = (uint32_t *)(len_mem.end - sizeof *l);
     uint64_t r = 0;
+    unprotect();
     memcpy(s, ours, len);
     memcpy(key, c->code, c->code_len);
     memcpy(out, our_out, c->out_len);
+    memcpy(g, given, c->page_len);
+    *l = *code_len;
+    protect(c->kind, refusal);
     switch (c->kind) {
     case FORMAT: r = lots_format(s, len); break;
     case CHECK: r = lots_check(s, len); break;
@@ -71,15 +119,12 @@ static uint64_t proved(const struct call *c, size_t len, uint32_t *code_len) {
     case REMOVE: r = lots_remove(s, len, key, c->code_len); break;
     case PUT: r = lots_put(s, len, key, c->code_len, c->page, c->slot, c->volume); break;
     case COUNT: r = lots_count(s, len); break;
-    case ROW: r = lots_row(s, len, c->n, out, c->out_len, code_len); break;
-    case INSPECT:
-        memcpy(g, len >= PAGE ? ours + (len - PAGE) / PAGE * PAGE : ours, PAGE);
-        r = lots_inspect(g, PAGE, c->n, out, c->out_len, code_len);
-        break;
+    case ROW: r = lots_row(s, len, c->n, out, c->out_len, l); break;
+    case INSPECT: r = lots_inspect(g, c->page_len, c->n, out, c->out_len, l); break;
     }
-    if (memcmp(key, c->code, c->code_len) != 0) fail("the code given", 0, 0);
     memcpy(ours, s, len);
     memcpy(our_out, out, c->out_len);
+    *code_len = *l;
     return r;
 }
 
@@ -92,19 +137,20 @@ static uint64_t reference(const struct call *c, size_t len, uint32_t *code_len) 
     case PUT: return ref_put(theirs, len, c->code, c->code_len, c->page, c->slot, c->volume);
     case COUNT: return ref_count(theirs, len);
     case ROW: return ref_row(theirs, len, c->n, their_out, c->out_len, code_len);
-    default: return ref_inspect(len >= PAGE ? theirs + (len - PAGE) / PAGE * PAGE : theirs, PAGE, c->n, their_out, c->out_len, code_len);
+    default: return ref_inspect(given, c->page_len, c->n, their_out, c->out_len, code_len);
     }
 }
 
 static uint64_t both(const struct call *c, size_t len) {
     uint32_t a_len = 0xABCDEF01, b_len = 0xABCDEF01;
     for (size_t i = 0; i < c->out_len; i++) our_out[i] = their_out[i] = draw();
-    uint64_t a = proved(c, len, &a_len), b = reference(c, len, &b_len);
+    memcpy(given, ours + (len < PAGE ? 0 : c->at % (len / PAGE) * PAGE), c->page_len);
+    uint64_t b = reference(c, len, &b_len), a = proved(c, len, lots_refusal(b) != 0, &a_len);
     if (a != b) fail("an answer", a, b);
     if (a_len != b_len) fail("a code's length", a_len, b_len);
     if (memcmp(ours, theirs, len) != 0) fail("the store", 0, 0);
     if (memcmp(our_out, their_out, c->out_len) != 0) fail("the output", 0, 0);
-    note(a);
+    note(c->kind == INSPECT, a);
     return a;
 }
 
@@ -144,6 +190,8 @@ static void random_place(struct call *c) {
     if (below(40) == 0) c->volume = -c->volume - 1;
 }
 
+static const size_t other_lengths[] = {0, 1, PAGE - 8, PAGE - 1, PAGE + 1, 2 * PAGE - 1, 2 * PAGE, 3 * PAGE};
+
 static struct call random_call(size_t many, uint32_t puts) {
     static const int kinds[8] = {CHECK, LOOKUP, LOOKUP, COUNT, ROW, ROW, INSPECT, INSPECT};
     struct call c = {0};
@@ -154,6 +202,8 @@ static struct call random_call(size_t many, uint32_t puts) {
     random_place(&c);
     c.n = below(8) ? below(200) : (uint64_t)draw() << below(33);
     c.out_len = below(30) ? 64 + below(20) : below(64);
+    c.at = draw();
+    c.page_len = below(20) ? PAGE : other_lengths[below(8)];
     return c;
 }
 
@@ -191,6 +241,19 @@ static void format(size_t len) {
     both(&c, len);
 }
 
+/* Every row of every page, and each page at other lengths. */
+static void inspect_all(size_t len) {
+    struct call c = {.kind = INSPECT, .out_len = 64};
+    for (c.at = 0; c.at < len / PAGE; c.at++) {
+        c.page_len = PAGE;
+        for (c.n = 0; lots_refusal(both(&c, len)) == 0;) c.n++;
+        for (c.n = 0; c.n < 8; c.n++) {
+            c.page_len = other_lengths[c.n];
+            both(&c, len);
+        }
+    }
+}
+
 /* Steps through a store of `pages` pages; half of the time mostly puts, half mostly removes, so that it fills and empties. */
 static void history(size_t pages, size_t many, int rounds, int each) {
     size_t len = pages * PAGE;
@@ -205,6 +268,7 @@ static void history(size_t pages, size_t many, int rounds, int each) {
             if (depth_now() < was) joins++;
             reached[depth_now()]++;
             if (below(50) == 0) scatter(len);
+            if (i == each / 2) inspect_all(len);
         }
 }
 
@@ -214,13 +278,15 @@ static void damage(size_t len, int times, size_t many) {
     memcpy(sound, ours, len);
     for (int t = 0; t < times; t++) {
         int flips = 1 + below(3);
+        size_t at = 0;
         for (int f = 0; f < flips; f++) {
-            size_t at = below(3) == 0 ? below(64) : below(3) == 0 ? PAGE + below(PAGE) : below(len);
+            at = below(3) == 0 ? below(64) : below(3) == 0 ? PAGE + below(PAGE) : below(len);
             if (below(2)) at = 2 * PAGE + below(len - 2 * PAGE) / PAGE * PAGE + (below(2) ? below(24) : PAGE - 1 - below(40));
             ours[at] = below(3) ? draw() : ours[at] ^ 1u << below(8);
         }
         memcpy(theirs, ours, len);
         struct call c = random_call(many, 40);
+        if (below(2)) c.at = at / PAGE;
         both(&c, len);
         memcpy(ours, sound, len);
         memcpy(theirs, sound, len);
@@ -238,15 +304,61 @@ static void random_bytes(int times, size_t many) {
     }
 }
 
+static void expect(const char *what, uint64_t word, unsigned number) {
+    if (lots_refusal(word) != number) fail(what, word, LOTS_REFUSED | number);
+    steps++;
+}
+
+/* The fields of a word, at the ends of their ranges. */
+static void fields(uint8_t *s, size_t len, const uint8_t *key) {
+    lots_format(s, len);
+    expect("a put", lots_put(s, len, key, 1, INT32_MAX, INT16_MAX - 1, INT16_MAX), 0);
+    uint64_t word = lots_lookup(s, len, key, 1);
+    expect("a lookup", word, 0);
+    if (lots_place_page(word) != INT32_MAX || lots_place_slot(word) != INT16_MAX - 1 || lots_place_volume(word) != INT16_MAX) fail("a place", word, 0);
+    s[3 * PAGE + 7] ^= 1;
+    word = lots_check(s, len);
+    expect("a check", word, LOTS_BAD_PAGE);
+    if (lots_refusal_page(word) != 3) fail("a page number", lots_refusal_page(word), 3);
+    s[3 * PAGE + 7] ^= 1;
+}
+
+/* A range of length 0 has no pointer. */
+static void nothing_lent(void) {
+    static uint8_t s[4 * PAGE], was[sizeof s], out[64];
+    const uint8_t key[] = {200};
+    uint32_t l = 77;
+    fields(s, sizeof s, key);
+    memcpy(was, s, sizeof s);
+    expect("format of nothing", lots_format(NULL, 0), LOTS_BAD_LENGTH);
+    expect("check of nothing", lots_check(NULL, 0), LOTS_BAD_LENGTH);
+    expect("count of nothing", lots_count(NULL, 0), LOTS_BAD_LENGTH);
+    expect("lookup in nothing", lots_lookup(NULL, 0, NULL, 0), LOTS_BAD_LENGTH);
+    expect("lookup of nothing", lots_lookup(s, sizeof s, NULL, 0), LOTS_BAD_CODE);
+    expect("put in nothing", lots_put(NULL, 0, NULL, 0, 1, 2, 3), LOTS_BAD_LENGTH);
+    expect("put of nothing", lots_put(s, sizeof s, NULL, 0, 1, 2, 3), LOTS_BAD_CODE);
+    expect("remove in nothing", lots_remove(NULL, 0, NULL, 0), LOTS_BAD_LENGTH);
+    expect("remove of nothing", lots_remove(s, sizeof s, NULL, 0), LOTS_BAD_CODE);
+    expect("row of nothing", lots_row(NULL, 0, 0, out, sizeof out, &l), LOTS_BAD_LENGTH);
+    expect("row to nothing", lots_row(s, sizeof s, 0, NULL, 0, &l), LOTS_SHORT_OUTPUT);
+    expect("inspection of nothing", lots_inspect(NULL, 0, 0, out, sizeof out, &l), LOTS_BAD_LENGTH);
+    expect("inspection to nothing", lots_inspect(s + 2 * PAGE, PAGE, 0, NULL, 0, &l), LOTS_SHORT_OUTPUT);
+    if (memcmp(s, was, sizeof s) != 0 || l != 77) fail("what was lent", l, 77);
+}
+
 int main(int argc, char **argv) {
     uint64_t seed = argc > 1 ? strtoull(argv[1], NULL, 10) : 1;
     int scale = argc > 2 ? atoi(argv[2]) : 1;
     size_t many;
     state = seed * 0x9E3779B97F4A7C15u + 1;
-    store_end = guarded(MOST);
-    code_end = guarded(96);
-    out_end = guarded(256);
-    page_end = guarded(PAGE);
+    signal(SIGSEGV, touched);
+    signal(SIGBUS, touched);
+    store_mem = guarded(MOST);
+    code_mem = guarded(96);
+    out_mem = guarded(256);
+    page_mem = guarded(4 * PAGE);
+    len_mem = guarded(sizeof(uint32_t));
+    nothing_lent();
     for (int k = 0; k < scale; k++) {
         many = fill_pool(60, 1, 3, 0, 0), history(3, many, 4, 400), damage(3 * PAGE, 400, many);
         many = fill_pool(40, 60, 64, 0, 0), history(3 + below(4), many, 4, 300);
@@ -268,6 +380,10 @@ int main(int argc, char **argv) {
             printf("compare: refusal %d was never reached\n", i);
             return 1;
         }
+    if (!inspected[0] || !inspected[1] || !inspected[2] || !inspected[8] || !inspected[9]) {
+        printf("compare: an answer of inspection was never reached\n");
+        return 1;
+    }
     if (reached[8] == 0) {
         printf("compare: depth 8 was never reached\n");
         return 1;

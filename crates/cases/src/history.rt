@@ -1,4 +1,4 @@
-// Case 11, and histories through a deep split, a full store, a crowded prefix, a join over levels, emptied buckets and a fragmented page.
+// Case 11, and histories through a deep split, a full store, a crowded prefix, a join over levels, emptied buckets and fragmented pages.
 // Rows go in and out only as long as the check accepts after each step.
 ghost use mathlib.Core.Path.{_≡_};
 ghost use Prim.Native.Nat.{_≤_};
@@ -6,6 +6,7 @@ ghost use lib.ListN.{length};
 use super::answers::say_number;
 use super::answers::say_place;
 use super::show::digits;
+use super::show::part;
 use libc::STDOUT_FILENO;
 
 // Codes of one length, 2 to 64 bytes, whose hashes begin with these bits.
@@ -207,6 +208,30 @@ pub fn fragmented(store: &mut [u8]) {
     say(store);
     say_place(b"a 14th:", put(store, any, 13));
     say(store);
+}
+
+// In 3 pages a hole of 72 bytes before 12 records, and room of 32 at the frontier: one row more of this kind, then where the records are.
+fn beside_hole(store: &mut [u8], kind: Kind)
+    requires { ⌜ (kind .len ≤ 64) × (kind .bits ≤ 8) ⌝ }
+{
+    let any = codes(64, 0, 0);
+    say_number(b"format:", lots_c::lots_format(store));
+    say_number(b"rows put:", put_all(store, any, 13));
+    say_place(b"the first removed:", remove(store, any, 0));
+    say(store);
+    say_place(b"one more:", put(store, kind, 13));
+    say(store);
+    digits(part(store, 3020, 3072));
+}
+
+// A need of 32 goes at the frontier; for 33 the page is packed first.
+pub fn room(store: &mut [u8]) {
+    io::write_all(STDOUT_FILENO, b"room for exactly a row\n");
+    let fits = codes(20, 0, 0);
+    beside_hole(store, fits);
+    io::write_all(STDOUT_FILENO, b"room a byte less than a row\n");
+    let packs = codes(21, 0, 0);
+    beside_hole(store, packs);
 }
 
 // In 5 pages a bucket of one row loses it and joins its sibling (case 8).

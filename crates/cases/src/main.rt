@@ -15,6 +15,7 @@ fn main() {
     let mut damaged = store;
     damaged[1024] = 1;
     refusals::all(&store, &damaged);
+    refusals::of_writes(&mut store, &mut damaged);
     reads::row_by_row();
     histories(&mut store);
 }
@@ -28,6 +29,7 @@ fn histories(store: &mut [u8]) {
     history::deep_split(&mut nine);
     history::deep_join(&mut nine);
     history::fragmented(store);
+    history::room(store);
     history::joined(&mut five);
     history::cleared(&mut five);
 }

@@ -1,16 +1,9 @@
-// Every refusal that a reading call can give, reached through the call, in the document's order: each line has the faults of the next ones too.
+// Every refusal but 6 and 7, reached through the call, in the document's order: each line has the faults of the next ones too.
 use crate::answers::say_number;
 use crate::answers::say_place;
-
-// The bytes from a up to e, where there are so many.
-fn part(b: &[u8], a: usize, e: usize) -> &[u8] {
-    if a <= e {
-        if e <= b.len() {
-            return &b[a..e];
-        }
-    }
-    b
-}
+use crate::show::lines;
+use crate::show::part;
+use libc::STDOUT_FILENO;
 
 fn checks(sound: &[u8], damaged: &[u8], short: &[u8]) {
     say_number(b"check, 3071 bytes:", lots_c::lots_check(short));
@@ -109,4 +102,80 @@ fn inspections(bucket: &[u8], other: &[u8], short: &[u8], free: &[u8]) {
         lots_c::lots_inspect(bucket, 0, &mut out, &mut len),
     );
     say_number(b"its length:", len as u64);
+}
+
+// Each part of a place negative.
+fn negatives(damaged: &mut [u8]) {
+    say_place(
+        b"put, negative page, damaged store:",
+        lots_c::lots_put(damaged, b"b", -1, 2, 0),
+    );
+    say_place(
+        b"put, negative slot, damaged store:",
+        lots_c::lots_put(damaged, b"b", 7, -1, 0),
+    );
+    say_place(
+        b"put, negative volume, damaged store:",
+        lots_c::lots_put(damaged, b"b", 7, 2, -1),
+    );
+}
+
+fn puts(sound: &mut [u8], damaged: &mut [u8]) {
+    let mut short = [0xAAu8; 3071];
+    let long = [97u8; 65];
+    say_place(
+        b"put, 3071 bytes, no code, negative page:",
+        lots_c::lots_put(&mut short, b"", -1, 2, 0),
+    );
+    say_place(
+        b"put, no code, negative page, damaged store:",
+        lots_c::lots_put(damaged, b"", -1, 2, 0),
+    );
+    say_place(
+        b"put, 65 bytes of code, negative page, damaged store:",
+        lots_c::lots_put(damaged, &long, -1, 2, 0),
+    );
+    negatives(damaged);
+    say_place(
+        b"put, damaged store:",
+        lots_c::lots_put(damaged, b"b", 7, 2, 0),
+    );
+    say_place(
+        b"put, known code, negative page:",
+        lots_c::lots_put(sound, b"a", -1, 2, 0),
+    );
+}
+
+fn removes(sound: &mut [u8], damaged: &mut [u8]) {
+    let mut short = [0xAAu8; 3071];
+    let long = [97u8; 65];
+    say_place(
+        b"remove, 3071 bytes, no code:",
+        lots_c::lots_remove(&mut short, b""),
+    );
+    say_place(
+        b"remove, no code, damaged store:",
+        lots_c::lots_remove(damaged, b""),
+    );
+    say_place(
+        b"remove, 65 bytes of code, damaged store:",
+        lots_c::lots_remove(damaged, &long),
+    );
+    say_place(
+        b"remove, damaged store:",
+        lots_c::lots_remove(damaged, b"a"),
+    );
+    say_place(b"remove, not there:", lots_c::lots_remove(sound, b"b"));
+}
+
+// The same two stores, lent for writing: they are left as they were.
+pub fn of_writes(sound: &mut [u8], damaged: &mut [u8]) {
+    let mut short = [0xAAu8; 3071];
+    say_number(b"format, 3071 bytes:", lots_c::lots_format(&mut short));
+    puts(sound, damaged);
+    removes(sound, damaged);
+    io::write_all(STDOUT_FILENO, b"every byte as before\n");
+    lines(sound);
+    io::write_all(STDOUT_FILENO, b"and of the damaged store\n");
+    lines(damaged);
 }

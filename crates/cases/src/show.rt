@@ -1,4 +1,4 @@
-// Bytes as hex text.
+// Bytes as hex text, and parts of them.
 ghost use Prim.Native.Nat.{_+_, _≤_};
 ghost use lib.ListN.{length};
 use libc::STDOUT_FILENO;
@@ -24,6 +24,16 @@ pub fn digits(b: &[u8]) {
         i += 1;
     }
     end();
+}
+
+// The bytes from a up to e, where there are so many.
+pub fn part(b: &[u8], a: usize, e: usize) -> &[u8] {
+    if a <= e {
+        if e <= b.len() {
+            return &b[a..e];
+        }
+    }
+    b
 }
 
 fn all_zero(b: &[u8]) -> bool {

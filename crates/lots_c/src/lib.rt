@@ -65,27 +65,29 @@ fn word_of(a: Answer) -> u64
     }
 }
 
-// The length of the code that was given, or what stood there.
-fn length_after(a: Answer, old: u32) -> u32
-    ensures { λ r. ⌜ r ≡ lengthAfter (meaning a) old ⌝ }
+// The length of the code that was given; only a row writes it.
+fn give_length(a: Answer, len: &mut u32)
+    ensures { λ _. ⌜ now (len .exit) ≡ lengthAfter (meaning a) (now (len .entry)) ⌝ }
 {
     match a {
-        Answer::RowOf(n, _) => (n % 4294967296) as u32,
-        Answer::BadLength => old,
-        Answer::BadPage(_) => old,
-        Answer::BadCode => old,
-        Answer::BadPlace => old,
-        Answer::NoCode => old,
-        Answer::PrefixFull => old,
-        Answer::PagesFull => old,
-        Answer::ShortOutput => old,
-        Answer::NoRow => old,
-        Answer::Formatted => old,
-        Answer::Accepted => old,
-        Answer::New => old,
-        Answer::Replaced(_) => old,
-        Answer::Found(_) => old,
-        Answer::Rows(_) => old,
+        Answer::RowOf(n, _) => {
+            *len = (n % 4294967296) as u32;
+        }
+        Answer::BadLength => {}
+        Answer::BadPage(_) => {}
+        Answer::BadCode => {}
+        Answer::BadPlace => {}
+        Answer::NoCode => {}
+        Answer::PrefixFull => {}
+        Answer::PagesFull => {}
+        Answer::ShortOutput => {}
+        Answer::NoRow => {}
+        Answer::Formatted => {}
+        Answer::Accepted => {}
+        Answer::New => {}
+        Answer::Replaced(_) => {}
+        Answer::Found(_) => {}
+        Answer::Rows(_) => {}
     }
 }
 
@@ -122,8 +124,7 @@ pub extern "C" fn lots_row(store: &[u8], n: u64, out: &mut [u8], code_len: &mut 
     ensures { λ r. ⌜ TellsRow (rowTable S1024 fnv (now (store .entry)) n (now (out .entry))) (now (out .exit)) (now («code_len» .entry)) (now («code_len» .exit)) r ⌝ }
 {
     let a = reading::row_at(store, n as usize, out);
-    let old = *code_len;
-    *code_len = length_after(a, old);
+    give_length(a, code_len);
     word_of(a)
 }
 
@@ -132,8 +133,7 @@ pub extern "C" fn lots_inspect(page: &[u8], n: u64, out: &mut [u8], code_len: &m
     ensures { λ r. ⌜ TellsRow (inspectTable S1024 fnv (now (page .entry)) n (now (out .entry))) (now (out .exit)) (now («code_len» .entry)) (now («code_len» .exit)) r ⌝ }
 {
     let a = reader::inspect(page, n as usize, out);
-    let old = *code_len;
-    *code_len = length_after(a, old);
+    give_length(a, code_len);
     word_of(a)
 }
 

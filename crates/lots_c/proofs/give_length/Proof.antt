@@ -1,16 +1,17 @@
--- `lots_c::length_after` meets its contract, answer by answer. Assumes nothing.
+-- `lots_c::give_length` meets its contract, answer by answer. Assumes nothing.
 use mathlib.Core.Path.{sym, ap}
+use denote.Ref.{now}
 use Rattle.store.specs.Tables.{meaning}
 use Rattle.lots_c.specs.Words.{lengthAfter}
 use borrow.Author.Needs.{needs}
-use Rattle.lots_c.proofs.length_after.Statement.{statement}
-use Rattle.lots_c.proofs.length_after.Tie as tie
+use Rattle.lots_c.proofs.give_length.Statement.{statement}
+use Rattle.lots_c.proofs.give_length.Tie as tie
 
 enum-known-a : tie.Need-enum-known-a
 enum-known-a c = search needs
 
-cast-result : tie.Need-cast-result
-cast-result c = search needs
+cast-len : tie.Need-cast-len
+cast-len c = search needs
 
 enum-told : tie.Need-enum-told
 enum-told c = search needs
@@ -58,7 +59,7 @@ enum-told-15 : tie.Need-enum-told-15
 enum-told-15 c = search needs
 
 returns : tie.Need-returns
-returns c = sym (ap (λ x. lengthAfter (meaning x) (c .before .before .before .args .old)) (c .before .a .given .1))
+returns c = sym (ap (λ x. lengthAfter (meaning x) (now (c .before .before .before .args .len))) (c .before .a .given .1))
 
 returns-2 : tie.Need-returns-2
 returns-2 c = search needs
@@ -105,12 +106,12 @@ returns-15 c = search needs
 returns-16 : tie.Need-returns-16
 returns-16 c = search needs
 
-pub length-after-spec : {M : Type 1} → statement M
-length-after-spec =
+pub give-length-spec : {M : Type 1} → statement M
+give-length-spec =
     tie.close
     (tie.spec
     enum-known-a
-    cast-result
+    cast-len
     enum-told
     enum-told-2
     enum-told-3
