@@ -32,28 +32,29 @@ pub fn compare_slot(page: &[u8], i: usize, key: &[u8]) -> Order
     words::compare(&page[from..to], key)
 }
 
-// Where a code stands, or where it belongs.
+// Where a code stands, or where it belongs: slots are in code order, so what is left is halved.
 pub fn find_code(page: &[u8], key: &[u8]) -> Found
     requires { ⌜ Slotted (now page) ⌝ }
     ensures { λ r. ⌜ FoundIn (now (page .entry)) (now (key .entry)) r ⌝ }
 {
-    let n = words::get16(page, 2);
-    let mut i = 0;
-    while i < n {
-        let o = compare_slot(page, i, key);
+    let mut lo = 0;
+    let mut hi = words::get16(page, 2);
+    while lo < hi {
+        let mid = lo + (hi - lo) / 2;
+        let o = compare_slot(page, mid, key);
         match o {
             Order::Less => {
-                i += 1;
+                lo = mid + 1;
             }
             Order::Equal => {
-                return Found::At(i);
+                return Found::At(mid);
             }
             Order::Greater => {
-                return Found::Absent(i);
+                hi = mid;
             }
         }
     }
-    Found::Absent(n)
+    Found::Absent(lo)
 }
 
 // Slot i's code goes to the start of out; its length.
