@@ -1,7 +1,8 @@
 -- Free pages, found and counted by the pages' first bytes. Assumes nothing.
 use mathlib.Core.Path.{_≡_, refl, sym, ap, _∙_}
-use mathlib.Core.Bool.{Bool, true, false}
-use mathlib.Core.List.{List, [], _∷_}
+use mathlib.Core.Bool.{true, false, true≢false}
+use mathlib.Core.List.{List, _∷_}
+use mathlib.Core.Logic.{⊎-elim}
 use Prim.Native.Nat.{ℕ, zero, suc, _+_, _-_, _*_, _≤_, _<_}
 use native.Mathlib.Omega.{arith}
 use native.Mathlib.Nat.{zero-add}
@@ -9,20 +10,14 @@ use native.Mathlib.Numerals.{add-one}
 use lib.ListN.{length, getD, drop}
 use lib.Seq.{drop-cons, drop-length}
 use Rattle.ground.specs.Lists.{byte}
+use Rattle.ground.proofs.Sides.{side}
 use Rattle.store.specs.Pages.{S1024, pages, page, Page, free, bucket, read, reading, contents}
-use Rattle.store.specs.Moves.{pick, find, isFree}
+use Rattle.store.specs.Moves.{find, isFree}
 use Rattle.store.proofs.Unique.{held}
 use Rattle.store.proofs.Showing.{pages-held}
-use Rattle.store.proofs.Rooms.{frees}
+use Rattle.store.proofs.Shown.{find-least}
+use Rattle.store.proofs.Rooms.{frees, find-free}
 use Rattle.store.proofs.Depths.{kind-byte}
-
--- all before i fail the test, and i passes it or there is none
-pub find-at : (f : Page → Bool) (gs : List Page) (i : ℕ) → i ≤ length gs → ((j : ℕ) → j < i → f (getD gs j free) ≡ false) → (i < length gs → f (getD gs i free) ≡ true) → find f gs ≡ i
-unfolding find
-find-at f [] i l a b = omega arith
-find-at f (g ∷ gs) zero l a b = ap (λ t. pick t 0 (suc (find f gs))) (b (omega arith))
-find-at f (g ∷ gs) (suc i) l a b =
-    ap (λ t. pick t 0 (suc (find f gs))) (a 0 (omega arith)) ∙ ap suc (find-at f gs i (omega arith) (λ j m. a (suc j) (omega arith)) (λ m. b (omega arith)))
 
 abbrev one : Page → ℕ
 one free = 1
@@ -71,11 +66,23 @@ module _ (s : List ℕ) (p : ℕ) (two : 2 ≤ p) (to : p < pages S1024 s) where
       go free e = let z : _≡_ {A = ℕ} 0 1 = cc in absurd (omega arith)
       go (bucket k rs) e = refl
 
--- what a search from page 2 upward finds
-pub lowest : (s : List ℕ) (p n : ℕ) → n ≡ pages S1024 s → 2 ≤ p → p ≤ n → ((q : ℕ) → 2 ≤ q → q < p → byte s (q * 1024) ≡ 0 → ⊥) → (p < n → byte s (p * 1024) ≡ 0)
-    → p ≡ 2 + find isFree (contents S1024 s)
-lowest s p n e two to used here =
-    let z : find isFree (contents S1024 s) ≡ p - 2 = find-at isFree (contents S1024 s) (p - 2) (omega (arith, pages-held S1024 s))
-    (λ j l. let q : j + 2 - 2 ≡ j = omega arith in ap (λ k. isFree (getD (contents S1024 s) k free)) (sym q) ∙ used-page s (j + 2) (omega arith) (omega arith) (used (j + 2) (omega arith) (omega arith)))
-    (λ l. let m : p < pages S1024 s = omega (arith, pages-held S1024 s) in ap isFree (free-page s p two m (here (omega arith)))) in
-    omega arith
+-- a search from page 2 upward for the lowest free page, where one is free
+module _ (s : List ℕ) (some : 0 < frees (contents S1024 s)) where
+  -- it stays among the pages
+  pub found-there : 2 + find isFree (contents S1024 s) < pages S1024 s
+  found-there = omega (arith, find-free (contents S1024 s) some .0, pages-held S1024 s)
+
+  module _ (p : ℕ) (two : 2 ≤ p) (to : p ≤ 2 + find isFree (contents S1024 s)) where
+    within : p < pages S1024 s
+    within = omega (arith, found-there)
+
+    -- a page in use is passed
+    pub passed : (byte s (p * 1024) ≡ 0 → ⊥) → p + 1 ≤ 2 + find isFree (contents S1024 s)
+    passed n = ⊎-elim (λ l. omega arith) (λ l. absurd (here (omega arith))) (side p (2 + find isFree (contents S1024 s)))
+      where
+        here : p - 2 ≡ find isFree (contents S1024 s) → ⊥
+        here e = let z : true ≡ false = sym (ap isFree (find-free (contents S1024 s) some .1)) ∙ ap (λ i. isFree (getD (contents S1024 s) i free)) (sym e) ∙ used-page s p two within n in true≢false z
+
+    -- a free page is the lowest
+    pub lowest : byte s (p * 1024) ≡ 0 → p ≡ 2 + find isFree (contents S1024 s)
+    lowest e = omega (arith, find-least isFree (contents S1024 s) (p - 2) (omega (arith, within, pages-held S1024 s)) (ap isFree (free-page s p two within e)))

@@ -6,7 +6,7 @@ use mathlib.Core.Logic.{inl, inr, ⊎-elim, _↔_}
 use mathlib.Core.Option.{some, none}
 use Prim.Native.Nat.{ℕ, suc, _+_, _-_, _/_, _≤_, _<_}
 use native.Mathlib.Omega.{arith}
-use lib.ListN.{length, set}
+use lib.ListN.{length, take, length-map}
 use Rattle.ground.proofs.Tests.{none-some}
 use Rattle.ground.specs.Lists.{byte}
 use Rattle.ground.specs.Ladder.{Answers}
@@ -20,36 +20,27 @@ use Rattle.partition.proofs.Bits.{top-lt}
 use Rattle.partition.proofs.Rows.{same-load}
 use Rattle.store.specs.Pages.{S1024, pages, page, dirDepth, Page, contents, asRow, rowsHeld, deepestIn}
 use Rattle.store.specs.Accepted.{Accepted}
-use Rattle.store.specs.Moves.{find, isFree, packed, written, putNew}
+use Rattle.store.specs.Moves.{packed, written, putNew}
 use Rattle.store.specs.Tables.{new, refused, Refusal6, Refusal7, putAccepted}
 use Rattle.store.specs.Demands.{Hash, sized-1024}
 use Rattle.store.proofs.Shows.{prefixOn, Shows}
 use Rattle.store.proofs.Rules.{opened}
-use Rattle.store.proofs.Shown.{within-pages, page-row}
+use Rattle.store.proofs.Shown.{page-row}
 use Rattle.store.proofs.Showing.{accepted-shows, pages-held}
 use Rattle.store.proofs.Unique.{page-long}
 use Rattle.store.proofs.Rooms.{frees}
 use Rattle.store.proofs.Reading.{Naming, place-on}
 use Rattle.store.proofs.PageTies.{found-not, fits-needs}
 use Rattle.store.proofs.PutCases.{here-six, splits-seven, put-splits-is}
-use Rattle.store.proofs.PutShows.{put-found}
 use Rattle.store.proofs.PutRows.{put-shown}
-use Rattle.store.proofs.Written.{Found, NextFree}
+use Rattle.store.proofs.EveryStep.{Roomy}
 use Rattle.change.specs.Directory.{Directed}
 use Rattle.change.specs.Put.{Puttable}
-use Rattle.change.specs.Split.{keyed, below, Source, Room, pagesBelow, Writable, Wrote}
+use Rattle.change.specs.Split.{keyed, below, Source, pagesBelow, Writable, Wrote}
 use Rattle.change.proofs.Puts.{begins}
 use Rattle.change.proofs.Weighs.{load-any, below-shared, below-all}
 use Rattle.change.proofs.Settles.{unwritten, settled}
-
--- where each page taken is free, each is there
-found-room : (gs : List Page) (i : ℕ) (ns : List Page) → Found gs i ns → Room gs i ns
-found-room gs i [] f = tt
-found-room gs i (n ∷ ns) f = (f .0, found-room (set gs i n) (find isFree (set gs i n)) ns (f .2))
-
-first-room : (gs : List Page) (i : ℕ) (ns : List Page) → i < length gs → NextFree gs i ns → Room gs i ns
-first-room gs i [] l f = tt
-first-room gs i (n ∷ ns) l f = (l, found-room (set gs i n) (find isFree (set gs i n)) ns f)
+use Rattle.change.proofs.Splits.{first-given}
 
 module _ (h : List ℕ → ℕ) (hash : Hash h) (s c pl : List ℕ) (P : Puttable h s c pl) (p : ℕ) (U : Naming S1024 h s (top (dirDepth s) (h c)) p)
     (i : ℕ) (B : Belongs (page S1024 s p) i c) (tight : InPage.free (page S1024 s p) < 12 + length c) where
@@ -136,15 +127,24 @@ module _ (h : List ℕ → ℕ) (hash : Hash h) (s c pl : List ℕ) (P : Puttabl
         (side (pages S1024 s - 2) (length (buckets S1024 h (r ∷ rowsHeld S1024 s)))) in
         inr ((λ _. none-some absent), inr ((λ _. six), inl (tt, (full, refl))))
 
-    module _ (room : length (below h (keyed c ∷ map asRow (rows (page S1024 s p))) (depth (page S1024 s p)) (top (depth (page S1024 s p)) (h c))) ≤ frees (contents S1024 s) + 1) where
-      fits : length (buckets S1024 h (r ∷ rowsHeld S1024 s)) ≤ length gs
-      fits = seven-is .1 (omega (arith, many, room))
+    -- the buckets that are written
+    abbrev ns : List Page
+    ns = pagesBelow h rs (depth g) (top (depth g) (h c))
 
+    news : ns ≡ map (packed h rs) (buckets S1024 h rs)
+    news = ap (map (packed h rs)) (lower pl ∙ below-all h rs)
+
+    count : length ns ≡ length (buckets S1024 h rs)
+    count = ap length news ∙ length-map (buckets S1024 h rs) (packed h rs)
+
+    -- as many as are counted
+    pub as-many : length (pagesBelow h (record { code = c; place = pl } ∷ map asRow (rows (page S1024 s p))) (depth (page S1024 s p)) (top (depth (page S1024 s p)) (h c)))
+        ≡ length (below h (keyed c ∷ map asRow (rows (page S1024 s p))) (depth (page S1024 s p)) (top (depth (page S1024 s p)) (h c)))
+    as-many = count ∙ many
+
+    module _ (room : Roomy (contents S1024 s) (p - 2) (pagesBelow h (record { code = c; place = pl } ∷ map asRow (rows (page S1024 s p))) (depth (page S1024 s p)) (top (depth (page S1024 s p)) (h c)))) where
       seven : Refusal7 S1024 h s (rowsHeld S1024 s) r → ⊥
-      seven x = omega (arith, fits, pages-held S1024 s)
-
-      news : pagesBelow h rs (depth g) (top (depth g) (h c)) ≡ map (packed h rs) (buckets S1024 h rs)
-      news = ap (map (packed h rs)) (lower pl ∙ below-all h rs)
+      seven x = omega (arith, seven-is .1 (omega (arith, count, room .many)), pages-held S1024 s)
 
       pub source : Source (page S1024 s p) i c pl
       source = record { page = slotted; belongs = B; natural = P .natural; some = P .some; short = P .short }
@@ -155,16 +155,15 @@ module _ (h : List ℕ → ℕ) (hash : Hash h) (s c pl : List ℕ) (P : Puttabl
         prefix = top-lt (h c) (depth g) (hash c);
         long = A .long;
         sound = unwritten h hash s A;
-        from = U .from;
-        room = subst (Room gs (p - 2)) (sym news)
-            (first-room gs (p - 2) (map (packed h rs) (buckets S1024 h rs)) (within-pages gs (p - 2) (depth g) (rows g) (U .holding))
-            (put-found S1024 h hash (rowsHeld S1024 s) r gs shows absent (omega (arith, deep, fine)) fits (p - 2) (depth g) (rows g) (U .holding) starts heavy));
+        from = λ _. U .from;
+        to = U .to;
+        room = λ m l f. subst (λ j. 0 < frees (written gs j (take m ns))) (sym (first-given gs p (U .from))) (room .step m (f (omega (arith, U .from))) l);
       }
 
       module _ (t : List ℕ) (n : ℕ) (W : Wrote h (record { code = c; place = pl } ∷ map asRow (rows (page S1024 s p))) (depth (page S1024 s p)) (top (depth (page S1024 s p)) (h c)) s p t n) where
         holds : contents S1024 t ≡ putNew S1024 h gs r
         holds =
-            W .held ∙ ap (written gs (p - 2)) news
+            W .held ∙ (λ x. written gs (first-given gs p (U .from) x) (news x))
             ∙ sym (put-splits-is S1024 h hash (rowsHeld S1024 s) gs shows r (p - 2) (depth g) (rows g) (U .holding) starts heavy)
 
         pub heavy-new : (u : List ℕ) → Directed h t (deepestIn (contents S1024 t)) (length s / 1024) u → ((k : ℕ) → byte u k < 256)

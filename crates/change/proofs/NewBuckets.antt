@@ -2,12 +2,11 @@
 use mathlib.Core.Path.{_≡_, refl, sym, ap, subst, _∙_}
 use mathlib.Core.List.{List, [], _∷_}
 use mathlib.Core.Logic.{inl, inr, ⊎-elim, _↔_}
-use mathlib.Core.Bool.{true}
 use mathlib.Core.Option.{none}
-use Prim.Native.Nat.{ℕ, zero, suc, _+_, _-_, _/_, _^_, _≤_, _<_}
+use Prim.Native.Nat.{ℕ, suc, _+_, _-_, _/_, _^_, _≤_, _<_}
 use native.Mathlib.Omega.{arith}
 use lib.Pow.{pow-mono}
-use lib.ListN.{length, getD, set}
+use lib.ListN.{length, set}
 use Rattle.ground.proofs.Tests.{none-some}
 use Rattle.ground.specs.Lists.{byte}
 use Rattle.ground.specs.Ladder.{Answers}
@@ -20,17 +19,16 @@ use Rattle.partition.specs.Listing.{placeOf}
 use Rattle.partition.proofs.Bits.{top-step}
 use Rattle.partition.proofs.Path.{path-le}
 use Rattle.partition.proofs.Rows.{load, load-mono}
-use Rattle.store.specs.Pages.{S1024, pages, page, dirDepth, entryAt, Page, free, bucket, contents, rowsHeld, deepestIn}
+use Rattle.store.specs.Pages.{S1024, pages, page, dirDepth, entryAt, Page, bucket, contents, rowsHeld, deepestIn}
 use Rattle.store.specs.Accepted.{Accepted}
 use Rattle.store.specs.Moves.{find, isFree, record-at, putNew}
 use Rattle.store.specs.Tables.{new, refused, Refusal6, Refusal7, putAccepted}
 use Rattle.store.specs.Demands.{Hash, sized-1024}
 use Rattle.store.proofs.Rules.{opened}
 use Rattle.store.proofs.Shows.{Shows}
-use Rattle.store.proofs.Shown.{find-passes}
 use Rattle.store.proofs.Showing.{accepted-shows, pages-held}
 use Rattle.store.proofs.Unique.{page-long}
-use Rattle.store.proofs.Rooms.{frees, find-free}
+use Rattle.store.proofs.Rooms.{frees}
 use Rattle.store.proofs.Reading.{entryOf, lookup-none}
 use Rattle.store.proofs.PutCases.{unheld-six, unheld-seven, put-unheld-is}
 use Rattle.store.proofs.PutRows.{put-shown}
@@ -40,13 +38,6 @@ use Rattle.change.specs.Put.{Puttable, Unset, Vacant}
 use Rattle.change.proofs.Vacancy.{off, set-entry, some-row}
 use Rattle.change.specs.Split.{Rewritten}
 use Rattle.change.proofs.Settles.{rewritten-set, set-holds, unwritten, settled}
-
--- a free page is one of those counted
-pub free-some : (gs : List Page) (i : ℕ) → i < length gs → isFree (getD gs i free) ≡ true → 0 < frees gs
-free-some [] i l e = absurd (omega arith)
-free-some (free ∷ gs) i l e = omega arith
-free-some (bucket k rs ∷ gs) zero l e = let z : _≡_ {A = ℕ} 0 1 = cc in absurd (omega arith)
-free-some (bucket k rs ∷ gs) (suc i) l e = free-some gs i (omega arith) e
 
 module _ (h : List ℕ → ℕ) (hash : Hash h) (s c pl : List ℕ) (P : Puttable h s c pl) (unnamed : entryOf S1024 h s c ≡ 0) where
   abbrev A : Accepted S1024 h s
@@ -96,17 +87,14 @@ module _ (h : List ℕ → ℕ) (hash : Hash h) (s c pl : List ℕ) (P : Puttabl
   seven = unheld-seven S1024 h hash (rowsHeld S1024 s) gs shows r (off S1024 h sized-1024 hash s A c unnamed) small
 
   -- no page is free
-  pub unheld-full : find isFree gs ≡ length gs → Answers (putAccepted S1024 h s (record { code = c; place = pl })) (refused 7, s)
+  pub unheld-full : frees (contents S1024 s) ≡ 0 → Answers (putAccepted S1024 h s (record { code = c; place = pl })) (refused 7, s)
   unheld-full e =
-      let n : ¬ (0 < frees gs) = λ l. let w = find-free gs l in omega (arith, w .0) in
-      inr ((λ _. none-some absent), inr ((λ _. six), inl (tt, (⊎-elim (λ l. omega (arith, pages-held S1024 s)) (λ l. absurd (n (seven .0 (omega (arith, pages-held S1024 s, l))))) (side (pages S1024 s - 2) (length (buckets S1024 h (r ∷ rowsHeld S1024 s)))), refl))))
+      inr ((λ _. none-some absent), inr ((λ _. six), inl (tt, (⊎-elim (λ l. omega (arith, pages-held S1024 s)) (λ l. absurd (omega (arith, seven .0 (omega (arith, pages-held S1024 s, l)), e))) (side (pages S1024 s - 2) (length (buckets S1024 h (r ∷ rowsHeld S1024 s)))), refl))))
 
   -- one is
-  module _ (k : ℕ) (K : Vacant s (dirDepth s) (h c) k) (f : ℕ) (e : f ≡ 2 + find isFree (contents S1024 s)) (to : f < pages S1024 s) (q : List ℕ) (Q : Started (page S1024 s f) k c pl q) where
+  module _ (some : 0 < frees (contents S1024 s)) (k : ℕ) (K : Vacant s (dirDepth s) (h c) k) (f : ℕ) (e : f ≡ 2 + find isFree (contents S1024 s)) (to : f < pages S1024 s) (q : List ℕ) (Q : Started (page S1024 s f) k c pl q) where
     room : Refusal7 S1024 h s (rowsHeld S1024 s) r → ⊥
-    room x =
-        let l : find isFree gs < length gs = omega (arith, pages-held S1024 s) in
-        omega (arith, pages-held S1024 s, seven .1 (free-some gs (find isFree gs) l (find-passes isFree gs l)))
+    room x = omega (arith, pages-held S1024 s, seven .1 some)
 
     bare : needs (rowsOf h (rowsHeld S1024 s) k (top k (h c))) ≡ 0
     bare = ⊎-elim

@@ -1,7 +1,7 @@
 -- Buckets written one after another down the prefixes: what each step of the recursion asks and leaves. Over any hash. Assumes nothing.
 use mathlib.Core.Path.{_≡_, refl, sym, ap, subst, _∙_}
 use mathlib.Core.List.{List, [], _∷_, _++_, map, map-append}
-use Prim.Native.Nat.{ℕ, _+_, _-_, _*_, _/_, _≤_, _<_}
+use Prim.Native.Nat.{ℕ, zero, suc, _+_, _-_, _*_, _/_, _≤_, _<_}
 use native.Mathlib.Omega.{arith}
 use lib.ListN.{length, set}
 use Rattle.partition.specs.Partition.{Row, needs, rowsOf}
@@ -9,32 +9,55 @@ use Rattle.partition.proofs.Tree.{pfx}
 use Rattle.store.specs.Pages.{S1024, pages, page, Page, bucket, contents}
 use Rattle.store.specs.Accepted.{GoodLength}
 use Rattle.store.specs.Moves.{find, isFree, packed, written}
-use Rattle.store.proofs.Showing.{pages-held}
+use Rattle.store.proofs.Rooms.{frees}
 use Rattle.store.proofs.Views.{setPage}
-use Rattle.change.specs.Split.{below, Bucketed, Rewritten, next, Room, pagesBelow, Writable, Wrote}
+use Rattle.change.specs.Split.{below, Bucketed, Rewritten, first, left, Room, pagesBelow, Writable, Wrote}
 use Rattle.change.proofs.Settles.{rewritten-set, set-holds}
 use Rattle.change.proofs.Weighs.{below-none, below-one, below-deep, below-two, double}
 
 -- ---- one list of pages after another
 
-pub written-append : (gs : List Page) (i : ℕ) (ms ns : List Page) → written gs i (ms ++ ns) ≡ written (written gs i ms) (next gs i ms) ns
-unfolding written next
-written-append gs i [] ns = refl
-written-append gs i (m ∷ ms) ns = written-append (set gs i m) (find isFree (set gs i m)) ms ns
+none-left : (ns : List Page) → left 0 ns ≡ 0
+none-left [] = refl
+none-left (n ∷ ns) = refl
 
-pub next-append : (gs : List Page) (i : ℕ) (ms ns : List Page) → next gs i (ms ++ ns) ≡ next (written gs i ms) (next gs i ms) ns
-unfolding written next
-next-append gs i [] ns = refl
-next-append gs i (m ∷ ms) ns = next-append (set gs i m) (find isFree (set gs i m)) ms ns
+left-append : (at : ℕ) (ms ns : List Page) → left at (ms ++ ns) ≡ left (left at ms) ns
+left-append at [] ns = refl
+left-append at (m ∷ ms) ns = sym (none-left ns)
 
-pub room-left : (gs : List Page) (i : ℕ) (ms ns : List Page) → Room gs i (ms ++ ns) → Room gs i ms
-room-left gs i [] ns r = tt
-room-left gs i (m ∷ ms) ns r = (r .0, room-left (set gs i m) (find isFree (set gs i m)) ms ns (r .1))
+pub first-given : (gs : List Page) (p : ℕ) → 2 ≤ p → first gs p ≡ p - 2
+first-given gs zero l = absurd (omega arith)
+first-given gs (suc p) l = refl
 
-pub room-right : (gs : List Page) (i : ℕ) (ms ns : List Page) → Room gs i (ms ++ ns) → Room (written gs i ms) (next gs i ms) ns
-unfolding written next
-room-right gs i [] ns r = r
-room-right gs i (m ∷ ms) ns r = room-right (set gs i m) (find isFree (set gs i m)) ms ns (r .1)
+-- of page at, what is left is all or none
+left-as : (P : ℕ → Type 0) (at : ℕ) (ns : List Page) → P 0 → P at → P (left at ns)
+left-as P at [] z a = a
+left-as P at (n ∷ ns) z a = z
+
+written-append : (gs : List Page) (at : ℕ) (ms ns : List Page)
+    → written gs (first gs at) (ms ++ ns) ≡ written (written gs (first gs at) ms) (first (written gs (first gs at) ms) (left at ms)) ns
+unfolding written
+written-append gs at [] ns = refl
+written-append gs at (m ∷ ms) ns =
+    let fs : List Page = set gs (first gs at) m in
+    written-append fs 0 ms ns ∙ ap (λ j. written (written fs (find isFree fs) ms) (first (written fs (find isFree fs) ms) j) ns) (none-left ms)
+
+room-next : (gs : List Page) (at : ℕ) (n : Page) (ns : List Page) → Room gs at (n ∷ ns) → Room (set gs (first gs at) n) 0 ns
+unfolding written
+room-next gs at n ns r m l f = r (suc m) (omega arith) (λ _. omega arith)
+
+room-left : (gs : List Page) (at : ℕ) (ms ns : List Page) → Room gs at (ms ++ ns) → Room gs at ms
+unfolding written
+room-left gs at [] ns r m l f = absurd (omega arith)
+room-left gs at (n ∷ ms) ns r zero l f = r 0 (omega arith) f
+room-left gs at (n ∷ ms) ns r (suc m) l f = room-left (set gs (first gs at) n) 0 ms ns (room-next gs at n (ms ++ ns) r) m (omega arith) (λ z. absurd (omega arith))
+
+room-right : (gs : List Page) (at : ℕ) (ms ns : List Page) → Room gs at (ms ++ ns) → Room (written gs (first gs at) ms) (left at ms) ns
+unfolding written
+room-right gs at [] ns r = r
+room-right gs at (n ∷ ms) ns r =
+    let fs : List Page = set gs (first gs at) n in
+    subst (λ j. Room (written fs (find isFree fs) ms) j ns) (none-left ms) (room-right fs 0 ms ns (room-next gs at n (ms ++ ns) r))
 
 -- ---- stores written one after another
 
@@ -60,11 +83,11 @@ module _ (h : List ℕ → ℕ) (rs : List Row) (k v : ℕ) (s : List ℕ) (at :
 
   -- no bucket
   none-wrote : below h rs k v ≡ [] → Wrote h rs k v s at s at
-  unfolding written next
+  unfolding written
   none-wrote e = record {
     pages = W .sound;
-    held = sym (ap (λ l. written gs (at - 2) (map (packed h rs) l)) e);
-    then = let z : at ≡ 2 + (at - 2) = omega (arith, W .from) in z ∙ sym (ap (λ l. 2 + next gs (at - 2) (map (packed h rs) l)) e);
+    held = sym (ap (λ l. written gs (first gs at) (map (packed h rs) l)) e);
+    then = sym (ap (λ l. left at (map (packed h rs) l)) e);
   }
 
   pub bare-wrote : load ≡ 0 → Wrote h rs k v s at s at
@@ -78,24 +101,26 @@ module _ (h : List ℕ → ℕ) (rs : List Row) (k v : ℕ) (s : List ℕ) (at :
     one : below h rs k v ≡ pfx k v ∷ []
     one = below-one h rs k v p l
 
-    pub one-there : at < pages S1024 s
-    one-there =
-        let r : Room gs (at - 2) (packed h rs (pfx k v) ∷ []) = subst (λ x. Room gs (at - 2) (map (packed h rs) x)) one (W .room) in
-        omega (arith, r .0, pages-held S1024 s, W .from)
+    pub one-free : at ≡ 0 → 0 < frees (contents S1024 s)
+    unfolding written
+    one-free z =
+        let r : Room gs at (packed h rs (pfx k v) ∷ []) = subst (λ x. Room gs at (map (packed h rs) x)) one (W .room) in
+        r 0 (omega arith) (λ b. omega arith)
 
-    module _ (q : List ℕ) (Q : Bucketed h rs k v q) where
-      holds : contents S1024 (setPage S1024 s at q) ≡ set gs (at - 2) (packed h rs (pfx k v))
+    module _ (n : ℕ) (e : n ≡ 2 + first (contents S1024 s) at) (to : n < pages S1024 s) (q : List ℕ) (Q : Bucketed h rs k v q) where
+      holds : contents S1024 (setPage S1024 s n q) ≡ set gs (first gs at) (packed h rs (pfx k v))
       unfolding packed
       holds =
-          set-holds s s (W .sound) at (W .from) one-there q (Q .page) (Q .size) (omega (arith, Q .deep, W .deep))
-          ∙ (λ x. set gs (at - 2) (bucket (Q .deep x) (Q .rowsOf x)))
+          let i : n - 2 ≡ first gs at = omega arith in
+          set-holds s s (W .sound) n (omega arith) to q (Q .page) (Q .size) (omega (arith, Q .deep, W .deep))
+          ∙ (λ x. set gs (i x) (bucket (Q .deep x) (Q .rowsOf x)))
 
-      pub one-wrote : (n : ℕ) → n ≡ 2 + find isFree (contents S1024 (setPage S1024 s at q)) → Wrote h rs k v s at (setPage S1024 s at q) n
-      unfolding written next
-      one-wrote n e = record {
-        pages = rewritten-set s s (W .sound) at (W .from) one-there q (Q .page) (Q .size) (omega (arith, Q .deep, W .deep));
-        held = holds ∙ sym (ap (λ x. written gs (at - 2) (map (packed h rs) x)) one);
-        then = e ∙ ap (λ x. 2 + find isFree x) holds ∙ sym (ap (λ x. 2 + next gs (at - 2) (map (packed h rs) x)) one);
+      pub one-wrote : Wrote h rs k v s at (setPage S1024 s n q) 0
+      unfolding written
+      one-wrote = record {
+        pages = rewritten-set s s (W .sound) n (omega arith) to q (Q .page) (Q .size) (omega (arith, Q .deep, W .deep));
+        held = holds ∙ sym (ap (λ x. written gs (first gs at) (map (packed h rs) x)) one);
+        then = sym (ap (λ x. left at (map (packed h rs) x)) one);
       }
 
   -- two halves
@@ -116,12 +141,15 @@ module _ (h : List ℕ → ℕ) (rs : List Row) (k v : ℕ) (s : List ℕ) (at :
       long = W .long;
       sound = W .sound;
       from = W .from;
-      room = room-left gs (at - 2) ls us (subst (Room gs (at - 2)) both (W .room));
+      to = W .to;
+      room = room-left gs at ls us (subst (Room gs at) both (W .room));
     }
 
     module _ (t : List ℕ) (p : ℕ) (A : Wrote h rs (k + 1) (2 * v) s at t p) where
-      at-p : p - 2 ≡ next gs (at - 2) ls
-      at-p = omega (arith, A .then)
+      given : (0 < p → 2 ≤ p) × (p < pages S1024 t)
+      given =
+          let P : ℕ → Type 0 = λ j. (0 < j → 2 ≤ j) × (j < pages S1024 t) in
+          subst P (sym (A .then)) (left-as P at ls ((λ b. absurd (omega arith)), omega (arith, W .long .least, A .pages .long)) (W .from, omega (arith, W .to, A .pages .long)))
 
       pub other-ready : Writable h rs (k + 1) (2 * v + 1) t p
       other-ready = record {
@@ -129,13 +157,14 @@ module _ (h : List ℕ → ℕ) (rs : List Row) (k v : ℕ) (s : List ℕ) (at :
         prefix = omega (arith, W .prefix, double k);
         long = long-then s t (A .pages .long) (W .long);
         sound = rewritten-self s t (A .pages);
-        from = omega (arith, A .then);
-        room = subst (λ g. Room g (p - 2) us) (sym (A .held)) (subst (λ i. Room (written gs (at - 2) ls) i us) (sym at-p) (room-right gs (at - 2) ls us (subst (Room gs (at - 2)) both (W .room))));
+        from = given .0;
+        to = given .1;
+        room = subst (λ g. Room g p us) (sym (A .held)) (subst (λ j. Room (written gs (first gs at) ls) j us) (sym (A .then)) (room-right gs at ls us (subst (Room gs at) both (W .room))));
       }
 
       pub both-wrote : (u : List ℕ) (n : ℕ) → Wrote h rs (k + 1) (2 * v + 1) t p u n → Wrote h rs k v s at u n
       both-wrote u n B = record {
         pages = rewritten-then s t u (A .pages) (B .pages);
-        held = B .held ∙ (λ x. written (A .held x) (at-p x) us) ∙ sym (written-append gs (at - 2) ls us) ∙ sym (ap (written gs (at - 2)) both);
-        then = B .then ∙ (λ x. 2 + next (A .held x) (at-p x) us) ∙ ap (λ m. 2 + m) (sym (next-append gs (at - 2) ls us)) ∙ sym (ap (λ l. 2 + next gs (at - 2) l) both);
+        held = B .held ∙ (λ x. written (A .held x) (first (A .held x) (A .then x)) us) ∙ sym (written-append gs at ls us) ∙ sym (ap (written gs (first gs at)) both);
+        then = B .then ∙ ap (λ j. left j us) (A .then) ∙ sym (left-append at ls us) ∙ sym (ap (left at) both);
       }

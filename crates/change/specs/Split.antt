@@ -1,8 +1,8 @@
 -- What the steps of a split ask and answer. Assumes nothing.
 use mathlib.Core.Path.{_≡_}
 use mathlib.Core.List.{List, [], _∷_, _++_, map}
-use Prim.Native.Nat.{ℕ, _+_, _-_, _^_, _≤_, _<_}
-use lib.ListN.{length, getD, take, drop, set}
+use Prim.Native.Nat.{ℕ, zero, suc, _+_, _-_, _^_, _≤_, _<_}
+use lib.ListN.{length, getD, take, drop}
 use Rattle.ground.specs.Lists.{byte}
 use Rattle.page.specs.Page.{Slotted, BucketPage, Belongs, Natural, depth, count, code, rows}
 use Rattle.partition.specs.Partition.{Row, Prefix, needs, rowsOf, grade, walk}
@@ -11,6 +11,7 @@ use Rattle.partition.proofs.Rising.{Rising}
 use Rattle.store.specs.Pages.{S1024, pages, page, Page, contents, asRow}
 use Rattle.store.specs.Accepted.{GoodLength}
 use Rattle.store.specs.Moves.{find, isFree, packFrom, packed, written}
+use Rattle.store.proofs.Rooms.{frees}
 use Rattle.change.specs.Directory.{Sound}
 
 -- a row of the code, its place left aside
@@ -76,32 +77,36 @@ pub record Rewritten (s t : List ℕ) : Type 0 where
   pub low : (k : ℕ) → k < 2048 → byte t k ≡ byte s k
   pub sound : (p : ℕ) → 2 ≤ p → p < pages S1024 s → Sound (page S1024 t p)
 
--- the page that is taken next: i at first, then the lowest free page
-unfoldable pub next : List Page → ℕ → List Page → ℕ
-unfolding find
-next gs i [] = i
-next gs i (n ∷ ns) = next (set gs i n) (find isFree (set gs i n)) ns
+-- the place in the list of the page that is taken next: page at, or the lowest free page where at is 0
+abbrev pub first : List Page → ℕ → ℕ
+first gs zero = find isFree gs
+first gs (suc p) = suc p - 2
 
--- at every step the page that is taken is there
+-- page at is for the first of ns: what is left of it then, 0 where that is written
+abbrev pub left : ℕ → List Page → ℕ
+left at [] = at
+left at (n ∷ ns) = 0
+
+-- at every step, m of ns written and one to come, a page is free; but not for the first, where page at takes it
 abbrev pub Room : List Page → ℕ → List Page → Type 0
-Room gs i [] = Unit {0}
-Room gs i (n ∷ ns) = (i < length gs) × Room (set gs i n) (find isFree (set gs i n)) ns
+Room gs at ns = (m : ℕ) → m < length ns → (0 < at → 0 < m) → 0 < frees (written gs (first gs at) (take m ns))
 
 -- the buckets of rs at the prefix v of k bits and below it, written packed
 abbrev pub pagesBelow : (List ℕ → ℕ) → List Row → ℕ → ℕ → List Page
 pagesBelow h rs k v = map (packed h rs) (below h rs k v)
 
--- there is room for them in the store s, the first in page at
+-- there is room for them in the store s, the first in page at unless that is 0
 pub record Writable (h : List ℕ → ℕ) (rs : List Row) (k v : ℕ) (s : List ℕ) (at : ℕ) : Type 0 where
   pub deep : k ≤ 8
   pub prefix : v < 2 ^ k
   pub long : GoodLength S1024 s
   pub sound : Rewritten s s
-  pub from : 2 ≤ at
-  pub room : Room (contents S1024 s) (at - 2) (pagesBelow h rs k v)
+  pub from : 0 < at → 2 ≤ at
+  pub to : at < pages S1024 s
+  pub room : Room (contents S1024 s) at (pagesBelow h rs k v)
 
--- and t is s with them, the first in page at, each next in the lowest free page; then comes page p
+-- and t is s with them, the first in page at unless that is 0, each next in the lowest free page; p is what is left of page at
 pub record Wrote (h : List ℕ → ℕ) (rs : List Row) (k v : ℕ) (s : List ℕ) (at : ℕ) (t : List ℕ) (p : ℕ) : Type 0 where
   pub pages : Rewritten s t
-  pub held : contents S1024 t ≡ written (contents S1024 s) (at - 2) (pagesBelow h rs k v)
-  pub then : p ≡ 2 + next (contents S1024 s) (at - 2) (pagesBelow h rs k v)
+  pub held : contents S1024 t ≡ written (contents S1024 s) (first (contents S1024 s) at) (pagesBelow h rs k v)
+  pub then : p ≡ left at (pagesBelow h rs k v)

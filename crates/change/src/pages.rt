@@ -1,34 +1,34 @@
 // Free pages of a store.
 ghost use mathlib.Core.Path.{_≡_};
-ghost use Prim.Native.Nat.{_+_, _*_, _≤_};
+ghost use Prim.Native.Nat.{_+_, _*_, _≤_, _<_, min};
 ghost use lib.ListN.{length};
-ghost use Rattle.store.specs.Pages.{S1024, contents};
+ghost use Rattle.store.specs.Pages.{S1024, pages, contents};
 ghost use Rattle.store.specs.Moves.{find, isFree};
 ghost use Rattle.store.proofs.Rooms.{frees};
 
-// The lowest-numbered free page of n, or n where none is free.
-pub fn lowest_free(s: &[u8], n: usize) -> usize
-    requires { ⌜ (length (now s) ≡ n * 1024) × (2 ≤ n) ⌝ }
-    ensures { λ r. ⌜ (r ≡ 2 + find isFree (contents S1024 (now (s .entry)))) × (r ≤ n) ⌝ }
+// The lowest-numbered free page, where one is free.
+pub fn lowest_free(s: &[u8]) -> usize
+    requires { ⌜ 0 < frees (contents S1024 (now s)) ⌝ }
+    ensures { λ r. ⌜ (r ≡ 2 + find isFree (contents S1024 (now (s .entry)))) × (r < pages S1024 (now (s .entry))) ⌝ }
 {
     let mut p = 2;
-    while p < n {
-        if s[p * 1024] == 0 {
-            return p;
-        }
+    while s[p * 1024] != 0 {
         p += 1;
     }
     p
 }
 
-// How many of n pages are free.
-pub fn free_pages(s: &[u8], n: usize) -> usize
+// How many of n pages are free, counted up to most.
+pub fn free_pages(s: &[u8], n: usize, most: usize) -> usize
     requires { ⌜ (length (now s) ≡ n * 1024) × (2 ≤ n) ⌝ }
-    ensures { λ r. ⌜ (r ≡ frees (contents S1024 (now (s .entry)))) × (r ≤ n) ⌝ }
+    ensures { λ r. ⌜ (r ≡ min most (frees (contents S1024 (now (s .entry))))) × (r ≤ n) ⌝ }
 {
     let mut many = 0;
     let mut p = 2;
     while p < n {
+        if many == most {
+            return many;
+        }
         if s[p * 1024] == 0 {
             many += 1;
         }

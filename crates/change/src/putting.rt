@@ -12,6 +12,7 @@ ghost use Rattle.store.specs.Tables.{putAccepted, putTable, meaning};
 ghost use Rattle.store.proofs.Reading.{Naming, entryOf};
 ghost use Rattle.change.specs.Put.{Puttable};
 use super::directory::settle;
+use super::pages::free_pages;
 use super::pages::lowest_free;
 use super::split::split;
 use super::vacant::vacant_depth;
@@ -46,10 +47,10 @@ fn new_bucket(s: &mut [u8], x: u32, key: &[u8], place: &[u8]) -> store::Answer
     ensures { λ r. ⌜ Answers (putAccepted S1024 fnv (now (s .entry)) (record { code = now (key .entry); place = now (place .entry) })) (meaning r, now (s .exit)) ⌝ }
 {
     let n = s.len() / 1024;
-    let p = lowest_free(s, n);
-    if p == n {
+    if free_pages(s, n, 1) < 1 {
         return store::Answer::PagesFull;
     }
+    let p = lowest_free(s);
     let d = words::get32(s, 16) as u32;
     let k = vacant_depth(s, x, d);
     let a = p * 1024;

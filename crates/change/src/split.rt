@@ -1,16 +1,18 @@
 // A page that is split.
+ghost use mathlib.Core.Path.{_≡_};
 ghost use mathlib.Core.List.{_∷_, map};
-ghost use Prim.Native.Nat.{_+_, _<_};
+ghost use Prim.Native.Nat.{_+_, _≤_, _<_};
 ghost use lib.ListN.{length};
 ghost use Rattle.ground.specs.Ladder.{Answers};
 ghost use Rattle.hash.specs.Fnv.{fnv};
 ghost use Rattle.page.specs.Page.{Belongs, free, rows};
 ghost use Rattle.partition.specs.Bits.{top};
-ghost use Rattle.store.specs.Pages.{S1024, page, dirDepth, asRow};
+ghost use Rattle.store.specs.Pages.{S1024, pages, page, dirDepth, contents, asRow};
 ghost use Rattle.store.specs.Tables.{putAccepted, meaning};
 ghost use Rattle.store.proofs.Reading.{Naming};
+ghost use Rattle.store.proofs.Rooms.{frees};
 ghost use Rattle.change.specs.Put.{Puttable};
-ghost use Rattle.change.specs.Split.{Source, weight, Told, Writable, Wrote};
+ghost use Rattle.change.specs.Split.{Source, weight, Told, first, Writable, Wrote};
 use super::bucket::write_bucket;
 use super::directory::settle;
 use super::pages::free_pages;
@@ -19,7 +21,18 @@ use super::weigh::count_below;
 use super::weigh::gather;
 use super::weigh::load;
 
-// The buckets at the prefix v of k bits and below it are written packed, the first to page at, each next to the lowest free page. The page that comes next.
+// The page that the next bucket takes: page at, or the lowest free page where at is 0.
+fn next_page(s: &[u8], at: usize) -> usize
+    requires { ⌜ (0 < at → 2 ≤ at) × (at < pages S1024 (now s)) × (at ≡ 0 → 0 < frees (contents S1024 (now s))) ⌝ }
+    ensures { λ r. ⌜ (r ≡ 2 + first (contents S1024 (now (s .entry))) at) × (r < pages S1024 (now (s .entry))) ⌝ }
+{
+    if at == 0 {
+        return lowest_free(s);
+    }
+    at
+}
+
+// The buckets at the prefix v of k bits and below it are written packed, the first to page at unless that is 0, each next to the lowest free page. Page at where none is written, else 0.
 fn write_below(
     s: &mut [u8],
     from: &[u8],
@@ -40,11 +53,11 @@ fn write_below(
         return at;
     }
     if need <= 1016 {
-        let a = at * 1024;
+        let p = next_page(s, at);
+        let a = p * 1024;
         let e = a + 1024;
         write_bucket(&mut s[a..e], from, i, key, place, hs, k, v);
-        let n = s.len() / 1024;
-        return lowest_free(s, n);
+        return 0;
     }
     if k == 8 {
         return at;
@@ -73,7 +86,8 @@ pub fn split(s: &mut [u8], p: usize, i: usize, key: &[u8], place: &[u8]) -> stor
     let n = s.len() / 1024;
     let k = from[1] as u32;
     let v = partition::top_bits(x, k);
-    if free_pages(s, n) + 1 < count_below(&from, key, &hs, &ns, k, v) {
+    let m = count_below(&from, key, &hs, &ns, k, v);
+    if free_pages(s, n, m) + 1 < m {
         return store::Answer::PagesFull;
     }
     write_below(s, &from, i, key, place, &hs, &ns, k, v, p);

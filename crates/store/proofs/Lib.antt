@@ -10,6 +10,7 @@ pub mod RemoveShows
 pub mod RemoveCases
 pub mod Rooms
 pub mod Written
+pub mod EveryStep
 pub mod Holder
 pub mod PutShows
 pub mod PutCases

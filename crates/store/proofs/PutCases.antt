@@ -7,7 +7,7 @@ use mathlib.Core.Logic.{inr, _↔_}
 use mathlib.Core.Option.{some}
 use Prim.Native.Nat.{ℕ, suc, _+_, _^_, _≤_, _<_}
 use native.Mathlib.Omega.{arith}
-use lib.ListN.{length, getD, set}
+use lib.ListN.{length, getD, set, length-map}
 use Rattle.page.specs.Page.{Record}
 use Rattle.partition.specs.Bits.{top}
 use Rattle.partition.specs.declared.Shape.{Shape}
@@ -26,6 +26,7 @@ use Rattle.store.proofs.Shows.{prefixOn, Holding, Shows}
 use Rattle.store.proofs.Shown.{paged, find-held, find-only, bucket-found}
 use Rattle.store.proofs.Holder.{its-bucket, its-rows, its-needs}
 use Rattle.store.proofs.Rooms.{frees, rooms}
+use Rattle.store.proofs.EveryStep.{Roomy, every-step, packed-used}
 
 module _ (S : Shape) (h : List ℕ → ℕ) (small : (c : List ℕ) → h c < 2 ^ 32) (rows : List Row) (gs : List Page) (s : Shows S h rows gs) (r : Row) where
   abbrev x : ℕ
@@ -77,6 +78,12 @@ module _ (S : Shape) (h : List ℕ → ℕ) (small : (c : List ℕ) → h c < 2 
           count-splits S h small r rows k low mine (omega (arith, all-need)) ∙ ap (λ ps. length (buckets S h rows) + length ps) (sym (reordered S h (front r (its-rows S h rows gs s x i k rs e held)))) in
           let b = rooms S h small rows (s .fine) gs s in
           (λ l. omega arith, λ l. omega arith)
+
+      -- so where refusal 7 is not given, a page is free at every step of the split
+      pub splits-room : length (buckets S h (r ∷ rows)) ≤ length gs → Roomy gs i (map (packed h (r ∷ map asRow rs)) (buckets S h (r ∷ map asRow rs)))
+      splits-room l =
+          every-step gs i k rs e (map (packed h (r ∷ map asRow rs)) (buckets S h (r ∷ map asRow rs))) (packed-used h (r ∷ map asRow rs) (buckets S h (r ∷ map asRow rs)))
+          (omega (arith, splits-seven .0 l, length-map (buckets S h (r ∷ map asRow rs)) (packed h (r ∷ map asRow rs))))
 
       pub put-splits-is : putNew S h gs r ≡ written gs i (map (packed h (r ∷ map asRow rs)) (buckets S h (r ∷ map asRow rs)))
       put-splits-is = put-here ∙ ap (λ b. pick b (set gs i (bucket k (added S rs r))) (written gs i (map (packed h (r ∷ map asRow rs)) (buckets S h (r ∷ map asRow rs)))))

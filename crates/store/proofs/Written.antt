@@ -4,9 +4,9 @@
 use mathlib.Core.Path.{_≡_, refl, sym, ap, ap₂, subst, _∙_}
 use mathlib.Core.List.{List, [], _∷_, map, List·Memᴰ, List·Memᴰ·head, List·Memᴰ·tail, List·Memᴰ·not-nil, List·Memᴰ·cases-cons, Memᴰ·cast}
 use mathlib.Core.Logic.{_⊎_, inl, inr}
-use Prim.Native.Nat.{ℕ, zero, suc, _^_, _≤_, _<_}
+use Prim.Native.Nat.{ℕ, _^_, _≤_, _<_}
 use native.Mathlib.Omega.{arith}
-use lib.ListN.{length, getD, set, take, length-set}
+use lib.ListN.{length, getD, set, length-set}
 use lib.Seq.{set-set}
 use Rattle.page.specs.Page.{Record}
 use Rattle.partition.specs.declared.Shape.{Shape}
@@ -122,25 +122,7 @@ pub next-free : (gs : List Page) (i : ℕ) (ns : List Page) → Found (set gs i 
 next-free gs i [] f = tt
 next-free gs i (n ∷ ns) f = subst (λ fs. Found fs (find isFree fs) ns) (set-set gs i free n) (f .2)
 
--- ---- one step of a loop that writes them: after the first and m more
-
 pub length-written : (gs : List Page) (i : ℕ) (ns : List Page) → length (written gs i ns) ≡ length gs
 unfolding written
 length-written gs i [] = refl
 length-written gs i (n ∷ ns) = length-written (set gs i n) (find isFree (set gs i n)) ns ∙ length-set gs i n
-
-pub step-writes : (gs : List Page) (i : ℕ) (n : Page) (ns : List Page) (m : ℕ) → m < length ns
-    → written gs i (n ∷ take (suc m) ns) ≡ set (written gs i (n ∷ take m ns)) (find isFree (written gs i (n ∷ take m ns))) (getD ns m free)
-unfolding written
-step-writes gs i n [] m l = absurd (omega arith)
-step-writes gs i n (p ∷ ns) zero l = refl
-step-writes gs i n (p ∷ ns) (suc m) l = step-writes (set gs i n) (find isFree (set gs i n)) p ns m (omega arith)
-
-pub step-free : (gs : List Page) (i : ℕ) (n : Page) (ns : List Page) → NextFree gs i (n ∷ ns) → (m : ℕ) → m < length ns
-    → (find isFree (written gs i (n ∷ take m ns)) < length gs) × (getD (written gs i (n ∷ take m ns)) (find isFree (written gs i (n ∷ take m ns))) free ≡ free)
-unfolding written
-step-free gs i n [] f m l = absurd (omega arith)
-step-free gs i n (p ∷ ns) f zero l = (omega (arith, f .0, length-set gs i n), f .1)
-step-free gs i n (p ∷ ns) f (suc m) l =
-    let w = step-free (set gs i n) (find isFree (set gs i n)) p ns (f .2) m (omega arith) in
-    (omega (arith, w .0, length-set gs i n), w .1)

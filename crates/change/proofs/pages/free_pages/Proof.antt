@@ -12,19 +12,22 @@ use Rattle.change.proofs.pages.free_pages.Statement.{statement}
 use Rattle.change.proofs.pages.free_pages.Tie as tie
 
 abbrev Inv-loop : tie.InvT-loop
-Inv-loop s n many₀ p₀ many p = (2 ≤ p) × (p ≤ n) × (many ≤ p) × (many + frees (drop (p - 2) (contents S1024 s)) ≡ frees (contents S1024 s))
+Inv-loop s n most many₀ p₀ many p = (2 ≤ p) × (p ≤ n) × (many ≤ p) × (many ≤ most) × (many + frees (drop (p - 2) (contents S1024 s)) ≡ frees (contents S1024 s))
 
 abbrev μ-loop : tie.MeasureT-loop
-μ-loop s n many₀ p₀ many p = n - p
+μ-loop s n most many₀ p₀ many p = n - p
 
 loop-holds : tie.Need-loop-holds Inv-loop μ-loop
 loop-holds c = omega arith
 
-mul-if1 : tie.Need-mul-if1 Inv-loop μ-loop
-mul-if1 c = omega arith
+returns : tie.Need-returns Inv-loop μ-loop
+returns c = omega arith
 
-shared-slice-read-if1 : tie.Need-shared-slice-read-if1 Inv-loop μ-loop
-shared-slice-read-if1 c = omega arith
+mul-if2 : tie.Need-mul-if2 Inv-loop μ-loop
+mul-if2 c = omega arith
+
+shared-slice-read-if2 : tie.Need-shared-slice-read-if2 Inv-loop μ-loop
+shared-slice-read-if2 c = omega arith
 
 add-many : tie.Need-add-many Inv-loop μ-loop
 add-many c = omega arith
@@ -37,18 +40,20 @@ loop-less c = omega arith
 
 loop-again : tie.Need-loop-again Inv-loop μ-loop
 loop-again c =
-    let z = c .before .before .before .before in
+    let i = c .before .before .before in
+    let z = i .before .before in
     let s = z .args .s .now in
-    let l = c .before .before .before .loop in
+    let l = i .before .loop in
     ⊎-elim
-    (λ w. (omega arith, omega arith, omega arith, omega (arith, free-more s (l .p) (omega arith) (omega arith) (w .0 .taken))))
-    (λ w. (omega arith, omega arith, omega arith, omega (arith, used-more s (l .p) (omega arith) (omega arith) (w .0 .left))))
-    (c .if1 .came)
+    (λ w. (omega arith, omega arith, omega arith, omega arith, omega (arith, free-more s (l .p) (omega arith) (omega arith) (w .0 .taken))))
+    (λ w. (omega arith, omega arith, omega arith, omega arith, omega (arith, used-more s (l .p) (omega arith) (omega arith) (w .0 .left))))
+    (c .if2 .came)
 
-returns : tie.Need-returns Inv-loop μ-loop
-returns c =
+returns-2 : tie.Need-returns-2 Inv-loop μ-loop
+returns-2 c =
     let s = c .before .before .args .s .now in
-    (omega (arith, frees-end (contents S1024 s) (c .before .loop .p - 2) (omega (arith, pages-held S1024 s))), omega arith)
+    let e = frees-end (contents S1024 s) (c .before .loop .p - 2) (omega (arith, pages-held S1024 s)) in
+    (omega (arith, e), omega arith)
 
 pub free-pages-spec : {M : Type 1} → statement M
 free-pages-spec =
@@ -57,10 +62,11 @@ free-pages-spec =
     Inv-loop
     μ-loop
     loop-holds
-    mul-if1
-    shared-slice-read-if1
+    returns
+    mul-if2
+    shared-slice-read-if2
     add-many
     add-p
     loop-less
     loop-again
-    returns)
+    returns-2)

@@ -1,4 +1,4 @@
--- `change::new_bucket` meets its contract: the row alone in the lowest free page, then the directory. Assumes nothing.
+-- `change::new_bucket` meets its contract: refusal 7, else the row alone in the lowest free page, then the directory. Assumes nothing.
 use Rattle.change.proofs.NewBuckets.{own-unset, unheld-full, wrote, unheld-new}
 use Rattle.change.proofs.Settles.{settling}
 use Rattle.change.proofs.OnePage.{lent, back}
@@ -6,8 +6,8 @@ use Rattle.change.specs.Put.{Unset, Vacant}
 use Rattle.change.specs.Directory.{Settling}
 use Rattle.store.proofs.Views.{setPage}
 use Rattle.store.proofs.Rules.{opened}
-use Rattle.store.proofs.Showing.{pages-held}
-use Rattle.store.specs.Pages.{S1024, pages, page, dirDepth}
+use Rattle.store.proofs.Rooms.{frees}
+use Rattle.store.specs.Pages.{S1024, pages, page, dirDepth, contents}
 use Rattle.page.specs.Packed.{Started}
 use Rattle.partition.specs.Bits.{top}
 use Rattle.hash.specs.Fnv.{fnv, fnv-lt}
@@ -30,13 +30,18 @@ key z = now (z .args .key)
 abbrev place : tie.Start → List ℕ
 place z = now (z .args .place)
 
-abbrev start : tie.After-lowest-free → tie.Start
+abbrev start : tie.After-free-pages → tie.Start
 start l = l .before .before .before .before .before
+
+-- THE ROOM TEST: after it a page is free
+module _ (w : tie.Else1) where
+  some : 0 < frees (contents S1024 (s (start (w .before))))
+  some = omega (arith, w .before .free-pages .ensures .0, w .if1 .left)
 
 -- the directory's depth
 module _ (g : tie.After-get32) where
   abbrev zg : tie.Start
-  zg = start (g .before .before .before)
+  zg = start (g .before .before .before .before .before)
 
   deep : g .get32 .result ≡ dirDepth (s zg)
   deep = g .get32 .ensures .0
@@ -47,10 +52,13 @@ module _ (g : tie.After-get32) where
 -- the page started
 module _ (b : tie.After-start-page) where
   abbrev lowest-at : tie.After-lowest-free
-  lowest-at = b .before .before .before .before .before .before .before
+  lowest-at = b .before .before .before .before .before .before
+
+  abbrev tested : tie.Else1
+  tested = lowest-at .before .before
 
   abbrev zs : tie.Start
-  zs = start lowest-at
+  zs = start (tested .before)
 
   abbrev p : ℕ
   p = lowest-at .lowest-free .result
@@ -68,14 +76,14 @@ module _ (b : tie.After-start-page) where
   started = rw (lent (s zs) p) at (b .start-page .ensures)
 
   to : p < pages S1024 (s zs)
-  to = omega (arith, lowest-at .lowest-free .ensures .1, b .before .before .before .before .before .before .if1 .left)
+  to = lowest-at .lowest-free .ensures .1
 
   settles : Settling (setPage S1024 (s zs) p q) (length (s zs) / 1024)
   settles = settling fnv fnv-lt (s zs) (zs .pre .0 .accepted) (setPage S1024 (s zs) p q)
-      (wrote fnv fnv-lt (s zs) (key zs) (place zs) (zs .pre .0) (zs .pre .2) k vacant p (lowest-at .lowest-free .ensures .0) to q started)
+      (wrote fnv fnv-lt (s zs) (key zs) (place zs) (zs .pre .0) (zs .pre .2) (some tested) k vacant p (lowest-at .lowest-free .ensures .0) to q started)
 
-lowest-free-requires : tie.Need-lowest-free-requires
-lowest-free-requires c κs = search needs
+free-pages-requires : tie.Need-free-pages-requires
+free-pages-requires c κs = search needs
 
 same-length : tie.Need-same-length
 same-length c = search needs
@@ -83,7 +91,10 @@ same-length c = search needs
 returns : tie.Need-returns
 returns c =
     let z = start (c .before) in
-    unheld-full fnv fnv-lt (s z) (key z) (place z) (z .pre .0) (z .pre .2) (omega (arith, c .before .lowest-free .ensures .0, c .if1 .taken, pages-held S1024 (s z), z .pre .0 .accepted .long .least))
+    unheld-full fnv fnv-lt (s z) (key z) (place z) (z .pre .0) (z .pre .2) (omega (arith, c .before .free-pages .ensures .0, c .if1 .taken))
+
+lowest-free-requires : tie.Need-lowest-free-requires
+lowest-free-requires c κs = some (c .before)
 
 get32-requires : tie.Need-get32-requires
 get32-requires c κs = search needs
@@ -94,7 +105,7 @@ cast-d c = search needs
 vacant-depth-requires : tie.Need-vacant-depth-requires
 vacant-depth-requires c κs =
     let g = c .before in
-    let z = start (g .before .before .before) in
+    let z = zg g in
     (omega (arith, z .pre .0 .accepted .long .least), shallow g, subst₂ (λ d x. Unset (s z) d d (top d x)) (sym (deep g)) (sym (z .pre .1)) (own-unset fnv fnv-lt (s z) (key z) (place z) (z .pre .0) (z .pre .2)))
 
 mul-a : tie.Need-mul-a
@@ -129,15 +140,16 @@ returns-2 c =
     let b = c .before .before .before .before .before .before in
     let z = zs b in
     let D = rw (back (s z) (p b) (q b)) at (c .before .before .settle .ensures) in
-    unheld-new fnv fnv-lt (s z) (key z) (place z) (z .pre .0) (z .pre .2) (k b) (vacant b) (p b) (lowest-at b .lowest-free .ensures .0) (to b) (q b) (started b) (c .before .before .settle .last .0) D (λ i. (c .slice-known3 .given i) .fits)
+    unheld-new fnv fnv-lt (s z) (key z) (place z) (z .pre .0) (z .pre .2) (some (tested b)) (k b) (vacant b) (p b) (lowest-at b .lowest-free .ensures .0) (to b) (q b) (started b) (c .before .before .settle .last .0) D (λ i. (c .slice-known3 .given i) .fits)
 
 pub new-bucket-spec : {M : Type 1} → statement M
 new-bucket-spec =
     tie.close
     (tie.spec
-    lowest-free-requires
+    free-pages-requires
     same-length
     returns
+    lowest-free-requires
     get32-requires
     cast-d
     vacant-depth-requires

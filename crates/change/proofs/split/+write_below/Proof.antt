@@ -1,12 +1,10 @@
 -- `change::write_below` meets its contract, by the cases of `below`. Assumes nothing.
-use Rattle.change.proofs.Splits.{bare-wrote, deep-wrote, one-there, one-wrote, half-ready, other-ready, both-wrote}
+use Rattle.change.proofs.Splits.{bare-wrote, deep-wrote, one-free, one-wrote, half-ready, other-ready, both-wrote}
 use Rattle.change.proofs.Weighs.{load-any}
 use Rattle.change.proofs.OnePage.{lent, back}
 use Rattle.change.specs.Split.{keyed, Writable, Wrote}
-use Rattle.store.proofs.Views.{set-long}
 use Rattle.store.proofs.Unique.{page-long}
-use Rattle.store.specs.Moves.{find, isFree}
-use Rattle.store.specs.Pages.{S1024, pages, contents, asRow}
+use Rattle.store.specs.Pages.{S1024, pages, asRow}
 use borrow.Author.Needs as Needs
 use Rattle.partition.specs.Partition.{Row, needs, rowsOf}
 use Rattle.page.specs.Page.{rows}
@@ -17,14 +15,14 @@ use lib.ListN.{length}
 use native.Mathlib.Omega.{arith}
 use mathlib.Core.List.{List, _∷_, map}
 use mathlib.Core.Path.{_≡_, refl, sym, ap, subst, _∙_}
-use Prim.Native.Nat.{ℕ, _+_, _-_, _^_, _≤_, _<_}
+use Prim.Native.Nat.{ℕ, _-_, _^_, _≤_, _<_}
 use borrow.Fn.Kinds.{In}
 use borrow.Fn.PlainCycle.{Measures, is, falls, and}
 use Rattle.change.proofs.split.write_below.Reads as write-below
 use Rattle.change.proofs.split.write_below.Kinds as write-below-kinds
 use Rattle.change.proofs.split.+write_below.Lts-write_below as write-below-lts
 use Rattle.change.proofs.bucket.write_bucket.Reads as write-bucket-reads
-use Rattle.change.proofs.pages.lowest_free.Reads as lowest-free-reads
+use Rattle.change.proofs.split.next_page.Reads as next-page-reads
 use Rattle.change.proofs.weigh.load.Reads as load-reads
 use Rattle.change.proofs.split.+write_below.{statement}
 use Rattle.change.proofs.split.+write_below.Tie.{close}
@@ -45,16 +43,19 @@ abbrev told : ℕ → write-below-lts.Claims
 told t = (
   load-reads.Asked,
   load-reads.Learnt,
+  next-page-reads.Asked,
+  next-page-reads.Learnt,
   write-bucket-reads.Asked,
   write-bucket-reads.Learnt,
-  lowest-free-reads.Asked,
-  lowest-free-reads.Learnt,
   write-below-below t,
   write-below.Post,
 )
 
 abbrev Loaded : ℕ → Type 0
 Loaded t = write-below-lts.After-load (told t) (write-below-at t) write-below.Post
+
+abbrev Paged : ℕ → Type 0
+Paged t = write-below-lts.After-next-page (told t) (write-below-at t) write-below.Post
 
 -- what the rows of the prefix need
 module _ (t : ℕ) (b : Loaded t) where
@@ -88,16 +89,13 @@ module _ (t : ℕ) (b : Loaded t) where
   small : 2 ^ k ≤ 256
   small = pow-mono (W .deep)
 
-  -- the rows fit: page at is there
+  -- the rows fit
   module _ (some : b .load .result ≡ 0 → ⊥) (fit : b .load .result ≤ 1016) where
     pos : 0 < needs (rowsOf fnv rs k v)
     pos = omega (arith, weight, some)
 
     most : needs (rowsOf fnv rs k v) ≤ 1016
     most = omega (arith, weight)
-
-    there : at < pages S1024 s
-    there = one-there fnv rs k v s at W pos most
 
   -- they do not: two halves
   module _ (heavy : 1016 < b .load .result) (more : k ≡ 8 → ⊥) where
@@ -113,11 +111,30 @@ write-below-load-requires t c κs = let z = c .before .before .before .before .b
 write-below-returns : (t : ℕ) → write-below-lts.Need-returns (told t) (write-below-at t) write-below.Post
 write-below-returns t c = let b = c .before in bare-wrote fnv (rs t b) (k t b) (v t b) (s t b) (at t b) (W t b) (sym (weight t b) ∙ c .if1 .taken)
 
+write-below-next-page-requires : (t : ℕ) → write-below-lts.Need-next-page-requires (told t) (write-below-at t) write-below.Post
+write-below-next-page-requires t c κs =
+    let d = c .before in
+    let b = d .before .before in
+    let n = d .before .if1 .left in
+    let l = d .if2 .taken in
+    (W t b .from, W t b .to, one-free fnv (rs t b) (k t b) (v t b) (s t b) (at t b) (W t b) (pos t b n l) (most t b n l))
+
+-- the page that is taken
+module _ (t : ℕ) (c : Paged t) where
+  abbrev taken : ℕ
+  taken = c .next-page .result
+
+  abbrev b1 : Loaded t
+  b1 = c .before .before .before .before
+
+  there : taken < pages S1024 (s t b1)
+  there = c .next-page .ensures .1
+
 write-below-mul-a : (t : ℕ) → write-below-lts.Need-mul-a (told t) (write-below-at t) write-below.Post
-write-below-mul-a t c = let b = c .before .before in omega (arith, there t b (c .before .if1 .left) (c .if2 .taken))
+write-below-mul-a t c = omega (arith, there t c)
 
 write-below-add-e : (t : ℕ) → write-below-lts.Need-add-e (told t) (write-below-at t) write-below.Post
-write-below-add-e t c = let b = c .before .before in omega (arith, there t b (c .before .if1 .left) (c .if2 .taken))
+write-below-add-e t c = omega (arith, there t c)
 
 write-below-sub-write-bucket : (t : ℕ) → write-below-lts.Need-sub-write-bucket (told t) (write-below-at t) write-below.Post
 write-below-sub-write-bucket t c = omega arith
@@ -126,37 +143,31 @@ write-below-part-write-bucket-start : (t : ℕ) → write-below-lts.Need-part-wr
 write-below-part-write-bucket-start t c = omega arith
 
 write-below-part-write-bucket-end : (t : ℕ) → write-below-lts.Need-part-write-bucket-end (told t) (write-below-at t) write-below.Post
-write-below-part-write-bucket-end t c = let b = c .before .before in omega (arith, there t b (c .before .if1 .left) (c .if2 .taken))
+write-below-part-write-bucket-end t c = omega (arith, there t c)
 
 write-below-write-bucket-requires : (t : ℕ) → write-below-lts.Need-write-bucket-requires (told t) (write-below-at t) write-below.Post
 write-below-write-bucket-requires t c κs =
-    let b = c .before .before .before in
-    let n = c .before .before .if1 .left in
-    let l = c .before .if2 .taken in
-    (b .before .before .before .before .before .before .before .pre .1 .0, b .before .before .before .before .before .before .before .pre .1 .1, ap length (lent (s t b) (at t b)) ∙ page-long S1024 (s t b) (at t b) (there t b n l), W t b .deep, pos t b n l, most t b n l)
-
-write-below-lowest-free-requires : (t : ℕ) → write-below-lts.Need-lowest-free-requires (told t) (write-below-at t) write-below.Post
-write-below-lowest-free-requires t c κs =
-    let d = c .before .before .before .before .before in
+    let q = c .before in
+    let d = q .before .before in
     let b = d .before .before in
-    let q = c .before .before .before .write-bucket in
-    let e = ap length (back (s t b) (at t b) (q .last .0)) ∙ set-long S1024 (s t b) (at t b) (q .last .0) (there t b (d .before .if1 .left) (d .if2 .taken)) (q .ensures .size) in
-    (omega (arith, e, W t b .long .whole), omega (arith, e, W t b .long .least))
+    let z = b .before .before .before .before .before .before .before in
+    let n = d .before .if1 .left in
+    let l = d .if2 .taken in
+    (z .pre .1 .0, z .pre .1 .1, ap length (lent (s t b) (taken t q)) ∙ page-long S1024 (s t b) (taken t q) (there t q), W t b .deep, pos t b n l, most t b n l)
 
 write-below-same-length : (t : ℕ) → write-below-lts.Need-same-length (told t) (write-below-at t) write-below.Post
 write-below-same-length t c = search Needs.needs
 
 write-below-returns-2 : (t : ℕ) → write-below-lts.Need-returns-2 (told t) (write-below-at t) write-below.Post
 write-below-returns-2 t c =
-    let d = c .before .before .before .before .before .before in
+    let q = c .before .before .before .before in
+    let d = q .before .before in
     let b = d .before .before in
     let n = d .before .if1 .left in
     let l = d .if2 .taken in
-    let q = c .before .before .before .before .write-bucket in
-    let f = c .lowest-free in
-    let e = back (s t b) (at t b) (q .last .0) in
-    subst (λ x. Wrote fnv (rs t b) (k t b) (v t b) (s t b) (at t b) x (f .result)) (sym e)
-    (one-wrote fnv (rs t b) (k t b) (v t b) (s t b) (at t b) (W t b) (pos t b n l) (most t b n l) (q .last .0) (q .ensures) (f .result) (subst (λ x. f .result ≡ 2 + find isFree (contents S1024 x)) e (f .ensures .0)))
+    let w = c .before .before .write-bucket in
+    subst (λ x. Wrote fnv (rs t b) (k t b) (v t b) (s t b) (at t b) x 0) (sym (back (s t b) (taken t q) (w .last .0)))
+    (one-wrote fnv (rs t b) (k t b) (v t b) (s t b) (at t b) (W t b) (pos t b n l) (most t b n l) (taken t q) (q .next-page .ensures .0) (there t q) (w .last .0) (w .ensures))
 
 write-below-returns-3 : (t : ℕ) → write-below-lts.Need-returns-3 (told t) (write-below-at t) write-below.Post
 write-below-returns-3 t c =
@@ -215,13 +226,13 @@ pub +write-below-spec : {M : Type 1} → statement M
 +write-below-spec = close μ-write-below λ t. write-below-lts.spec (told t) (write-below-at t) write-below.Post
     (write-below-load-requires t)
     (write-below-returns t)
+    (write-below-next-page-requires t)
     (write-below-mul-a t)
     (write-below-add-e t)
     (write-below-sub-write-bucket t)
     (write-below-part-write-bucket-start t)
     (write-below-part-write-bucket-end t)
     (write-below-write-bucket-requires t)
-    (write-below-lowest-free-requires t)
     (write-below-same-length t)
     (write-below-returns-2 t)
     (write-below-returns-3 t)

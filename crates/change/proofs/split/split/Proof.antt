@@ -1,9 +1,9 @@
 -- `change::split` meets its contract: refusals 6 and 7, else the new buckets, then the directory. Assumes nothing.
-use Rattle.change.proofs.Heavy.{shallow, heavy-six, heavy-seven, source, writable, heavy-new}
+use Rattle.change.proofs.Heavy.{shallow, heavy-six, heavy-seven, as-many, source, writable, heavy-new}
 use Rattle.change.proofs.Settles.{settling}
 use Rattle.change.proofs.OnePage.{lent}
-use Rattle.change.specs.Split.{keyed, below, Source, Writable, Wrote}
-use Rattle.store.proofs.Rooms.{frees}
+use Rattle.change.specs.Split.{keyed, below, pagesBelow, Source, Writable, Wrote}
+use Rattle.store.proofs.EveryStep.{Roomy, every-step, packed-used}
 use Rattle.store.proofs.Unique.{page-long}
 use Rattle.store.specs.Pages.{S1024, page, contents, asRow}
 use Rattle.partition.specs.Partition.{Row, needs, rowsOf}
@@ -16,7 +16,7 @@ use Rattle.hash.specs.Fnv.{fnv, fnv-lt}
 use denote.Ref.{now}
 use lib.ListN.{length}
 use native.Mathlib.Omega.{arith}
-use Prim.Native.Nat.{ℕ, _+_, _^_, _≤_, _<_}
+use Prim.Native.Nat.{ℕ, _-_, _^_, _≤_, _<_}
 use mathlib.Core.List.{List, _∷_, map}
 use mathlib.Core.Path.{_≡_, sym, ap, subst, _∙_}
 use borrow.Author.Needs as Needs
@@ -91,7 +91,7 @@ module _ (t : tie.After-top-bits2) where
 -- how many buckets they make
 module _ (d : tie.After-count-below) where
   abbrev t3 : tie.After-top-bits2
-  t3 = d .before .before .before .before .before .before
+  t3 = d .before .before .before .before
 
   abbrev b3 : tie.After-copy-at
   b3 = b2 t3
@@ -104,13 +104,28 @@ module _ (d : tie.After-count-below) where
   fine : needs (rowsOf fnv (all b3) 8 (top 8 (fnv (key b3)))) ≤ 1016
   fine = let l = t3 .before in omega (arith, weight (l .before), l .if1 .left)
 
--- and that they have room
+-- THE ROOM TEST: after it a page is free at every step
 module _ (w : tie.Else2) where
-  abbrev b4 : tie.After-copy-at
-  b4 = b3 (w .before)
+  abbrev d4 : tie.After-count-below
+  d4 = w .before .before .before
 
-  room : length (below fnv (all b4) (depth (page S1024 (s b4) (p b4))) (top (depth (page S1024 (s b4) (p b4))) (fnv (key b4)))) ≤ frees (contents S1024 (s b4)) + 1
-  room = omega (arith, number (w .before), w .before .before .before .before .before .free-pages .ensures .0, w .if2 .left)
+  abbrev b4 : tie.After-copy-at
+  b4 = b3 d4
+
+  abbrev g4 : List ℕ
+  g4 = page S1024 (s b4) (p b4)
+
+  abbrev rs : List Row
+  rs = record { code = key b4; place = place b4 } ∷ map asRow (rows g4)
+
+  abbrev v : ℕ
+  v = top (depth g4) (fnv (key b4))
+
+  room : Roomy (contents S1024 (s b4)) (p b4 - 2) (pagesBelow fnv rs (depth g4) v)
+  room =
+      let q = z b4 .pre in
+      every-step (contents S1024 (s b4)) (p b4 - 2) (depth g4) (rows g4) (q .1 .holding) (pagesBelow fnv rs (depth g4) v) (packed-used fnv rs (below fnv rs (depth g4) v))
+      (omega (arith, as-many fnv fnv-lt (s b4) (key b4) (place b4) (q .0) (p b4) (q .1) (z b4 .args .i) (q .2) (q .3) (fine d4), number d4, w .before .free-pages .ensures .0, w .if2 .left))
 
 mul-a : tie.Need-mul-a
 mul-a c = search Needs.needs
@@ -187,16 +202,6 @@ cast-k c = record { fits = omega (arith, low (b1 (c .before))) }
 top-bits-requires-2 : tie.Need-top-bits-requires-2
 top-bits-requires-2 c κs = omega (arith, low (b1 (c .before)))
 
-free-pages-requires : tie.Need-free-pages-requires
-free-pages-requires c κs =
-    let l = z (b1 (c .before .before .before)) .pre .0 .accepted .long in
-    (omega (arith, l .whole), omega (arith, l .least))
-
-add-if2 : tie.Need-add-if2
-add-if2 c =
-    let z = z (b1 (c .before .before .before .before)) in
-    omega (arith, c .free-pages .ensures .1, z .pre .0 .accepted .long .most)
-
 slice-aggregate-count-below : tie.Need-slice-aggregate-count-below
 slice-aggregate-count-below c = search Needs.needs
 
@@ -208,20 +213,30 @@ slice-aggregate-count-below-3 c = search Needs.needs
 
 count-below-requires : tie.Need-count-below-requires
 count-below-requires c κs =
-    let t = c .before .before .before .before .before in
+    let t = c .before .before .before in
     let g = g2 t in
     let b = b0 g in
     (low b, subst (λ v. v < 2 ^ depth (from b)) (sym (prefix t)) (top-lt (fnv (key b)) (depth (from b)) (fnv-lt (key b))), slotted b, z b .pre .0 .short, g .gather .ensures .0, g .gather .ensures .1)
+
+free-pages-requires : tie.Need-free-pages-requires
+free-pages-requires c κs =
+    let l = z (b3 (c .before)) .pre .0 .accepted .long in
+    (omega (arith, l .whole), omega (arith, l .least))
+
+add-if2 : tie.Need-add-if2
+add-if2 c =
+    let z = z (b3 (c .before .before)) in
+    omega (arith, c .free-pages .ensures .1, z .pre .0 .accepted .long .most)
 
 same-length-2 : tie.Need-same-length-2
 same-length-2 c = search Needs.needs
 
 returns-2 : tie.Need-returns-2
 returns-2 c =
-    let d = c .before in
+    let d = c .before .before .before in
     let b = b3 d in
     let q = z b .pre in
-    heavy-seven fnv fnv-lt (s b) (key b) (place b) (q .0) (p b) (q .1) (z b .args .i) (q .2) (q .3) (fine d) (omega (arith, number d, d .before .before .before .before .free-pages .ensures .0, c .if2 .taken))
+    heavy-seven fnv fnv-lt (s b) (key b) (place b) (q .0) (p b) (q .1) (z b .args .i) (q .2) (q .3) (fine d) (omega (arith, number d, c .before .free-pages .ensures .0, c .if2 .taken))
 
 slice-aggregate-write-below : tie.Need-slice-aggregate-write-below
 slice-aggregate-write-below c = search Needs.needs
@@ -236,10 +251,10 @@ write-below-requires : tie.Need-write-below-requires
 write-below-requires c κs =
     let w = c .before .before .before .before in
     let b = b4 w in
-    let t = t3 (w .before) in
+    let t = t3 (d4 w) in
     let g = g2 t in
     let q = z b .pre in
-    let f = fine (w .before) in (
+    let f = fine (d4 w) in (
       subst (λ g. Source g (z b .args .i) (key b) (place b)) (sym (copied b)) (source fnv fnv-lt (s b) (key b) (place b) (q .0) (p b) (q .1) (z b .args .i) (q .2) (q .3) f (room w)),
       g .gather .ensures .0,
       g .gather .ensures .1,
@@ -264,9 +279,9 @@ returns-3 c =
     let b = b4 w in
     let q = z b .pre in
     let n = y .write-below in
-    heavy-new fnv fnv-lt (s b) (key b) (place b) (q .0) (p b) (q .1) (z b .args .i) (q .2) (q .3) (fine (w .before)) (room w) (n .last .0) (n .result)
+    heavy-new fnv fnv-lt (s b) (key b) (place b) (q .0) (p b) (q .1) (z b .args .i) (q .2) (q .3) (fine (d4 w)) (room w) (n .last .0) (n .result)
     (subst (λ g. Wrote fnv (record { code = key b; place = place b } ∷ map asRow (rows g)) (depth g) (top (depth g) (fnv (key b))) (s b) (p b) (n .last .0) (n .result)) (copied b)
-    (subst (λ v. Wrote fnv (record { code = key b; place = place b } ∷ map asRow (rows (from b))) (depth (from b)) v (s b) (p b) (n .last .0) (n .result)) (prefix (t3 (w .before))) (n .ensures)))
+    (subst (λ v. Wrote fnv (record { code = key b; place = place b } ∷ map asRow (rows (from b))) (depth (from b)) v (s b) (p b) (n .last .0) (n .result)) (prefix (t3 (d4 w))) (n .ensures)))
     (c .before .before .settle .last .0) (c .before .before .settle .ensures) (λ k. (c .slice-known3 .given k) .fits)
 
 pub split-spec : {M : Type 1} → statement M
@@ -295,12 +310,12 @@ split-spec =
     array-read-k
     cast-k
     top-bits-requires-2
-    free-pages-requires
-    add-if2
     slice-aggregate-count-below
     slice-aggregate-count-below-2
     slice-aggregate-count-below-3
     count-below-requires
+    free-pages-requires
+    add-if2
     same-length-2
     returns-2
     slice-aggregate-write-below
