@@ -29,9 +29,10 @@ use Rattle.partition.proofs.Tree.{pfx}
 use Rattle.store.specs.Pages.{S1024, dirDepth}
 use Rattle.store.specs.Demands.{Hash, History, sized-1024}
 use Rattle.store.proofs.Showing.{accepted-shows}
+use Rattle.store.proofs.Fitted.{prefix-needs}
 use Rattle.store.proofs.Whole.{demand-3}
 use Rattle.promises.specs.Programs.{Program, Bytes, Meets, OneBucket, Parting}
-use Rattle.promises.proofs.Runs.{rowOf, at, in-range, natural, near, room, At, begun, at-first, at-next}
+use Rattle.promises.proofs.Runs.{rowOf, at, in-range, natural, room, At, begun, at-first, at-next}
 
 module _ (h : List ℕ → ℕ) (hash : Hash h) where
   -- a row's bucket at depth 0 holds all rows
@@ -108,7 +109,7 @@ module _ (h : List ℕ → ℕ) (hash : Hash h) where
 
     near-of : (n : ℕ) → n < 14 → needs (rowsOf h (rows-of (suc n)) 8 (top 8 (h (G .code n)))) ≤ 1016
     near-of n l = ⊎-elim
-        (λ m. omega (arith, near h hash (rows-of (suc n)) 8 (top 8 (h (G .code n))), needs-of (suc n) (omega arith)))
+        (λ m. omega (arith, prefix-needs h (rows-of (suc n)) 8 (top 8 (h (G .code n))), needs-of (suc n) (omega arith)))
         (λ (m : 13 ≤ n). let e : n ≡ 13 = omega arith in rw e (omega (arith, ap needs (last-on 8 (top 8 (h (G .code 13))) refl apart-8), need-last)))
         (side n 13)
 

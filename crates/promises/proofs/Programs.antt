@@ -26,9 +26,10 @@ use Rattle.store.specs.Accepted.{Accepted}
 use Rattle.store.specs.Tables.{Out, row, new, found, rowTable}
 use Rattle.store.specs.Demands.{Hash, lookup, remove, count, ok, GoodCode, AtStart, Nth, map-of, update, answerOf, sized-1024}
 use Rattle.store.proofs.Given.{member}
+use Rattle.store.proofs.Fitted.{prefix-needs}
 use Rattle.store.proofs.Whole.{demand-2}
 use Rattle.promises.specs.Programs.{Program, Bytes, Meets, RefusesEveryPut, OneFixedPlace, RepeatsOneRow, OnlyAnswers, StoresOnlyTheFirst, Miscounts}
-use Rattle.promises.proofs.Runs.{rowOf, at, in-range, natural, near, room, At, accepted-at, same-at, map-at, begun, at-first, says-new, at-next}
+use Rattle.promises.proofs.Runs.{rowOf, at, in-range, natural, room, At, accepted-at, same-at, map-at, begun, at-first, says-new, at-next}
 
 -- ---- what is put: the codes "a" and "b", at the places (n, 0, 0)
 
@@ -110,12 +111,12 @@ module _ (h : List ℕ → ℕ) (hash : Hash h) where
       said-a : P .put (begun h hash P meets) a (at n) .0 ≡ new
       unfolding placeOf
       said-a = says-new h hash P meets (at-first h hash P meets) a (at n) (one-good 97) (one-small 97 (omega arith)) (in-range n l) (natural n) refl
-          (omega (arith, near h hash (row-a n ∷ []) 8 (top 8 (h a)), needs-a n)) (omega (arith, room h hash (row-a n) [] (omega (arith, needs-a n))))
+          (omega (arith, prefix-needs h (row-a n ∷ []) 8 (top 8 (h a)), needs-a n)) (omega (arith, room h hash (row-a n) [] (omega (arith, needs-a n))))
 
       with-a : At h hash P meets (row-a n ∷ []) (one n)
       unfolding placeOf
       with-a = at-next h hash P meets (at-first h hash P meets) a (at n) (one-good 97) (one-small 97 (omega arith)) (in-range n l) (natural n) refl
-          (omega (arith, near h hash (row-a n ∷ []) 8 (top 8 (h a)), needs-a n)) (omega (arith, room h hash (row-a n) [] (omega (arith, needs-a n))))
+          (omega (arith, prefix-needs h (row-a n ∷ []) 8 (top 8 (h a)), needs-a n)) (omega (arith, room h hash (row-a n) [] (omega (arith, needs-a n))))
 
       holds-a : map-of S1024 (one n) a ≡ some (stored (at n))
       unfolding placeOf order
@@ -166,12 +167,12 @@ module _ (h : List ℕ → ℕ) (hash : Hash h) where
     said-b : P .put (one 0) b (at 1) .0 ≡ new
     unfolding placeOf order
     said-b = says-new h hash P meets (with-a 0 (omega arith)) b (at 1) (one-good 98) (one-small 98 (omega arith)) (in-range 1 (omega arith)) (natural 1) refl
-        (omega (arith, near h hash (row-b ∷ row-a 0 ∷ []) 8 (top 8 (h b)), needs-b)) (omega (arith, room h hash row-b (row-a 0 ∷ []) (omega (arith, needs-b))))
+        (omega (arith, prefix-needs h (row-b ∷ row-a 0 ∷ []) 8 (top 8 (h b)), needs-b)) (omega (arith, room h hash row-b (row-a 0 ∷ []) (omega (arith, needs-b))))
 
     with-b : At h hash P meets (row-b ∷ row-a 0 ∷ []) two
     unfolding placeOf order
     with-b = at-next h hash P meets (with-a 0 (omega arith)) b (at 1) (one-good 98) (one-small 98 (omega arith)) (in-range 1 (omega arith)) (natural 1) refl
-        (omega (arith, near h hash (row-b ∷ row-a 0 ∷ []) 8 (top 8 (h b)), needs-b)) (omega (arith, room h hash row-b (row-a 0 ∷ []) (omega (arith, needs-b))))
+        (omega (arith, prefix-needs h (row-b ∷ row-a 0 ∷ []) 8 (top 8 (h b)), needs-b)) (omega (arith, room h hash row-b (row-a 0 ∷ []) (omega (arith, needs-b))))
 
     -- A PUT THAT STORES THE FIRST ROW AND THEN ONLY SAYS "NEW"
     pub stores-only-the-first : StoresOnlyTheFirst P → ⊥

@@ -3,10 +3,9 @@ use borrow.Author.Tests.{le-leb}
 use mathlib.Core.Path.{_≡_, refl, sym, ap, subst, _∙_}
 use mathlib.Core.Bool.{Bool, true, false}
 use mathlib.Core.List.{List, [], _∷_}
-use mathlib.Core.Logic.{_⊎_, inl, inr, ⊎-elim}
+use mathlib.Core.Logic.{inl, inr, ⊎-elim}
 use mathlib.Core.Option.{none}
-use Prim.Native.Nat.{ℕ, _+_, _-_, _/_, _≤_, _<_}
-use lib.Dec.{eqb}
+use Prim.Native.Nat.{ℕ, _-_, _/_, _≤_, _<_}
 use native.Mathlib.Omega.{arith}
 use lib.IntN.{pos}
 use lib.ListN.{length, replicate, length-replicate}
@@ -14,7 +13,7 @@ use Rattle.ground.specs.Ladder.{Answers}
 use Rattle.ground.proofs.Ladders.{each}
 use Rattle.words.proofs.Bytes.{small-append, small-bytes, small-zeros}
 use Rattle.partition.specs.Bits.{top}
-use Rattle.partition.specs.Partition.{Row, Reordered, front, keep, need, needs, rowsOf, grade, fitting, walk, buckets}
+use Rattle.partition.specs.Partition.{Row, Reordered, front, needs, rowsOf, grade, fitting, walk, buckets}
 use Rattle.partition.specs.Listing.{placeOf}
 use Rattle.partition.proofs.Laws.{load-reordered, reordered}
 use Rattle.partition.proofs.Maps.{cut-none}
@@ -63,17 +62,8 @@ put-bytes h s c p b = each (λ x. Bytes (x .1)) (putTable S1024 h s c p) (
     kept : {o : Out} (x : Out × List ℕ) → x ≡ (o, s) → Bytes (x .1)
     kept x e = rw (ap (λ q. q .1) e) b
 
--- rows of a prefix need no more than all, and rows that fit together have one bucket, whatever the hash
+-- rows that fit together have one bucket, whatever the hash
 module _ (h : List ℕ → ℕ) (hash : Hash h) where
-  pub near : (qs : List Row) (k v : ℕ) → needs (rowsOf h qs k v) ≤ needs qs
-  unfolding needs rowsOf
-  near [] k v = omega arith
-  near (q ∷ qs) k v = go (eqb (top k (h (q .code))) v) (near qs k v)
-    where
-      go : (t : Bool) → needs (rowsOf h qs k v) ≤ needs qs → needs (keep t q (rowsOf h qs k v)) ≤ need q + needs qs
-      go true l = omega arith
-      go false l = omega arith
-
   pub room : (q : Row) (qs : List Row) → needs (q ∷ qs) ≤ 1016 → length (buckets S1024 h (q ∷ qs)) ≤ 1
   unfolding buckets grade
   room q qs l =

@@ -116,6 +116,16 @@ found-in x (q ∷ ps) p e = go (eqb (top (q .bits) x) (q .value)) e (found-in x 
     go true f rest = let y : p ≡ q = cc in List·Memᴰ·head y
     go false f rest = List·Memᴰ·tail (rest f)
 
+-- the rows of a prefix need no more than all
+pub prefix-needs : (h : List ℕ → ℕ) (rs : List Row) (k v : ℕ) → needs (rowsOf h rs k v) ≤ needs rs
+unfolding needs rowsOf
+prefix-needs h [] k v = omega arith
+prefix-needs h (r ∷ rs) k v = go (eqb (top k (h (r .code))) v) (prefix-needs h rs k v)
+  where
+    go : (t : Bool) → needs (rowsOf h rs k v) ≤ needs rs → needs (keep t r (rowsOf h rs k v)) ≤ need r + needs rs
+    go true l = omega arith
+    go false l = omega arith
+
 module _ (S : Shape) (h : List ℕ → ℕ) where
   packed-fit : (rs : List Row) (p : Prefix) → AllStore rs → needs (rowsOf h rs (p .bits) (p .value)) ≤ S .capacity → FitPage (size S) (packed h rs p)
   unfolding packed
@@ -141,12 +151,8 @@ module _ (S : Shape) (h : List ℕ → ℕ) where
 
       -- a row needs no more than a page has
       alone : (r : Row) → Stores r → 76 ≤ S .capacity → (k v : ℕ) → needs (rowsOf h (r ∷ []) k v) ≤ S .capacity
-      unfolding needs need rowsOf
-      alone r s l k v = go (eqb (top k (h (r .code))) v)
-        where
-          go : (t : Bool) → needs (keep t r []) ≤ S .capacity
-          go true = omega (arith, s .most)
-          go false = omega arith
+      unfolding needs need
+      alone r s l k v = omega (arith, prefix-needs h (r ∷ []) k v, s .most)
 
       pub put-fits : (r : Row) → Stores r → Sized S → Fits (size S) n (putNew S h gs r)
       unfolding putNew

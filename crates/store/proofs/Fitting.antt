@@ -69,7 +69,7 @@ frontier-start (q ∷ rs) = omega (arith, frontier-start rs)
 
 -- ---- the records of a page
 
-part-small : (g : List ℕ) (k n : ℕ) → ((i : ℕ) → byte g i < 256) → k + n ≤ length g → Small (part g k n)
+pub part-small : (g : List ℕ) (k n : ℕ) → ((i : ℕ) → byte g i < 256) → k + n ≤ length g → Small (part g k n)
 part-small g k n b l = record {
   at = λ i. ⊎-elim
       (λ h. rw (byte-part g k n i h) (b (k + i)))

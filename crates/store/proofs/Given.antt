@@ -6,13 +6,10 @@ use mathlib.Core.Logic.{inl, inr, ⊎-elim}
 use mathlib.Core.Option.{some}
 use Prim.Native.Nat.{ℕ, zero, suc, _+_, _-_, _≤_, _<_}
 use native.Mathlib.Omega.{arith}
-use lib.ListN.{length, drop, getElem?, length-append, length-drop, List·getD-append, List·getD-eq-default}
+use lib.ListN.{length, drop, getElem?, length-append, length-drop, List·getD-append}
 use lib.Seq.{getD-append-add, getD-drop}
 use Rattle.ground.proofs.Tests.{none-some}
-use Rattle.ground.specs.Lists.{byte, part}
 use Rattle.ground.specs.Ladder.{Answers}
-use Rattle.ground.proofs.Sides.{side}
-use Rattle.ground.proofs.Parts.{byte-part}
 use Rattle.ground.proofs.Ladders.{each}
 use Rattle.page.specs.Page.{Slotted, rows, code, place as bytesAt, off}
 use Rattle.page.specs.Places.{place, stored, InRange}
@@ -30,6 +27,7 @@ use Rattle.store.specs.Demands.{Sized, Hash, GoodCode, AtStart, Nth, Cou
 use Rattle.store.proofs.Rules.{accepted-whole, opened}
 use Rattle.store.proofs.Shown.{some-page}
 use Rattle.store.proofs.Showing.{accepted-shows, under}
+use Rattle.store.proofs.Fitting.{part-small}
 use Rattle.store.proofs.PageTies.{slot-of}
 use Rattle.store.proofs.Unique.{read-used}
 use Rattle.store.proofs.Reading.{row-none, row-free}
@@ -64,12 +62,6 @@ member (q ∷ rs) (suc n) r e = List·Memᴰ·tail (member rs n r e)
 
 -- ---- the rows of a page, and of an accepted store
 
-part-bytes : (g : List ℕ) (k : ℕ) → ((i : ℕ) → byte g i < 256) → length (part g k 8) ≡ 8 → (i : ℕ) → byte (part g k 8) i < 256
-part-bytes g k b l i = ⊎-elim
-    (λ h. rw (byte-part g k 8 i h) (b (k + i)))
-    (λ h. let e : byte (part g k 8) i ≡ 0 = List·getD-eq-default (part g k 8) 0 (omega arith) in omega arith)
-    (side i 8)
-
 -- a row as document 01 has it: a code of 1 to 64 bytes, and a place in its ranges that comes back
 pub record Good (r : Row) : Type 0 where
   pub good : GoodCode (r .code)
@@ -83,7 +75,7 @@ slot-good g b r m =
     let i : ℕ = w .0 in
     let l = len-of-code g i b (w .1) in
     let p = b .places i (w .1) in
-    let small = part-bytes g (off g i) (b .bytes) (p .long) in
+    let small = part-small g (off g i) 8 (b .bytes) (omega (arith, b .short i (w .1), b .inside i (w .1), b .room)) .at in
     subst (λ (t : Row). Good t) (sym (w .2)) record {
       good = record { least = omega (arith, l, b .short i (w .1)); most = omega (arith, l, b .long i (w .1)) };
       back = stored-place (bytesAt g i) p small;

@@ -4,6 +4,7 @@ use mathlib.Core.Path.{refl}
 use mathlib.Core.List.{List, _∷_}
 use Prim.Native.Nat.{ℕ, _-_, _<_}
 use native.Mathlib.Decide.{decLt}
+use native.Mathlib.Omega.{arith}
 use lib.ListN.{length}
 use lib.Signed.{mag}
 use Rattle.ground.specs.Lists.{byte}
@@ -78,6 +79,6 @@ answered-always S h sized hash = made
     made count s _ = let w = count-answered S h s in (w .is, s, (w .allowed, refl))
     made (lookup c) s _ = let w = lookup-answered S h s c in (w .is, s, (w .allowed, refl))
     made (remove c) s _ = let w = remove-answered S h sized hash s c in (w .is .0, w .is .1, w .allowed)
-    made (put c p) s g = let w = put-answered S h sized hash s c p (g .0) (g .1) in (w .is .0, w .is .1, w .allowed)
+    made (put c p) s g = let w = put-answered S h sized hash s c p (λ k. omega (arith, g .0 k)) (g .1) in (w .is .0, w .is .1, w .allowed)
     made (rowAt n out) s _ = let w = row-answered S h s n out in (w .is .0, s, ((w .is .1, w .allowed), refl))
     made (inspect g n out) s _ = let w = inspect-answered S h g n out in (w .is .0, s, ((w .is .1, w .allowed), refl))
