@@ -1,5 +1,5 @@
 -- What rows of a prefix need, row by row, and the buckets below a prefix, case by case. Over any hash. Assumes nothing.
-use mathlib.Core.Path.{_≡_, refl, sym, ap, subst, _∙_}
+use mathlib.Core.Path.{_≡_, refl, sym, ap, _∙_}
 use mathlib.Core.Bool.{Bool, true, false}
 use mathlib.Core.List.{List, [], _∷_, _++_, map, append-nil, List·Memᴰ}
 use mathlib.Core.Logic.{⊎-elim}

@@ -114,7 +114,7 @@ fn list(s: &[u8]) -> Outcome
     told(a)
 }
 
-// How many rows a page has, or why it is refused. No page has more than 78.
+// How many rows a page has, or why it is refused. No page has more than 78 (row-count of page's proofs).
 fn rows_on(page: &[u8]) -> Answer {
     let mut code = [0u8; 64];
     let mut n = 0;

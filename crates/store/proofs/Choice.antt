@@ -87,9 +87,9 @@ module _ (S : Shape) (h : List ℕ → ℕ) (sized : Sized S) (hash : Hash h) (s
             λ q f g. bucket-or S h s before q f (omega arith) (l .1 (q - 2) (omega arith)),
           );
       old = λ p x o u. let w = m .old (p - 2) x (has S h s p x o) u in
-          (w .0, on S h t after p (w .0) (o .least) (omega (arith, o .below, many)) (w .1), λ q z f v. w .2 (q - 2) z (free-page S h s q f) (has S h t q z v));
+          (w .0, on S h t after p (w .0) (o .least) (omega (arith, o .below, many)) (w .1), λ q z f v. omega (arith, w .2 (q - 2) z (free-page S h s q f) (has S h t q z v)));
       next = λ p q x f o g l. let w = m .next (p - 2) (q - 2) x (free-page S h s p f) (has S h t p x o) (free-page S h s q g) (omega (arith, g .least)) in
-          (w .0, on S h t after q (w .0) (g .least) (omega (arith, g .below, many)) (w .1), w .2);
+          (w .0, on S h t after q (w .0) (g .least) (omega (arith, g .below, many)) (w .1), omega (arith, w .2));
     }
       where
         m : Chosen S h c (contents S s) (contents S t)

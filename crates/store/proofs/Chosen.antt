@@ -8,10 +8,9 @@ use mathlib.Core.Option.{Option, some, none}
 use Prim.Native.Nat.{ℕ, _^_, _≤_, _<_}
 use native.Mathlib.Decide.{ℕ-discrete}
 use native.Mathlib.Omega.{arith}
-use borrow.Author.Tests.{leb-false}
-use lib.Dec.{leb}
 use lib.ListN.{length, getD, set, length-set}
 use lib.Seq.{getD-set-other, set-getD}
+use Rattle.ground.specs.Says.{Says}
 use Rattle.page.specs.Page.{Record}
 use Rattle.partition.specs.Bits.{top}
 use Rattle.partition.specs.declared.Shape.{Shape}
@@ -22,12 +21,12 @@ use Rattle.partition.proofs.Order.{asc-first, first-lt-after}
 use Rattle.partition.proofs.Rows.{listed}
 use Rattle.partition.proofs.Tree.{pfx}
 use Rattle.store.specs.Pages.{Page, free, bucket, asRow, rowsIn}
-use Rattle.store.specs.Moves.{pick, find, isFree, holds, bucketOf, packFrom, packed, added, written, newBucket, putOn, putNew}
+use Rattle.store.specs.Moves.{pick, find, isFree, holds, bucketOf, packFrom, packed, added, written, newBucket, fitsOn, putOn, putNew}
 use Rattle.store.specs.Choice.{Of, Earlier}
 use Rattle.store.proofs.Shows.{prefixOn, Holding, Shows}
 use Rattle.store.proofs.Shown.{free-not, within-pages, page-of, find-passes, find-least, find-held, find-only}
 use Rattle.store.proofs.Rooms.{bucket-one, set-holds, fill-keeps}
-use Rattle.store.proofs.Records.{rows-packed}
+use Rattle.store.proofs.Records.{fits-says, rows-packed}
 use Rattle.store.proofs.Written.{Found, NextFree}
 use Rattle.store.proofs.PutShows.{put-found}
 
@@ -254,11 +253,11 @@ module _ (S : Shape) (h : List ℕ → ℕ) (small : (c : List ℕ) → h c < 2 
             (put-found S h small rows r gs s new six seven i k rs e (find-held S h rows gs s (h c) k rs e) heavy)
             (λ p m. page-of S h qs (p .bits) (p .value) (packFrom 8 (its p)) (listed S h small qs (p .bits) (p .value) .0 m .0) (rows-packed 8 (its p)) .1)
 
-        tested : (k : ℕ) (rs : List Record) → Holding gs i k rs → (b : Bool) → leb (needs (r ∷ map asRow rs)) (S .capacity) ≡ b
+        tested : (k : ℕ) (rs : List Record) → Holding gs i k rs → (b : Bool) → Says b (needs (r ∷ map asRow rs) ≤ S .capacity)
             → Chosen S h c gs (pick b (set gs i (bucket k (added S rs r))) (written gs i (map (packed h (r ∷ map asRow rs)) (buckets S h (r ∷ map asRow rs)))))
         tested k rs e true t = fitted k rs e (added S rs r)
-        tested k rs e false t = split k rs e (leb-false (needs (r ∷ map asRow rs)) (S .capacity) t)
+        tested k rs e false t = split k rs e (omega (arith, t))
 
         on : (g : Page) → getD gs i free ≡ g → Chosen S h c gs (putOn S h gs r i g)
         on free e = fresh e (bucketOf (h c) (buckets S h (r ∷ rowsIn gs)))
-        on (bucket k rs) e = tested k rs e (leb (needs (r ∷ map asRow rs)) (S .capacity)) refl
+        on (bucket k rs) e = tested k rs e (fitsOn S rs r) (fits-says S rs r (fitsOn S rs r) refl)

@@ -1,6 +1,5 @@
 -- PUT of a new code as the code finds it: refusals 6 and 7 from the page that holds the hash and the number of free pages, then one of three writes.
 -- Assumes nothing.
-use borrow.Author.Tests.{le-leb, lt-leb}
 use mathlib.Core.Path.{_≡_, refl, sym, ap, _∙_}
 use mathlib.Core.List.{List, [], _∷_, map}
 use mathlib.Core.Logic.{inr, _↔_}
@@ -25,6 +24,7 @@ use Rattle.store.specs.Moves.{pick, find, isFree, holds, bucketOf, recor
 use Rattle.store.proofs.Shows.{prefixOn, Holding, Shows}
 use Rattle.store.proofs.Shown.{paged, find-held, find-only, bucket-found}
 use Rattle.store.proofs.Holder.{its-bucket, its-rows, its-needs}
+use Rattle.store.proofs.Records.{fits-true, fits-false}
 use Rattle.store.proofs.Rooms.{frees, rooms}
 use Rattle.store.proofs.EveryStep.{Roomy, every-step, packed-used}
 
@@ -63,7 +63,7 @@ module _ (S : Shape) (h : List ℕ → ℕ) (small : (c : List ℕ) → h c < 2 
 
       pub put-fits-is : putNew S h gs r ≡ set gs i (bucket k (added S rs r))
       put-fits-is = put-here ∙ ap (λ b. pick b (set gs i (bucket k (added S rs r))) (written gs i (map (packed h (r ∷ map asRow rs)) (buckets S h (r ∷ map asRow rs)))))
-          (le-leb (needs (r ∷ map asRow rs)) (S .capacity) fits)
+          (fits-true S rs r fits)
 
     -- refusal 6 from the page's rows
     pub here-six : needs (deepRows (r ∷ rows)) ≡ needs (deepRows (r ∷ map asRow rs))
@@ -87,7 +87,7 @@ module _ (S : Shape) (h : List ℕ → ℕ) (small : (c : List ℕ) → h c < 2 
 
       pub put-splits-is : putNew S h gs r ≡ written gs i (map (packed h (r ∷ map asRow rs)) (buckets S h (r ∷ map asRow rs)))
       put-splits-is = put-here ∙ ap (λ b. pick b (set gs i (bucket k (added S rs r))) (written gs i (map (packed h (r ∷ map asRow rs)) (buckets S h (r ∷ map asRow rs)))))
-          (lt-leb (needs (r ∷ map asRow rs)) (S .capacity) (omega arith))
+          (fits-false S rs r heavy)
 
   -- ---- no page holds the hash
 

@@ -1,6 +1,5 @@
 -- PUT of a new code: pages that show the rows show them with the new one, and a bucket that does not hold the code's hash keeps its page and records.
 -- Assumes nothing.
-use borrow.Author.Tests.{leb-true, leb-false}
 use mathlib.Core.Path.{_≡_, refl, sym, ap, subst, subst₂, _∙_}
 use mathlib.Core.Bool.{Bool, true, false}
 use mathlib.Core.List.{List, [], _∷_, map, List·Memᴰ, List·Memᴰ·head, List·Memᴰ·not-nil, List·Memᴰ·eq-of-singleton}
@@ -9,9 +8,9 @@ use mathlib.Core.Option.{some, none}
 use Prim.Native.Nat.{ℕ, _+_, _^_, _≤_, _<_}
 use native.Mathlib.Nat.{le-refl}
 use native.Mathlib.Omega.{arith}
-use lib.Dec.{leb}
 use lib.ListN.{length, getD, set, length-set}
 use lib.Seq.{set-set, getD-set-same}
+use Rattle.ground.specs.Says.{Says}
 use Rattle.page.specs.Page.{Record}
 use Rattle.partition.specs.Bits.{top}
 use Rattle.partition.specs.declared.Shape.{Shape}
@@ -27,12 +26,12 @@ use Rattle.partition.proofs.Store.{fine-add, home, outside-rows, not-deeper}
 use Rattle.partition.proofs.Members.{asc-distinct}
 use Rattle.partition.proofs.Below.{load-same, order-below, below}
 use Rattle.store.specs.Pages.{Page, free, bucket, asRow, rowsIn}
-use Rattle.store.specs.Moves.{pick, find, isFree, holds, bucketOf, packFrom, packed, added, written, newBucket, putOn, putNew}
+use Rattle.store.specs.Moves.{pick, find, isFree, holds, bucketOf, packFrom, packed, added, written, newBucket, fitsOn, putOn, putNew}
 use Rattle.store.proofs.Shows.{prefixOn, Holding, Shows}
 use Rattle.store.proofs.Shown.{within-pages, Part, Any, page-of, whole, shows-of, find-held, find-unheld, bucket-found}
 use Rattle.store.proofs.Holder.{its-bucket, its-shallowest, its-order, its-rows, its-needs}
 use Rattle.store.proofs.Rooms.{Its, bucket-one, set-other, fill, fill-keeps, clear, becomes, enough, find-free}
-use Rattle.store.proofs.Records.{rows-packed, rows-added}
+use Rattle.store.proofs.Records.{fits-says, rows-packed, rows-added}
 use Rattle.store.proofs.Written.{NextFree, New, Wrote, write-all, written-over, next-free}
 
 module _ (S : Shape) (h : List ℕ → ℕ) (small : (c : List ℕ) → h c < 2 ^ 32) (rows : List Row) (r : Row) where
@@ -251,14 +250,14 @@ module _ (S : Shape) (h : List ℕ → ℕ) (small : (c : List ℕ) → h c < 2 
         i : ℕ
         i = find (holds h x) gs
 
-        fitted : (k : ℕ) (rs : List Record) → Holding gs i k rs → (b : Bool) → leb (needs (r ∷ map asRow rs)) (S .capacity) ≡ b
+        fitted : (k : ℕ) (rs : List Record) → Holding gs i k rs → (b : Bool) → Says b (needs (r ∷ map asRow rs) ≤ S .capacity)
             → Puts gs (pick b (set gs i (bucket k (added S rs r))) (written gs i (map (packed h (r ∷ map asRow rs)) (buckets S h (r ∷ map asRow rs)))))
-        fitted k rs e true t = put-fitting i k rs e (find-held S h rows gs s x k rs e) (leb-true (needs (r ∷ map asRow rs)) (S .capacity) t)
-        fitted k rs e false t = put-splitting i k rs e (find-held S h rows gs s x k rs e) (leb-false (needs (r ∷ map asRow rs)) (S .capacity) t)
+        fitted k rs e true t = put-fitting i k rs e (find-held S h rows gs s x k rs e) t
+        fitted k rs e false t = put-splitting i k rs e (find-held S h rows gs s x k rs e) (omega (arith, t))
 
         on : (g : Page) → getD gs (find (holds h x) gs) free ≡ g → Puts gs (putOn S h gs r (find (holds h x) gs) g)
         on free e = put-unheld (find-unheld S h rows gs s x e)
-        on (bucket k rs) e = fitted k rs e (leb (needs (r ∷ map asRow rs)) (S .capacity)) refl
+        on (bucket k rs) e = fitted k rs e (fitsOn S rs r) (fits-says S rs r (fitsOn S rs r) refl)
 
     pub put-shows : Shows S h (r ∷ rows) (putNew S h gs r)
     put-shows = shows-of S h (r ∷ rows) (putNew S h gs r) once fine (puts .part)

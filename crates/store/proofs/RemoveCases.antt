@@ -21,7 +21,7 @@ use Rattle.partition.proofs.Sorted.{same-map, bucket-same}
 use Rattle.partition.proofs.Store.{fine-drop, fine-reordered}
 use Rattle.partition.proofs.Tree.{pfx}
 use Rattle.store.specs.Pages.{Page, free, bucket, depthOn, rowsIn}
-use Rattle.store.specs.Moves.{pick, find, within, holds, bucketOf, packFrom, packed, clearedOn, joined, removeOn, removed}
+use Rattle.store.specs.Moves.{pick, find, within, holds, bucketOf, packFrom, packed, clearedOn, joinPage, joined, removeOn, removed}
 use Rattle.store.proofs.Shows.{Shows}
 use Rattle.store.proofs.Known.{Known, known}
 use Rattle.store.proofs.BucketOf.{bucket-of-some, bucket-of-none}
@@ -84,5 +84,5 @@ module _ (S : Shape) (h : List ℕ → ℕ) (rows : List Row) (gs : List Page) (
       removed-joins d =
           removed-some ∙ ap (λ b. pick b (set gs here (clearedOn c (getD gs here free))) (joined h gs (cut c (rowsIn gs)) (pfx j (top j x))))
           (ap (λ g. eqb j (depthOn g)) (its .there) ∙ ne-eqb j (its .depth) d)
-          ∙ ap (λ l. set (map (λ g. pick (within h j (top j x) g) free g) gs) (find (within h j (top j x)) gs) (bucket j (packFrom 8 l)))
+          ∙ ap (λ l. set (map (λ g. pick (within h j (top j x) g) free g) gs) (joinPage h gs (pfx j (top j x))) (bucket j (packFrom 8 l)))
           (bucket-same h (cut c (rowsIn gs)) W (cut-same c (s .same)) (once-remove c (rowsIn gs) (same-map (turned (s .same)) (s .once) .0)) j (top j x))

@@ -30,7 +30,7 @@ use Rattle.partition.proofs.Rising.{without-map}
 use Rattle.partition.proofs.Store.{home, fine-drop}
 use Rattle.partition.proofs.Tree.{pfx}
 use Rattle.store.specs.Pages.{Page, free, bucket, asRow, depthOn, rowsIn}
-use Rattle.store.specs.Moves.{pick, find, within, holds, bucketOf, packFrom, packed, clearedOn, joined, removeOn, removed}
+use Rattle.store.specs.Moves.{pick, find, within, holds, bucketOf, packFrom, packed, clearedOn, joinPage, joined, removeOn, removed}
 use Rattle.store.proofs.Shows.{firstCode, prefixOn, OnPage, Holding, Shows}
 use Rattle.store.proofs.Shown.{page-of, within-on, within-pages, find-passes, find-least, shows-reordered}
 use Rattle.store.proofs.Records.{rows-packed}
@@ -152,7 +152,7 @@ module _ (S : Shape) (h : List ℕ → ℕ) (small : (c : List ℕ) → h c < 2 
 
     -- rows left in a shorter prefix: joined
     abbrev first : ℕ
-    first = find (within h j (top j x)) gs
+    first = joinPage h gs (pfx j (top j x))
 
     abbrev emptied : Page → Page
     emptied g = pick (within h j (top j x) g) free g

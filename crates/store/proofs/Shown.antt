@@ -72,6 +72,17 @@ once-in (bucket k rs ∷ gs) f a =
 
 -- ---- the first page that passes a test
 
+pub find-least : (f : Page → Bool) (gs : List Page) (i : ℕ) → i < length gs → f (getD gs i free) ≡ true → find f gs ≤ i
+unfolding find
+find-least f [] i l e = absurd (omega arith)
+find-least f (g ∷ gs) i l e = go (f g) refl i l e (find-least f gs)
+  where
+    go : (b : Bool) → f g ≡ b → (i : ℕ) → i < suc (length gs) → f (getD (g ∷ gs) i free) ≡ true → ((i : ℕ) → i < length gs → f (getD gs i free) ≡ true → find f gs ≤ i)
+        → find f (g ∷ gs) ≤ i
+    go true p i l e rest = rw p (omega arith)
+    go false p zero l e rest = absurd (true≢false (sym e ∙ p))
+    go false p (suc i) l e rest = rw p (omega (arith, rest i (omega arith) e))
+
 pub find-passes : (f : Page → Bool) (gs : List Page) → find f gs < length gs → f (getD gs (find f gs) free) ≡ true
 unfolding find
 find-passes f [] l = absurd (omega arith)
@@ -81,17 +92,6 @@ find-passes f (g ∷ gs) l = go (f g) refl (find-passes f gs) l
         → f (getD (g ∷ gs) (pick b 0 (suc (find f gs))) free) ≡ true
     go true e rest l = e
     go false e rest l = rest (omega arith)
-
-pub find-least : (f : Page → Bool) (gs : List Page) (i : ℕ) → i < length gs → f (getD gs i free) ≡ true → find f gs ≤ i
-unfolding find
-find-least f [] i l e = absurd (omega arith)
-find-least f (g ∷ gs) i l e = go (f g) refl i l e (find-least f gs)
-  where
-    go : (b : Bool) → f g ≡ b → (i : ℕ) → i < suc (length gs) → f (getD (g ∷ gs) i free) ≡ true → ((i : ℕ) → i < length gs → f (getD gs i free) ≡ true → find f gs ≤ i)
-        → pick b 0 (suc (find f gs)) ≤ i
-    go true p i l e rest = omega arith
-    go false p zero l e rest = absurd (true≢false (sym e ∙ p))
-    go false p (suc i) l e rest = omega (arith, rest i (omega arith) e)
 
 pub within-on : (h : List ℕ → ℕ) (j v k : ℕ) (rs : List Record) → 0 < length rs → (within h j v (bucket k rs) ≡ true) ↔ (prefixOn h j rs ≡ v)
 within-on h j v k [] l = absurd (omega arith)

@@ -95,11 +95,15 @@ abbrev pub newBucket : (List ℕ → ℕ) → List Page → Row → Option Prefi
 newBucket h gs r none = gs
 newBucket h gs r (some p) = set gs (find isFree gs) (packed h (r ∷ []) p)
 
+-- the row fits its bucket, of these records
+abbrev pub fitsOn : Shape → List Record → Row → Bool
+fitsOn S rs r = leb (needs (r ∷ map asRow rs)) (S .capacity)
+
 -- A new code that fits its bucket; if it doesn't fit, the new buckets are written packed, in prefix order: the first takes the old page.
 abbrev pub putOn : Shape → (List ℕ → ℕ) → List Page → Row → ℕ → Page → List Page
 putOn S h gs r i free = newBucket h gs r (bucketOf (h (r .code)) (buckets S h (r ∷ rowsIn gs)))
 putOn S h gs r i (bucket k rs) =
-    pick (leb (needs (r ∷ map asRow rs)) (S .capacity))
+    pick (fitsOn S rs r)
     (set gs i (bucket k (added S rs r)))
     (written gs i (map (packed h (r ∷ map asRow rs)) (buckets S h (r ∷ map asRow rs))))
 
@@ -114,11 +118,13 @@ abbrev pub clearedOn : List ℕ → Page → Page
 clearedOn c free = free
 clearedOn c (bucket k rs) = bucket k (without (λ q. q .code) c rs)
 
--- the joined rows are packed into the lowest-numbered page among those joined (the emptied one counted) and the others are cleared
+-- the lowest-numbered page among those joined (the emptied one counted)
+abbrev pub joinPage : (List ℕ → ℕ) → List Page → Prefix → ℕ
+joinPage h gs p = find (within h (p .bits) (p .value)) gs
+
+-- the joined rows are packed into it and the others are cleared
 abbrev pub joined : (List ℕ → ℕ) → List Page → List Row → Prefix → List Page
-joined h gs rs p =
-    let in-p : Page → Bool = within h (p .bits) (p .value) in
-    set (map (λ g. pick (in-p g) free g) gs) (find in-p gs) (packed h rs p)
+joined h gs rs p = set (map (λ g. pick (within h (p .bits) (p .value) g) free g) gs) (joinPage h gs p) (packed h rs p)
 
 -- rs is what is left, i the code's page, then the bucket that its prefix has in the partition of rs; a bucket left empty with nothing to join is cleared
 abbrev pub removeOn : (List ℕ → ℕ) → List Page → List ℕ → List Row → ℕ → Option Prefix → List Page

@@ -1,5 +1,5 @@
 -- `rows::count_rows` meets its contract: page after page, each once. Assumes nothing.
-use Prim.Native.Nat.{_+_, _*_, _-_, _≤_}
+use Prim.Native.Nat.{_*_, _-_, _≤_}
 use mathlib.Core.Path.{_≡_, sym, ap, _∙_}
 use native.Mathlib.Omega.{arith}
 use denote.Ref.{now}
@@ -19,7 +19,7 @@ loop-holds : tie.Need-loop-holds Inv-loop μ-loop
 loop-holds c = (omega arith, omega arith, sym (rows-none _ _), omega arith)
 
 rows-on-requires : tie.Need-rows-on-requires Inv-loop μ-loop
-rows-on-requires c κs = let a = c .before .before .before in omega (arith, apart (size (a .args .z)) (c .before .loop .p) (a .args .n) (c .loop-test .taken))
+rows-on-requires c κs = let a = c .before .before .before in rw (a .pre .0) (apart (size (a .args .z)) _ (a .args .n) (omega arith))
 
 add-sum : tie.Need-add-sum Inv-loop μ-loop
 add-sum c = omega (arith, c .rows-on .ensures .1)
@@ -33,7 +33,7 @@ loop-less c = omega arith
 loop-again : tie.Need-loop-again Inv-loop μ-loop
 loop-again c = let l = c .before .before .loop in
     let z = c .before .before .before .before in
-    (omega arith, omega arith, (λ i. l .inv .2 i + c .rows-on .ensures .0 i) ∙ sym (rows-next (z .args .z) (now (z .args .s)) (l .p) (l .inv .0)), omega (arith, c .rows-on .ensures .1))
+    (omega arith, omega arith, omega (arith, c .rows-on .ensures .0, rows-next (z .args .z) (now (z .args .s)) (l .p) (l .inv .0)), omega (arith, c .rows-on .ensures .1))
 
 returns : tie.Need-returns Inv-loop μ-loop
 returns c = let l = c .before .loop in

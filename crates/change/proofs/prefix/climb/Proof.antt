@@ -49,7 +49,7 @@ loop-less : tie.Need-loop-less Inv-loop μ-loop
 loop-less c = omega arith
 
 loop-again : tie.Need-loop-again Inv-loop μ-loop
-loop-again c = (omega arith, λ _. says-true (c .before .needs-at-most .result) (not-false _ (c .if1 .left)) (c .before .needs-at-most .ensures))
+loop-again c = let t = says-true (c .before .needs-at-most .result) (not-false _ (c .if1 .left)) (c .before .needs-at-most .ensures) in (omega arith, λ _. omega (arith, t))
 
 returns-2 : tie.Need-returns-2 Inv-loop μ-loop
 returns-2 c = let l = c .before .loop in record { most = l .inv .0; fit = l .inv .1; over = λ i e. absurd (omega (arith, e)) }
