@@ -36,7 +36,7 @@ fn natural(x: i32) -> u64 {
 // Row n on a line, the page of its place and its code; whether there is one.
 fn row(bucket: &[u8], n: usize) -> bool {
     let mut out = [0u8; 64];
-    match reader::inspect(bucket, n, &mut out) {
+    match page_reader::inspect(bucket, n, &mut out) {
         Answer::RowOf(m, p) => {
             io::print_hex(STDOUT_FILENO, natural(p.page), 4);
             digits(&out[0..m]);

@@ -43,7 +43,7 @@ fn format(store: &mut [u8], z: Session, n: usize) -> Session
     ensures { λ r. ⌜ Kept z (now (store .entry)) r (now (store .exit)) × (r .fill ≡ z .fill) ⌝ }
 {
     let len = length_of(n, store.len());
-    let o = obey::wrote(change::format(&mut store[0..len]));
+    let o = obey::wrote(directory::format(&mut store[0..len]));
     let mut y = after(z, o);
     if let Outcome::Changed = o {
         y.len = len;

@@ -75,7 +75,7 @@ fn row(s: &[u8], n: usize) -> Outcome
     ensures { λ r. ⌜ Untouched r ⌝ }
 {
     let mut code = [0u8; 64];
-    let a = reading::row_at(s, n, &mut code);
+    let a = query::row_at(s, n, &mut code);
     said(say::answer(a, &code))
 }
 
@@ -84,7 +84,7 @@ fn list_row(s: &[u8], n: usize) -> bool
     requires { ⌜ Accepted S1024 fnv (now s) ⌝ }
 {
     let mut code = [0u8; 64];
-    let a = reading::give_row(s, n, &mut code);
+    let a = query::give_row(s, n, &mut code);
     say::answer(a, &code)
 }
 
@@ -107,7 +107,7 @@ fn list_rows(s: &[u8], n: usize) -> Outcome
 fn list(s: &[u8]) -> Outcome
     ensures { λ r. ⌜ Untouched r ⌝ }
 {
-    let a = reading::count(s);
+    let a = query::count(s);
     if let Answer::Rows(n) = a {
         return list_rows(s, n);
     }
@@ -119,7 +119,7 @@ fn rows_on(page: &[u8]) -> Answer {
     let mut code = [0u8; 64];
     let mut n = 0;
     while n < 78 {
-        let a = reader::inspect(page, n, &mut code);
+        let a = page_reader::inspect(page, n, &mut code);
         match a {
             Answer::RowOf(_, _) => {
                 n += 1;
@@ -138,7 +138,7 @@ fn rows_on(page: &[u8]) -> Answer {
 // Row n of a page on a line; whether it could be written.
 fn page_row(page: &[u8], n: usize) -> bool {
     let mut code = [0u8; 64];
-    let a = reader::inspect(page, n, &mut code);
+    let a = page_reader::inspect(page, n, &mut code);
     say::answer(a, &code)
 }
 
@@ -188,13 +188,13 @@ pub fn obey(s: &mut [u8], line: &[u8], number: usize) -> Outcome
         Command::Nothing => Outcome::Same,
         Command::Unknown => unknown(number),
         Command::Format(n) => Outcome::Format(n),
-        Command::Put(k, place) => wrote(change::put(s, &code[0..k], place)),
-        Command::Lookup(k) => told(reading::lookup(s, &code[0..k])),
-        Command::Remove(k) => wrote(change::remove(s, &code[0..k])),
-        Command::Count => told(reading::count(s)),
+        Command::Put(k, place) => wrote(putting::put(s, &code[0..k], place)),
+        Command::Lookup(k) => told(query::lookup(s, &code[0..k])),
+        Command::Remove(k) => wrote(removal::remove(s, &code[0..k])),
+        Command::Count => told(query::count(s)),
         Command::Row(n) => row(s, n),
         Command::Listing => list(s),
-        Command::Check => told(reading::check(s)),
+        Command::Check => told(query::check(s)),
         Command::Inspect(p) => inspect(s, p, number),
     }
 }

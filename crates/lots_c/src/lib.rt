@@ -95,35 +95,35 @@ fn give_length(a: Answer, len: &mut u32)
 pub extern "C" fn lots_format(store: &mut [u8]) -> u64
     ensures { λ r. ⌜ TellsAnd (formatTable S1024 (now (store .entry))) (now (store .exit)) r ⌝ }
 {
-    word_of(change::format(store))
+    word_of(directory::format(store))
 }
 
 #[no_mangle]
 pub extern "C" fn lots_check(store: &[u8]) -> u64
     ensures { λ r. ⌜ Tells (checkTable S1024 fnv (now (store .entry))) r ⌝ }
 {
-    word_of(reading::check(store))
+    word_of(query::check(store))
 }
 
 #[no_mangle]
 pub extern "C" fn lots_count(store: &[u8]) -> u64
     ensures { λ r. ⌜ Tells (countTable S1024 fnv (now (store .entry))) r ⌝ }
 {
-    word_of(reading::count(store))
+    word_of(query::count(store))
 }
 
 #[no_mangle]
 pub extern "C" fn lots_lookup(store: &[u8], code: &[u8]) -> u64
     ensures { λ r. ⌜ Tells (lookupTable S1024 fnv (now (store .entry)) (now (code .entry))) r ⌝ }
 {
-    word_of(reading::lookup(store, code))
+    word_of(query::lookup(store, code))
 }
 
 #[no_mangle]
 pub extern "C" fn lots_row(store: &[u8], n: u64, out: &mut [u8], code_len: &mut u32) -> u64
     ensures { λ r. ⌜ TellsRow (rowTable S1024 fnv (now (store .entry)) n (now (out .entry))) (now (out .exit)) (now («code_len» .entry)) (now («code_len» .exit)) r ⌝ }
 {
-    let a = reading::row_at(store, n as usize, out);
+    let a = query::row_at(store, n as usize, out);
     give_length(a, code_len);
     word_of(a)
 }
@@ -132,7 +132,7 @@ pub extern "C" fn lots_row(store: &[u8], n: u64, out: &mut [u8], code_len: &mut 
 pub extern "C" fn lots_inspect(page: &[u8], n: u64, out: &mut [u8], code_len: &mut u32) -> u64
     ensures { λ r. ⌜ TellsRow (inspectTable S1024 fnv (now (page .entry)) n (now (out .entry))) (now (out .exit)) (now («code_len» .entry)) (now («code_len» .exit)) r ⌝ }
 {
-    let a = reader::inspect(page, n as usize, out);
+    let a = page_reader::inspect(page, n as usize, out);
     give_length(a, code_len);
     word_of(a)
 }
@@ -141,7 +141,7 @@ pub extern "C" fn lots_inspect(page: &[u8], n: u64, out: &mut [u8], code_len: &m
 pub extern "C" fn lots_remove(store: &mut [u8], code: &[u8]) -> u64
     ensures { λ r. ⌜ TellsAnd (removeTable S1024 fnv (now (store .entry)) (now (code .entry))) (now (store .exit)) r ⌝ }
 {
-    word_of(change::remove(store, code))
+    word_of(removal::remove(store, code))
 }
 
 #[no_mangle]
@@ -149,5 +149,5 @@ pub extern "C" fn lots_put(store: &mut [u8], code: &[u8], page: i32, slot: i16, 
     ensures { λ r. ⌜ TellsAnd (putTable S1024 fnv (now (store .entry)) (now (code .entry)) (record { page = page; slot = slot; volume = volume })) (now (store .exit)) r ⌝ }
 {
     let place = Place { page, slot, volume };
-    word_of(change::put(store, code, place))
+    word_of(putting::put(store, code, place))
 }

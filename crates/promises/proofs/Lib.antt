@@ -4,3 +4,4 @@ pub mod Programs
 pub mod OneBucket
 pub mod Turned
 pub mod Exists
+pub mod Worked

@@ -1,6 +1,6 @@
 -- `cases::row` meets its contract: the code that inspection gives fits the output. Assumes nothing.
 use native.Mathlib.Omega.{arith}
-use Rattle.reader.proofs.Rows.{inspect-fits}
+use Rattle.page_reader.proofs.Rows.{inspect-fits}
 use borrow.Author.Needs.{needs}
 use Rattle.cases.proofs.reads.row.Statement.{statement}
 use Rattle.cases.proofs.reads.row.Tie as tie

@@ -1,0 +1,121 @@
+-- `directory::name_page` meets its contract: a bucket's run is set, another page's is not. Assumes nothing.
+use borrow.Author.Needs.{needs}
+use Prim.Native.Nat.{ℕ, _+_, _*_, _^_, _≤_}
+use mathlib.Core.Path.{_≡_, sym, ap, _∙_}
+use mathlib.Core.List.{List}
+use native.Mathlib.Omega.{arith}
+use lib.Pow.{pow-mono}
+use denote.Ref.{now}
+use Rattle.ground.specs.Lists.{byte}
+use Rattle.hash.specs.Fnv.{fnv}
+use Rattle.page.specs.Page.{depth, code}
+use Rattle.partition.specs.Bits.{top}
+use Rattle.partition.specs.Partition.{first, after}
+use Rattle.store.specs.Pages.{S1024, page}
+use Rattle.store.proofs.Depths.{page-byte, kind-byte}
+use Rattle.store.proofs.Views.{page-lent}
+use Rattle.directory.proofs.Directories.{named-page, unnamed-page}
+use Rattle.directory.proofs.directory.name_page.Statement.{statement}
+use Rattle.directory.proofs.directory.name_page.Tie as tie
+
+-- the page's first two bytes, in the store
+module _ (c : tie.Start) where
+  abbrev s : List ℕ
+  s = now (c .args .s)
+
+  abbrev p : ℕ
+  p = c .args .p
+
+  kind : byte (page S1024 s p) 0 ≡ byte s (p * 1024)
+  kind = kind-byte S1024 s p
+
+  deep : depth (page S1024 s p) ≡ byte s (p * 1024 + 1)
+  deep = page-byte S1024 s p 1 (omega arith)
+
+mul-a : tie.Need-mul-a
+mul-a c = search needs
+
+add-e : tie.Need-add-e
+add-e c = search needs
+
+slice-read-if1 : tie.Need-slice-read-if1
+slice-read-if1 c = search needs
+
+add-k : tie.Need-add-k
+add-k c = search needs
+
+slice-read-k : tie.Need-slice-read-k
+slice-read-k c = search needs
+
+cast-k : tie.Need-cast-k
+cast-k c = let a = c .before .before .before .before .args in omega (arith, c .slice-known3 .given (a .p * 1024 + 1))
+
+sub-hash-slot : tie.Need-sub-hash-slot
+sub-hash-slot c = search needs
+
+part-hash-slot-start : tie.Need-part-hash-slot-start
+part-hash-slot-start c = search needs
+
+part-hash-slot-end : tie.Need-part-hash-slot-end
+part-hash-slot-end c = search needs
+
+hash-slot-requires : tie.Need-hash-slot-requires
+hash-slot-requires c κs =
+    let z = c .before .before .before .before .before .before in
+    let t = c .before .before .before .if1 .taken in
+    let b = z .pre .4 .rules (kind z ∙ t) in
+    rw (page-lent S1024 (s z) (p z)) (b, b .some)
+
+run-of-requires : tie.Need-run-of-requires
+run-of-requires c κs =
+    let z = c .before .before .before .before .before .before .before in
+    let t = c .before .before .before .before .if1 .taken in
+    (omega (arith, deep z, z .pre .4 .depths (kind z ∙ t)), omega arith)
+
+set-run-requires : tie.Need-set-run-requires
+set-run-requires c κs =
+    let z = c .before .before .before .before .before .before .before .before .before in
+    let e = c .before .run-of .ensures in
+    let m : 2 ^ (z .args .d) ≤ 2 ^ 8 = pow-mono (z .pre .3) in
+    (omega (arith, z .pre), e .2, omega (arith, e .3), omega (arith, z .pre))
+
+same-length : tie.Need-same-length
+same-length c = search needs
+
+returns : tie.Need-returns
+returns c =
+    let z = c .before .before .before .before .before .before .before .before .before .before .before .before in
+    let t = c .before .before .before .before .before .before .before .before .before .if1 .taken in
+    let f = c .before .before .before .before .before .hash-slot .ensures in
+    let e = c .before .before .before .before .run-of .ensures in
+    let x = f ∙ ap (λ g. fnv (code g 0)) (page-lent S1024 (s z) (p z)) in
+    named-page fnv (s z) (z .args .d) (p z) (z .pre .3) (c .before .before .set-run .last .0) (c .before .before .before .before .run-of .result .from) (c .before .before .before .before .run-of .result .to)
+    (kind z ∙ t)
+    (e .0 ∙ sym (λ i. first (z .args .d) (record { bits = deep z i; value = top (deep z i) (sym x i) })))
+    (e .1 ∙ sym (λ i. after (z .args .d) (record { bits = deep z i; value = top (deep z i) (sym x i) })))
+    (e .2) (e .3) (c .before .before .set-run .ensures)
+
+returns-2 : tie.Need-returns-2
+returns-2 c =
+    let z = c .before .before .before in
+    unnamed-page fnv (s z) (z .args .d) (p z) (z .pre .3) (λ u. c .if1 .left (sym (kind z) ∙ u))
+
+pub name-page-spec : {M : Type 1} → statement M
+name-page-spec =
+    tie.close
+    (tie.spec
+    mul-a
+    add-e
+    slice-read-if1
+    add-k
+    slice-read-k
+    cast-k
+    sub-hash-slot
+    part-hash-slot-start
+    part-hash-slot-end
+    hash-slot-requires
+    run-of-requires
+    set-run-requires
+    same-length
+    returns
+    returns-2)

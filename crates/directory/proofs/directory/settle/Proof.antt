@@ -1,0 +1,33 @@
+-- `directory::settle` meets its contract. Assumes nothing.
+use borrow.Author.Needs.{needs}
+use mathlib.Core.Path.{sym, subst}
+use denote.Ref.{now}
+use Rattle.hash.specs.Fnv.{fnv}
+use Rattle.directory.specs.Directory.{Directable, Directed}
+use Rattle.directory.proofs.Laying.{directable}
+use Rattle.directory.proofs.directory.settle.Statement.{statement}
+use Rattle.directory.proofs.directory.settle.Tie as tie
+
+deepest-requires : tie.Need-deepest-requires
+deepest-requires c κs = search needs
+
+cast-write-directory : tie.Need-cast-write-directory
+cast-write-directory c = search needs
+
+write-directory-requires : tie.Need-write-directory-requires
+write-directory-requires c κs =
+    let z = c .before .before .before .before in
+    subst (λ d. Directable (now (z .args .s)) (z .args .n) d) (sym (c .before .deepest .ensures .0)) (directable (now (z .args .s)) (z .args .n) (z .pre))
+
+same-length : tie.Need-same-length
+same-length c = search needs
+
+returns : tie.Need-returns
+returns c =
+    let z = c .before .before .before .before .before .before .before in
+    subst (λ d. Directed fnv (now (z .args .s)) d (z .args .n) (c .before .before .write-directory .last .0)) (c .before .before .before .before .deepest .ensures .0) (c .before .before .write-directory .ensures)
+
+pub settle-spec : {M : Type 1} → statement M
+settle-spec =
+    tie.close
+    (tie.spec deepest-requires cast-write-directory write-directory-requires same-length returns)

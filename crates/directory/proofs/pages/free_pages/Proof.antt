@@ -1,0 +1,72 @@
+-- `directory::free_pages` meets its contract: those counted and those left are all. Assumes nothing.
+use Rattle.directory.proofs.Frees.{free-more, used-more, frees-end}
+use Rattle.store.proofs.Showing.{pages-held}
+use Rattle.store.proofs.Rooms.{frees}
+use Rattle.store.specs.Pages.{S1024, contents}
+use lib.ListN.{drop}
+use native.Mathlib.Omega.{arith}
+use Prim.Native.Nat.{_+_, _-_, _≤_}
+use mathlib.Core.Logic.{⊎-elim}
+use mathlib.Core.Path.{_≡_}
+use Rattle.directory.proofs.pages.free_pages.Statement.{statement}
+use Rattle.directory.proofs.pages.free_pages.Tie as tie
+
+abbrev Inv-loop : tie.InvT-loop
+Inv-loop s n most many₀ p₀ many p = (2 ≤ p) × (p ≤ n) × (many ≤ p) × (many ≤ most) × (many + frees (drop (p - 2) (contents S1024 s)) ≡ frees (contents S1024 s))
+
+abbrev μ-loop : tie.MeasureT-loop
+μ-loop s n most many₀ p₀ many p = n - p
+
+loop-holds : tie.Need-loop-holds Inv-loop μ-loop
+loop-holds c = omega arith
+
+returns : tie.Need-returns Inv-loop μ-loop
+returns c = omega arith
+
+mul-if2 : tie.Need-mul-if2 Inv-loop μ-loop
+mul-if2 c = omega arith
+
+shared-slice-read-if2 : tie.Need-shared-slice-read-if2 Inv-loop μ-loop
+shared-slice-read-if2 c = omega arith
+
+add-many : tie.Need-add-many Inv-loop μ-loop
+add-many c = omega arith
+
+add-p : tie.Need-add-p Inv-loop μ-loop
+add-p c = omega arith
+
+loop-less : tie.Need-loop-less Inv-loop μ-loop
+loop-less c = omega arith
+
+loop-again : tie.Need-loop-again Inv-loop μ-loop
+loop-again c =
+    let i = c .before .before .before in
+    let z = i .before .before in
+    let s = z .args .s .now in
+    let l = i .before .loop in
+    ⊎-elim
+    (λ w. (omega arith, omega arith, omega arith, omega arith, omega (arith, free-more s (l .p) (omega arith) (omega arith) (w .0 .taken))))
+    (λ w. (omega arith, omega arith, omega arith, omega arith, omega (arith, used-more s (l .p) (omega arith) (omega arith) (w .0 .left))))
+    (c .if2 .came)
+
+returns-2 : tie.Need-returns-2 Inv-loop μ-loop
+returns-2 c =
+    let s = c .before .before .args .s .now in
+    let e = frees-end (contents S1024 s) (c .before .loop .p - 2) (omega (arith, pages-held S1024 s)) in
+    (omega (arith, e), omega arith)
+
+pub free-pages-spec : {M : Type 1} → statement M
+free-pages-spec =
+    tie.close
+    (tie.spec
+    Inv-loop
+    μ-loop
+    loop-holds
+    returns
+    mul-if2
+    shared-slice-read-if2
+    add-many
+    add-p
+    loop-less
+    loop-again
+    returns-2)

@@ -1,0 +1,41 @@
+-- The hashes of a page share a prefix where each shares it with the first, and where their differences have no bit in it. Assumes nothing.
+use Prim.Native.Nat.{ℕ, _+_, _-_, _≤_, _<_}
+use mathlib.Core.Path.{_≡_, refl, sym, _∙_}
+use mathlib.Core.List.{List}
+use native.Mathlib.Omega.{arith}
+use borrow.Author.Count.{below-more}
+use lib.Bits.{bitOr, bitXor, or-shr, xor-shr, xor-self}
+use Rattle.words.proofs.Zeros.{or-zero, zero-or}
+use Rattle.partition.specs.Bits.{top}
+use Rattle.partition.proofs.Bits.{top-is, xor-zero}
+use Rattle.page.specs.Page.{depth}
+use Rattle.page_check.specs.Shared.{Alike, Share}
+
+pub share-all : (h : List ℕ → ℕ) (p : List ℕ) → Alike h p (depth p) → Share h p
+share-all h p e i j l m = sym (e i l) ∙ e j m
+
+-- the differences to x of f 0 to f (n - 1), or-ed, have no bit in the prefix of k bits just where all have that of x
+pub record Ored (k : ℕ) (f : ℕ → ℕ) (x n acc : ℕ) : Type 0 where
+  pub so : top k acc ≡ 0 → (i : ℕ) → i < n → top k x ≡ top k (f i)
+  pub back : ((i : ℕ) → i < n → top k x ≡ top k (f i)) → top k acc ≡ 0
+
+module _ (k : ℕ) (small : k ≤ 32) where
+  top-or : (a b : ℕ) → top k (bitOr a b) ≡ bitOr (top k a) (top k b)
+  top-or a b = rw (top-is (bitOr a b) k small, top-is a k small, top-is b k small) (or-shr a b (32 - k))
+
+  top-xor : (a b : ℕ) → top k (bitXor a b) ≡ bitXor (top k a) (top k b)
+  top-xor a b = rw (top-is (bitXor a b) k small, top-is a k small, top-is b k small) (xor-shr a b (32 - k))
+
+  pub top-zero : top k 0 ≡ 0
+  top-zero = top-xor 0 0 ∙ xor-self (top k 0)
+
+  pub ored-one : (f : ℕ → ℕ) (x : ℕ) → x ≡ f 0 → Ored k f x 1 0
+  ored-one f x e = record { so = λ _ i h. let z : i ≡ 0 = omega arith in rw (z, e) refl; back = λ _. top-zero }
+
+  pub ored-more : (f : ℕ → ℕ) (x n acc : ℕ) → Ored k f x n acc → Ored k f x (n + 1) (bitOr acc (bitXor x (f n)))
+  ored-more f x n acc o = record {
+    so = λ z. let u = or-zero (top k acc) (top k (bitXor x (f n))) (sym (top-or acc (bitXor x (f n))) ∙ z) in
+        below-more (λ i. top k x ≡ top k (f i)) n (o .so (u .0)) (xor-zero (top k x) (top k (f n)) (sym (top-xor x (f n)) ∙ u .1));
+    back = λ all. top-or acc (bitXor x (f n)) ∙ zero-or (top k acc) (top k (bitXor x (f n))) (o .back (λ i h. all i (omega arith)))
+        (top-xor x (f n) ∙ rw (all n (omega arith)) (xor-self (top k (f n))));
+  }

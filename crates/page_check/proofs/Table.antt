@@ -1,0 +1,110 @@
+-- Laws of the table of starts. Assumes nothing.
+use Prim.Native.Nat.{ℕ, zero, suc, _+_, _≤_, _<_}
+use mathlib.Core.Path.{_≡_, refl, sym, _∙_, ap}
+use mathlib.Core.Logic.{_⊎_, inl, inr, ⊎-elim}
+use mathlib.Core.List.{List, [], _∷_}
+use native.Mathlib.Omega.{arith}
+use lib.Bits.{bitOr, or-add-and, and-le-l, and-le-r}
+use lib.ListN.{length, set}
+use lib.Seq.{getD-set-same, getD-set-other}
+use Rattle.ground.specs.Lists.{byte}
+use Rattle.ground.proofs.Sides.{side, same}
+use Rattle.words.specs.Moves.{Cleared}
+use Rattle.words.specs.Zeros.{Zero}
+use Rattle.page.specs.Page.{off, len}
+use Rattle.page_check.specs.Table.{entries, Table, Inside}
+
+-- an or is below 128 just where both are
+pub or-small : (x y : ℕ) → bitOr x y < 128 → (x < 128) × (y < 128)
+or-small x y h = omega (arith, or-add-and x y, and-le-l x y, and-le-r x y)
+
+-- an entry made and one taken back
+pub entries-more : (t : List ℕ) (k v : ℕ) → k < length t → byte t k ≡ 0 → 1 ≤ v → entries (set t k v) ≡ entries t + 1
+unfolding entries
+entries-more [] k v h z l = absurd (omega arith)
+entries-more (zero ∷ t) zero zero h z l = absurd (omega arith)
+entries-more (zero ∷ t) zero (suc v) h z l = omega arith
+entries-more (suc x ∷ t) zero v h z l = absurd (omega arith)
+entries-more (zero ∷ t) (suc k) v h z l = entries-more t k v (omega arith) z l
+entries-more (suc x ∷ t) (suc k) v h z l = omega (arith, entries-more t k v (omega arith) z l)
+
+pub entries-less : (t : List ℕ) (k : ℕ) → 1 ≤ byte t k → entries (set t k 0) + 1 ≡ entries t
+unfolding entries
+entries-less [] k h = absurd (omega arith)
+entries-less (zero ∷ t) zero h = absurd (omega arith)
+entries-less (suc x ∷ t) zero h = omega arith
+entries-less (zero ∷ t) (suc k) h = entries-less t k h
+entries-less (suc x ∷ t) (suc k) h = omega (arith, entries-less t k h)
+
+-- no entry where all is zero
+pub entries-none : (t : List ℕ) → Zero t → entries t ≡ 0
+unfolding entries
+entries-none [] z = refl
+entries-none (zero ∷ t) z = entries-none t (λ k. z (suc k))
+entries-none (suc x ∷ t) z = absurd (omega (arith, z 0))
+
+pub none-entries : (t : List ℕ) → entries t ≡ 0 → Zero t
+unfolding entries
+none-entries [] e k = refl
+none-entries (zero ∷ t) e zero = refl
+none-entries (zero ∷ t) e (suc k) = none-entries t e k
+none-entries (suc x ∷ t) e k = absurd (omega arith)
+
+pub table-none : (p t : List ℕ) (f : ℕ) → Zero t → Table p 0 f t
+table-none p t f z = record {
+  after = λ i h. absurd (omega arith);
+  short = λ i h. absurd (omega arith);
+  inside = λ i h. absurd (omega arith);
+  starts = λ i j h. absurd (omega arith);
+  at = λ i h. absurd (omega arith);
+  only = λ k. inl (z k);
+  number = entries-none t z;
+}
+
+module _ (p t : List ℕ) (n f : ℕ) (b : Table p n f t) where
+  -- the entries lie between 8 and f
+  pub inside-of : Inside f t
+  inside-of = record {
+    below = λ k h. ⊎-elim (λ z. z) (λ u. absurd (omega (arith, u .2, b .after (u .0) (u .1)))) (b .only k);
+    above = λ k h. ⊎-elim (λ z. z) (λ u. absurd (omega (arith, u .2, b .inside (u .0) (u .1), b .short (u .0) (u .1)))) (b .only k);
+  }
+
+  -- a record that starts where none of the first n does has no entry at its start
+  pub vacant-of : (c : ℕ) → n < c → ((i j : ℕ) → i < c → j < c → off p i ≡ off p j → i ≡ j) → byte t (off p n) ≡ 0
+  vacant-of c h s = ⊎-elim (λ z. z) (λ u. absurd (omega (arith, u .1, s (u .0) n (omega (arith, u .1)) h (u .2)))) (b .only (off p n))
+
+  -- the next record's entry
+  pub table-more : (q : List ℕ) → 8 ≤ off p n → 1 ≤ len p n → off p n + len p n ≤ f → f ≤ length t → byte t (off p n) ≡ 0 → q ≡ set t (off p n) (len p n) → Table p (n + 1) f q
+  table-more q a s l g z e = record {
+    after = λ i h. ⊎-elim (λ x. rw x a) (λ x. b .after i (omega (arith, x))) (same i n);
+    short = λ i h. ⊎-elim (λ x. rw x s) (λ x. b .short i (omega (arith, x))) (same i n);
+    inside = λ i h. ⊎-elim (λ x. rw x l) (λ x. b .inside i (omega (arith, x))) (same i n);
+    starts = λ i j h k x. ⊎-elim
+        (λ y. ⊎-elim (λ w. y ∙ sym w) (λ w. absurd (apart j (omega (arith, w)) (sym x ∙ ap (off p) y))) (same j n))
+        (λ y. ⊎-elim (λ w. absurd (apart i (omega (arith, y)) (x ∙ ap (off p) w))) (λ w. b .starts i j (omega (arith, y)) (omega (arith, w)) x) (same j n))
+        (same i n);
+    at = λ i h. ⊎-elim
+        (λ x. rw x new)
+        (λ x. let m : i < n = omega (arith, x) in rw e (getD-set-other t (off p n) (off p i) (len p n) 0 (apart i m) ∙ b .at i m))
+        (same i n);
+    only = λ k. ⊎-elim
+        (λ x. inr (n, omega arith, sym x))
+        (λ x. ⊎-elim
+        (λ y. inl (rw e (getD-set-other t (off p n) k (len p n) 0 x ∙ y)))
+        (λ u. inr (u .0, omega (arith, u .1), u .2)) (b .only k))
+        (same k (off p n));
+    number = rw e (omega (arith, entries-more t (off p n) (len p n) (omega arith) z s, b .number));
+  }
+    where
+      new : byte q (off p n) ≡ len p n
+      new = rw e (getD-set-same t (off p n) (len p n) 0 (omega arith))
+
+      apart : (i : ℕ) → i < n → off p i ≡ off p n → ⊥
+      apart i h x = omega (arith, b .short i h, b .at i h, ap (byte t) x)
+
+-- what lies between 8 and f cleared, all is zero
+pub cleared : (t q : List ℕ) (f : ℕ) → Inside f t → Cleared t 8 f q → Zero q
+cleared t q f h c k = ⊎-elim
+    (λ l. c .below k l ∙ h .below k l)
+    (λ g. ⊎-elim (λ l. c .new k g l) (λ m. c .above k m ∙ h .above k m) (side k f))
+    (side k 8)

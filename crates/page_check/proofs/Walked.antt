@@ -1,0 +1,156 @@
+-- What the walk over the table has shown at a byte. Assumes nothing.
+use Prim.Native.Nat.{ℕ, _+_, _≤_, _<_}
+use mathlib.Core.Path.{_≡_, refl, sym, _∙_, ap}
+use mathlib.Core.Logic.{_⊎_, inl, inr, ⊎-elim}
+use mathlib.Core.List.{List}
+use native.Mathlib.Omega.{arith}
+use lib.Bits.{bitOr}
+use lib.ListN.{length, set, List·getD-eq-default}
+use lib.Seq.{getD-set-same, getD-set-other}
+use Rattle.ground.specs.Lists.{byte}
+use Rattle.ground.proofs.Sides.{side, same}
+use Rattle.words.specs.Zeros.{Zero}
+use Rattle.words.proofs.Zeros.{or-zero, zero-or}
+use Rattle.page.specs.Page.{In, off, len}
+use Rattle.page_check.specs.Table.{entries, Table, Inside, Laid}
+use Rattle.page_check.proofs.Table.{entries-less, entries-none, none-entries, inside-of}
+
+abbrev Apart : List ℕ → ℕ → Type 0
+Apart p n = (i j k : ℕ) → i < n → j < n → In p i k → In p j k → i ≡ j
+
+-- record i was met: its entry is taken back
+abbrev Met : List ℕ → ℕ → List ℕ → ℕ → Type 0
+Met p n m i = (i < n) × (byte m (off p i) ≡ 0)
+
+-- at byte x, of the table t the entries m are left; met records were met, the last ends at e, and acc has the bytes of none
+pub record Walked (p : List ℕ) (n f : ℕ) (t m : List ℕ) (x e met acc : ℕ) : Type 0 where
+  pub from : 8 ≤ x
+  pub to : x ≤ f
+  pub later : (k : ℕ) → x ≤ k → byte m k ≡ byte t k
+  pub never : (k : ℕ) → byte t k ≡ 0 → byte m k ≡ 0
+  pub left : entries m + met ≡ n
+  pub apart : (i j k : ℕ) → Met p n m i → Met p n m j → In p i k → In p j k → i ≡ j
+  pub done : (i : ℕ) → Met p n m i → off p i + len p i ≤ e
+  pub till : e ≤ x
+  pub ends : (e ≡ 8) ⊎ ((i : ℕ) × (i < n) × (off p i + len p i ≡ e))
+  pub zeros : acc ≡ 0 → (k : ℕ) → 8 ≤ k → k < x → ((i : ℕ) → i < n → In p i k → ⊥) → byte p k ≡ 0
+  pub spent : Apart p n → (k : ℕ) → k < x → byte m k ≡ 0
+  pub clear : Laid p n f → acc ≡ 0
+
+module _ (p t : List ℕ) (n f : ℕ) (b : Table p n f t) where
+  pub walked-none : 8 ≤ f → Walked p n f t t 8 8 0 0
+  walked-none h = record {
+    from = omega arith;
+    to = h;
+    later = λ k _. refl;
+    never = λ k z. z;
+    left = omega (arith, b .number);
+    apart = λ i j k u. absurd (fresh i u);
+    done = λ i u. absurd (fresh i u);
+    till = omega arith;
+    ends = inl refl;
+    zeros = λ _ k l g. absurd (omega arith);
+    spent = λ _ k l. inside-of p t n f b .below k l;
+    clear = λ _. refl;
+  }
+    where
+      fresh : (i : ℕ) → Met p n t i → ⊥
+      fresh i u = omega (arith, b .at i (u .0), b .short i (u .0), u .1)
+
+  module _ (m : List ℕ) (x e met acc : ℕ) (w : Walked p n f t m x e met acc) (l : x < f) where
+    -- a byte at which no record starts
+    pub walked-hole : byte m x ≡ 0 → Walked p n f t m (x + 1) e met (bitOr acc (byte p x))
+    walked-hole z = record {
+      from = omega (arith, w .from);
+      to = omega arith;
+      later = λ k h. w .later k (omega arith);
+      never = w .never;
+      left = w .left;
+      apart = w .apart;
+      done = w .done;
+      till = omega (arith, w .till);
+      ends = w .ends;
+      zeros = λ o k g h out. ⊎-elim (λ s. rw s (or-zero acc (byte p x) o .1)) (λ s. w .zeros (or-zero acc (byte p x) o .0) k g (omega (arith, s)) out) (same k x);
+      spent = λ a k h. ⊎-elim (λ s. rw s z) (λ s. w .spent a k (omega (arith, s))) (same k x);
+      clear = λ d. zero-or acc (byte p x) (w .clear d) (d .clear x (w .from) l (λ i h y. ⊎-elim
+          (λ s. omega (arith, y .to, w .till, w .done i (h, w .spent (d .apart) (off p i) s)))
+          (λ s. let o : off p i ≡ x = omega (arith, y .from) in omega (arith, w .later x (omega arith), b .at i h, ap (byte t) o, b .short i h))
+          (side (off p i) x)));
+    }
+
+    -- the record that starts here
+    pub here : 1 ≤ byte m x → (i : ℕ) × (i < n) × (off p i ≡ x) × (byte m x ≡ len p i)
+    here s = ⊎-elim
+        (λ z. absurd (omega (arith, w .later x (omega arith))))
+        (λ u. (u .0, u .1, u .2, w .later x (omega arith) ∙ sym (ap (byte t) (u .2)) ∙ b .at (u .0) (u .1)))
+        (b .only x)
+
+    pub walked-record : (q : List ℕ) → 1 ≤ byte m x → q ≡ set m x 0 → Walked p n f t q (x + byte m x) (x + byte m x) (met + 1) acc
+    walked-record q s g = record {
+      from = omega (arith, w .from);
+      to = omega (arith, b .inside i₀ (r .1), r .2, r .3);
+      later = λ k h. kept k (λ y. omega arith) ∙ w .later k (omega arith);
+      never = λ k z. ⊎-elim (λ y. rw y gone) (λ y. kept k y ∙ w .never k z) (same k x);
+      left = rw g (omega (arith, entries-less m x s, w .left));
+      apart = λ i j k u v y z. ⊎-elim
+          (λ a. ⊎-elim (λ c. a ∙ sym c) (λ c. absurd (past j k c z (rw a at y))) (before j v))
+          (λ a. ⊎-elim (λ c. absurd (past i k a y (rw c at z))) (λ c. w .apart i j k a c y z) (before j v))
+          (before i u);
+      done = λ i u. ⊎-elim (λ a. rw a (omega (arith, r .2, r .3))) (λ a. omega (arith, w .done i a, w .till)) (before i u);
+      till = omega arith;
+      ends = inr (i₀, r .1, omega (arith, r .2, r .3));
+      zeros = λ o k h c out. ⊎-elim (λ y. w .zeros o k h y out) (λ y. absurd (out i₀ (r .1) (within k y c))) (side k x);
+      spent = λ a k h. ⊎-elim
+          (λ y. rw y gone)
+          (λ y. kept k y ∙ ⊎-elim (λ c. w .spent a k c) (λ c. w .later k c ∙ ⊎-elim
+          (λ z. z)
+          (λ u. absurd (y (sym (u .2) ∙ ap (off p) (a (u .0) i₀ k (u .1) (r .1) (record { from = omega (arith, u .2); to = omega (arith, u .2, b .short (u .0) (u .1)) }) (within k c h)) ∙ r .2)))
+          (b .only k)) (side k x))
+          (same k x);
+      clear = w .clear;
+    }
+      where
+        r : (i : ℕ) × (i < n) × (off p i ≡ x) × (byte m x ≡ len p i)
+        r = here s
+
+        i₀ : ℕ
+        i₀ = r .0
+
+        gone : byte q x ≡ 0
+        gone = rw g (⊎-elim (λ h. getD-set-same m x 0 0 h) (λ h. absurd (omega (arith, List·getD-eq-default m 0 h))) (side x (length m)))
+
+        kept : (k : ℕ) → (k ≡ x → ⊥) → byte q k ≡ byte m k
+        kept k y = rw g (getD-set-other m x k 0 0 y)
+
+        -- a record that is met is this one or was met before
+        before : (i : ℕ) → Met p n q i → (i ≡ i₀) ⊎ Met p n m i
+        before i u = ⊎-elim (λ y. inl (b .starts i i₀ (u .0) (r .1) (y ∙ sym (r .2)))) (λ y. inr (u .0, sym (kept (off p i) y) ∙ u .1)) (same (off p i) x)
+
+        past : (i k : ℕ) → Met p n m i → In p i k → In p i₀ k → ⊥
+        past i k u y z = omega (arith, w .done i u, w .till, y .to, z .from, r .2, r .3)
+
+        within : (k : ℕ) → x ≤ k → k < x + byte m x → In p i₀ k
+        within k h c = record { from = omega (arith, r .2, r .3); to = omega (arith, r .2, r .3) }
+
+  module _ (m : List ℕ) (e met acc : ℕ) (w : Walked p n f t m f e met acc) where
+    pub inside-still : Inside f m
+    inside-still = record { below = λ k h. w .never k (inside-of p t n f b .below k h); above = λ k h. w .never k (inside-of p t n f b .above k h) }
+
+    -- all met
+    pub emptied : met ≡ n → Zero m
+    emptied h = none-entries m (omega (arith, w .left))
+
+    pub laid-of : 17 ≤ f → acc ≡ 0 → met ≡ n → e ≡ f → Laid p n f
+    laid-of l z h s = record {
+      apart = λ i j k u v. w .apart i j k (u, emptied h (off p i)) (v, emptied h (off p j));
+      clear = w .zeros z;
+      top = ⊎-elim (λ y. absurd (omega arith)) (λ u. (u .0, u .1, u .2 ∙ s)) (w .ends);
+    }
+
+    pub met-all : Laid p n f → met ≡ n
+    met-all d = omega (arith, w .left, entries-none m (λ k. ⊎-elim (w .spent (d .apart) k) (inside-still .above k) (side k f)))
+
+    pub end-top : Laid p n f → e ≡ f
+    end-top d =
+        let u = d .top in
+        omega (arith, w .till, u .2, w .done (u .0) (u .1, none-entries m (omega (arith, w .left, met-all d)) (off p (u .0))))

@@ -1,0 +1,64 @@
+-- `page_check::alike` meets its contract. Assumes nothing.
+use Prim.Native.Nat.{_-_, _≤_}
+use mathlib.Core.Path.{_≡_, sym, _∙_}
+use native.Mathlib.Omega.{arith}
+use Rattle.ground.proofs.Tests.{says-same}
+use Rattle.hash.specs.Fnv.{fnv}
+use Rattle.page.specs.Page.{count, code}
+use Rattle.page_check.proofs.Prefixes.{Ored, ored-one, ored-more, top-zero}
+use Rattle.page_check.proofs.alike.Statement.{statement}
+use Rattle.page_check.proofs.alike.Tie as tie
+
+abbrev Inv-loop : tie.InvT-loop
+Inv-loop page first k n acc₀ i₀ acc i = (i ≤ n) × Ored k (λ j. fnv (code page j)) first i acc
+
+abbrev μ-loop : tie.MeasureT-loop
+μ-loop page first k n acc₀ i₀ acc i = n - i
+
+get16-requires : tie.Need-get16-requires Inv-loop μ-loop
+get16-requires c κs = omega (arith, c .before .pre .0 .rules .least)
+
+loop-holds : tie.Need-loop-holds Inv-loop μ-loop
+loop-holds c = let s = c .before .before .pre in (omega (arith, s .0 .some, c .get16 .ensures .0), ored-one _ (s .2) _ _ (s .1))
+
+hash-slot-requires : tie.Need-hash-slot-requires Inv-loop μ-loop
+hash-slot-requires c κs = (c .before .before .before .before .pre .0, omega (arith, c .before .before .get16 .ensures .0))
+
+add-i : tie.Need-add-i Inv-loop μ-loop
+add-i c = omega arith
+
+loop-less : tie.Need-loop-less Inv-loop μ-loop
+loop-less c = omega arith
+
+loop-again : tie.Need-loop-again Inv-loop μ-loop
+loop-again c =
+    let s = c .before .before .before .before .before .pre in
+    (omega arith, rw (c .hash-slot .ensures) (ored-more _ (s .2) _ _ _ _ (c .before .before .loop .inv .1)))
+
+shares-requires : tie.Need-shares-requires Inv-loop μ-loop
+shares-requires c κs = c .before .before .before .before .pre .2
+
+returns : tie.Need-returns Inv-loop μ-loop
+returns c =
+    let s = c .before .before .before .before .before in
+    let a = s .args in
+    let l = c .before .before .loop in
+    let e : l .i ≡ count (a .page .now) = omega (arith, c .before .before .before .get16 .ensures .0) in
+    let o : Ored (a .k) (λ j. fnv (code (a .page .now) j)) (a .first) (count (a .page .now)) (l .acc) = rw e at (l .inv .1) in
+    let z = top-zero (a .k) (s .pre .2) in
+    says-same (c .shares .result) (c .shares .ensures) (λ t. rw (s .pre .1) at (o .so (sym t ∙ z))) (λ h. z ∙ sym (o .back (rw (s .pre .1) h)))
+
+pub alike-spec : {M : Type 1} → statement M
+alike-spec =
+    tie.close
+    (tie.spec
+    Inv-loop
+    μ-loop
+    get16-requires
+    loop-holds
+    hash-slot-requires
+    add-i
+    loop-less
+    loop-again
+    shares-requires
+    returns)

@@ -1,0 +1,42 @@
+-- The table of starts: a record's length at its start, zero elsewhere. Assumes nothing.
+use Prim.Native.Nat.{ℕ, zero, suc, _+_, _-_, _≤_, _<_}
+use mathlib.Core.Path.{_≡_}
+use mathlib.Core.Logic.{_⊎_}
+use mathlib.Core.List.{List, [], _∷_}
+use Rattle.ground.specs.Lists.{byte, part}
+use Rattle.words.specs.Codes.{Before}
+use Rattle.page.specs.Page.{In, off, len}
+use Rattle.page_check.specs.Rules.{WordOk, offOf, lenOf}
+
+-- how many bytes are not zero
+unfoldable pub entries : List ℕ → ℕ
+entries [] = zero
+entries (zero ∷ t) = entries t
+entries (suc x ∷ t) = suc (entries t)
+
+-- the first n records lie between 8 and f, no two start at one byte, and t has an entry for each and no other
+pub record Table (p : List ℕ) (n f : ℕ) (t : List ℕ) : Type 0 where
+  pub after : (i : ℕ) → i < n → 8 ≤ off p i
+  pub short : (i : ℕ) → i < n → 1 ≤ len p i
+  pub inside : (i : ℕ) → i < n → off p i + len p i ≤ f
+  pub starts : (i j : ℕ) → i < n → j < n → off p i ≡ off p j → i ≡ j
+  pub at : (i : ℕ) → i < n → byte t (off p i) ≡ len p i
+  pub only : (k : ℕ) → (byte t k ≡ 0) ⊎ ((i : ℕ) × (i < n) × (off p i ≡ k))
+  pub number : entries t ≡ n
+
+-- zeros before 8 and from f on
+pub record Inside (f : ℕ) (t : List ℕ) : Type 0 where
+  pub below : (k : ℕ) → k < 8 → byte t k ≡ 0
+  pub above : (k : ℕ) → f ≤ k → byte t k ≡ 0
+
+-- no byte is in two of the first n records, those in none are zero from 8 up to f, and a record ends at f
+pub record Laid (p : List ℕ) (n f : ℕ) : Type 0 where
+  pub apart : (i j k : ℕ) → i < n → j < n → In p i k → In p j k → i ≡ j
+  pub clear : (k : ℕ) → 8 ≤ k → k < f → ((i : ℕ) → i < n → In p i k → ⊥) → byte p k ≡ 0
+  pub top : (i : ℕ) × (i < n) × (off p i + len p i ≡ f)
+
+-- a slot's word w after a code from a up to b: its own rules, in code order, no entry at its start
+pub record NextOk (p t : List ℕ) (f a b w : ℕ) : Type 0 where
+  pub sound : WordOk p f w
+  pub rises : Before (part p a (b - a)) (part p (offOf w + 8) (lenOf w - 8))
+  pub vacant : byte t (offOf w) ≡ 0

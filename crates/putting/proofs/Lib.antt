@@ -1,0 +1,6 @@
+pub mod Puts
+pub mod NewBuckets
+pub mod Weighs
+pub mod Appends
+pub mod Splits
+pub mod Heavy

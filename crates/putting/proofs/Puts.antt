@@ -1,0 +1,184 @@
+-- PUT on an accepted store where a page holds the hash of the code: a known code, and a new one that fits. Over any page size and hash. Assumes nothing.
+use mathlib.Core.Path.{_≡_, refl, sym, ap, subst, _∙_}
+use mathlib.Core.List.{List, _∷_, map, List·Memᴰ, List·Memᴰ·head}
+use mathlib.Core.Logic.{inl, inr, ⊎-elim}
+use mathlib.Core.Option.{some, none}
+use Prim.Native.Nat.{ℕ, _+_, _-_, _*_, _≤_, _<_}
+use native.Mathlib.Omega.{arith}
+use lib.ListN.{length, getD, set, length-set}
+use Rattle.ground.proofs.Tests.{none-some}
+use Rattle.ground.specs.Lists.{byte}
+use Rattle.ground.specs.Ladder.{Answers}
+use Rattle.ground.proofs.Sides.{side}
+use Rattle.ground.proofs.Tables.{length-tab}
+use Rattle.page.specs.Page.{Slotted, BucketPage, depth, count, frontier, code, place, rows, rowAt}
+use Rattle.page.specs.Steps.{Overwritten}
+use Rattle.page.specs.Packed.{Fitting, Added}
+use Rattle.page.specs.Places as Places
+use Rattle.partition.specs.Bits.{top}
+use Rattle.partition.specs.declared.Shape.{Shape}
+use Rattle.partition.specs.Partition.{Row, need, needs}
+use Rattle.partition.specs.Listing.{insert, without, inOrder, placeOf}
+use Rattle.partition.proofs.Tree.{pfx}
+use Rattle.partition.proofs.Sorted.{by-code, in-order-reordered, order-put}
+use Rattle.partition.proofs.Reorders.{turned, mem-reordered}
+use Rattle.partition.proofs.Directory.{holds-top}
+use Rattle.store.specs.Pages.{size, page, dirDepth, Page, free, bucket, contents, asRow, rowsHeld}
+use Rattle.store.specs.Accepted.{Accepted}
+use Rattle.store.specs.Moves.{find, holds, added, placeOn, overwriteOn, overwritten, putNew}
+use Rattle.store.specs.Tables.{replaced, new, Refusal6, Refusal7, putAccepted}
+use Rattle.store.specs.Demands.{Sized, Hash}
+use Rattle.store.proofs.Shows.{prefixOn, Holding, Shows}
+use Rattle.store.proofs.Shown.{within-pages, page-row, find-only}
+use Rattle.store.proofs.Unique.{page-long}
+use Rattle.store.proofs.Showing.{accepted-shows, pages-held}
+use Rattle.store.proofs.Reading.{Naming, place-on}
+use Rattle.store.proofs.OverShows.{over-one, prefix-over}
+use Rattle.store.proofs.MoveRows.{over-shown}
+use Rattle.store.proofs.PageTies.{slot-of, found-at, found-not, page-order, fits-needs, added-rows, overwritten-rows}
+use Rattle.store.proofs.Records.{rows-added}
+use Rattle.store.proofs.Rooms.{set-holds}
+use Rattle.store.proofs.PutCases.{fits-six, fits-seven, put-fits-is}
+use Rattle.store.proofs.PutRows.{put-shown}
+use Rattle.store.proofs.Accepting.{Laid, accepted-laid, laid-becomes}
+use Rattle.store.proofs.Views.{setPage, set-long}
+use Rattle.directory.proofs.OnePage.{laid-set}
+
+module _ (S : Shape) (h : List ℕ → ℕ) (sized : Sized S) (hash : Hash h) (s : List ℕ) (A : Accepted S h s) (c : List ℕ) (p : ℕ) (U : Naming S h s (top (dirDepth s) (h c)) p) where
+  abbrev g : List ℕ
+  g = page S s p
+
+  abbrev gs : List Page
+  gs = contents S s
+
+  shows : Shows S h (rowsHeld S s) gs
+  shows = accepted-shows S h sized hash s A
+
+  slotted : Slotted g
+  slotted = U .bytes .rules .rules
+
+  long : length g ≡ size S
+  long = page-long S s p (U .to)
+
+  -- the page has the prefix of the code's hash
+  pub begins : prefixOn h (depth g) (rows g) ≡ top (depth g) (h c)
+  begins = sym (holds-top (dirDepth s) (h c) (pfx (depth g) (prefixOn h (depth g) (rows g))) (U .low) .0 (U .calls .bits))
+
+  placed : placeOf (rowsHeld S s) c ≡ placeOf (map asRow (rows g)) c
+  placed = place-on S h (rowsHeld S s) gs shows c (p - 2) (depth g) (rows g) (U .holding) (sym begins)
+
+  -- ---- a known code
+
+  module _ (i : ℕ) (b : i < count g) (e : code g i ≡ c) (pl q : List ℕ) (O : Overwritten g i pl q) where
+    abbrev known-row : Row
+    known-row = record { code = c; place = pl }
+
+    known-rows : rows q ≡ map (placeOn known-row) (rows g)
+    known-rows = subst (λ x. rows q ≡ map (placeOn (record { code = x; place = pl })) (rows g)) e (overwritten-rows g i pl q slotted b O)
+
+    known-page : BucketPage q
+    known-page = record {
+      rules = O .page;
+      some = omega (arith, length-tab (rowAt q) (count q), length-tab (rowAt g) (count g), ap length (O .rowsOf) ∙ length-set (rows g) i _);
+    }
+
+    known-laid : Laid S h (setPage S s p q) (overwritten gs known-row)
+    known-laid = subst (Laid S h (setPage S s p q)) (sym is)
+        (laid-set S h sized s gs (accepted-laid S h sized hash s A) p (depth g) (rows g) (U .from) (U .to) (U .holding) q known-page (O .long ∙ long) (O .deep)
+        (ap (prefixOn h (depth g)) known-rows ∙ prefix-over S h known-row (depth g) (rows g)))
+      where
+        here : find (holds h (h c)) gs ≡ p - 2
+        here = find-only S h (rowsHeld S s) gs shows (h c) (p - 2) (depth g) (rows g) (U .holding) begins
+
+        is : overwritten gs known-row ≡ set gs (p - 2) (bucket (depth g) (rows q))
+        is =
+            over-one S h known-row (rowsHeld S s) gs shows ∙ ap (λ j. set gs j (overwriteOn known-row (getD gs j free))) here
+            ∙ ap (λ x. set gs (p - 2) (overwriteOn known-row x)) (U .holding) ∙ ap (λ l. set gs (p - 2) (bucket (depth g) l)) (sym known-rows)
+
+    pub put-known : ((k : ℕ) → byte (setPage S s p q) k < 256) → Answers (putAccepted S h s (record { code = c; place = pl })) (replaced (Places.place (place g i)), setPage S s p q)
+    put-known small =
+        let old : placeOf (rowsHeld S s) c ≡ some (place g i) = placed ∙ found-at g slotted c i b e in
+        inl (
+          place g i,
+          (
+            old,
+            (
+              refl,
+              laid-becomes S h sized hash (setPage S s p q) (known-row ∷ without (λ x. x .code) c (rowsHeld S s)) (overwritten gs known-row) known-laid
+                  (over-shown S h sized hash s known-row (place g i) A old) s (set-long S s p q (U .to) (O .long ∙ long)) small,
+            ),
+          ),
+        )
+
+  -- ---- a new code that fits
+
+  module _ (i : ℕ) (pl t q t′ : List ℕ) (F : Fitting g i c pl) (D : Added g i c pl t q t′) where
+    abbrev new-row : Row
+    new-row = record { code = c; place = pl }
+
+    -- the page that insertion leaves
+    record Page-now : Type 0 where
+      page : Slotted q
+      long : length q ≡ length g
+      deep : depth q ≡ depth g
+
+    page-now : Page-now
+    page-now = ⊎-elim
+        (λ l. let T = D .tight l .0 in record { page = T .2 .page; long = T .2 .long ∙ T .1 .long; deep = T .2 .deep ∙ T .1 .deep })
+        (λ l. let I = D .roomy l .0 in record { page = I .page; long = I .long; deep = I .deep })
+        (side (length g) (frontier g + 4 * count g + (12 + length c)))
+
+    absent : placeOf (rowsHeld S s) c ≡ none
+    absent = placed ∙ found-not g slotted c i (F .belongs)
+
+    fits : needs (new-row ∷ map asRow (rows g)) ≤ S .capacity
+    unfolding need
+    fits = fits-needs g slotted S new-row long .0 (F .fits)
+
+    rows-now : rows q ≡ added S (rows g) new-row
+    rows-now = added-rows S g i c pl t q t′ long F D
+
+    six : Refusal6 S h (rowsHeld S s) new-row → ⊥
+    six x = omega (arith, fits-six S h hash (rowsHeld S s) gs shows new-row (p - 2) (depth g) (rows g) (U .holding) begins fits)
+
+    seven : Refusal7 S h s (rowsHeld S s) new-row → ⊥
+    seven x = omega (arith, fits-seven S h hash (rowsHeld S s) gs shows new-row (p - 2) (depth g) (rows g) (U .holding) begins fits, pages-held S s)
+
+    later : Shows S h (new-row ∷ rowsHeld S s) (putNew S h gs new-row)
+    later = put-shown S h sized hash s new-row A absent six seven
+
+    is : putNew S h gs new-row ≡ set gs (p - 2) (bucket (depth g) (rows q))
+    is =
+        put-fits-is S h hash (rowsHeld S s) gs shows new-row (p - 2) (depth g) (rows g) (U .holding) begins fits
+        ∙ ap (λ l. set gs (p - 2) (bucket (depth g) l)) (sym rows-now)
+
+    there : List·Memᴰ new-row (map asRow (rows q))
+    there =
+        let l : List Row = map asRow (rows g) in
+        let e : inOrder (new-row ∷ l) ≡ map asRow (rows q) =
+        order-put new-row l ∙ ap (insert by-code new-row) (page-order g slotted) ∙ sym (rows-added S (rows g) new-row) ∙ ap (map asRow) (sym rows-now) in
+        subst (List·Memᴰ new-row) e (mem-reordered (turned (in-order-reordered (new-row ∷ l))) (List·Memᴰ·head refl))
+
+    -- the page has the prefix that it had
+    begins-now : prefixOn h (depth g) (rows q) ≡ prefixOn h (depth g) (rows g)
+    begins-now =
+        let holding : Holding (putNew S h gs new-row) (p - 2) (depth g) (rows q) =
+        ap (λ l. getD l (p - 2) free) is ∙ set-holds gs (p - 2) (depth g) (rows q) (within-pages gs (p - 2) (depth g) (rows g) (U .holding)) in
+        sym (page-row S h (new-row ∷ rowsHeld S s) (depth g) (rows q) (later .page (p - 2) (depth g) (rows q) holding) new-row .0 there .1) ∙ sym begins
+
+    pub put-fitted : ((k : ℕ) → byte (setPage S s p q) k < 256) → Answers (putAccepted S h s (record { code = c; place = pl })) (new, setPage S s p q)
+    put-fitted small =
+        let N = page-now in
+        let Q : BucketPage q = record { rules = N .page; some = let w = slot-of q new-row there in omega (arith, w .1) } in
+        let L : Laid S h (setPage S s p q) (putNew S h gs new-row) = subst (Laid S h (setPage S s p q)) (sym is)
+        (laid-set S h sized s gs (accepted-laid S h sized hash s A) p (depth g) (rows g) (U .from) (U .to) (U .holding) q Q (N .long ∙ long) (N .deep) begins-now) in
+        inr (
+          (λ _. none-some absent),
+          inr (
+            (λ _. six),
+            inr (
+              (λ _. seven),
+              (refl, laid-becomes S h sized hash (setPage S s p q) (new-row ∷ rowsHeld S s) (putNew S h gs new-row) L later s (set-long S s p q (U .to) (N .long ∙ long)) small),
+            ),
+          ),
+        )

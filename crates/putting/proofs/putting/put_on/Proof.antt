@@ -1,0 +1,172 @@
+-- `putting::put_on` meets its contract, by where the code stands. Assumes nothing.
+use Rattle.directory.proofs.OnePage.{lent}
+use Rattle.store.proofs.Reading.{Naming}
+use Rattle.store.specs.Tables.{putAccepted, meaning}
+use Rattle.store.specs.Pages.{S1024, page, dirDepth}
+use Rattle.partition.specs.Bits.{top}
+use Rattle.page.specs.Found.{FoundIn}
+use Rattle.page.specs.Page.{Slotted, Belongs, count, free, code}
+use Rattle.hash.specs.Fnv.{fnv}
+use Rattle.ground.specs.Ladder.{Answers}
+use denote.Ref.{now}
+use native.Mathlib.Omega.{arith}
+use Prim.Native.Nat.{ℕ, _<_}
+use mathlib.Core.List.{List}
+use mathlib.Core.Path.{_≡_, sym, ap, subst, _∙_}
+use borrow.Author.Needs.{needs}
+use Rattle.putting.proofs.putting.put_on.Statement.{statement}
+use Rattle.putting.proofs.putting.put_on.Tie as tie
+
+module _ (a : tie.After-find-code) where
+  abbrev z : tie.Start
+  z = a .before .before .before .before .before .before
+
+  abbrev s : List ℕ
+  s = now (z .args .s)
+
+  abbrev key : List ℕ
+  key = now (z .args .key)
+
+  abbrev g : List ℕ
+  g = page S1024 s (z .args .p)
+
+  found : FoundIn g key (a .find-code .result)
+  found = subst (λ x. FoundIn x key (a .find-code .result)) (lent s (z .args .p)) (a .find-code .ensures)
+
+-- the code stands at a slot
+module _ (b : tie.After-found) where
+  abbrev a1 : tie.After-find-code
+  a1 = b .before .before
+
+  at : (b .found .given .0 .0 < count (g a1)) × (code (g a1) (b .found .given .0 .0) ≡ key a1)
+  at = subst (FoundIn (g a1) (key a1)) (b .found .given .1) (found a1)
+
+-- or it belongs at one, and there is so much room
+module _ (b : tie.After-get16) where
+  abbrev b2 : tie.After-found2
+  b2 = b .before .before .before .before
+
+  abbrev a2 : tie.After-find-code
+  a2 = b2 .before .before
+
+  belongs : Belongs (g a2) (b2 .found2 .given .0 .0) (key a2)
+  belongs = subst (FoundIn (g a2) (key a2)) (b2 .found2 .given .1) (found a2)
+
+  room : b .get16 .result ≡ free (g a2)
+  room = b .get16 .ensures .0 ∙ ap free (lent (s a2) (z a2 .args .p))
+
+mul-a : tie.Need-mul-a
+mul-a c = search needs
+
+add-e : tie.Need-add-e
+add-e c = search needs
+
+sub-find-code : tie.Need-sub-find-code
+sub-find-code c = search needs
+
+part-find-code-start : tie.Need-part-find-code-start
+part-find-code-start c = search needs
+
+part-find-code-end : tie.Need-part-find-code-end
+part-find-code-end c = search needs
+
+find-code-requires : tie.Need-find-code-requires
+find-code-requires c κs = let z = c .before .before .before .before .before in subst Slotted (sym (lent (now (z .args .s)) (z .args .p))) (z .pre .1 .bytes .rules .rules)
+
+enum-known-found : tie.Need-enum-known-found
+enum-known-found c = search needs
+
+replace-requires : tie.Need-replace-requires
+replace-requires c κs =
+    let b = c .before .before in
+    let q = z (a1 b) .pre in
+    (q .0 .accepted, subst (λ x. Naming S1024 fnv (s (a1 b)) (top (dirDepth (s (a1 b))) (fnv x)) (z (a1 b) .args .p)) (sym (at b .1)) (q .1), at b .0, q .0 .natural)
+
+enum-known-found-2 : tie.Need-enum-known-found-2
+enum-known-found-2 c = search needs
+
+sub-get16 : tie.Need-sub-get16
+sub-get16 c = search needs
+
+part-get16-start : tie.Need-part-get16-start
+part-get16-start c = search needs
+
+part-get16-end : tie.Need-part-get16-end
+part-get16-end c = search needs
+
+get16-requires : tie.Need-get16-requires
+get16-requires c κs = search needs
+
+add-if1 : tie.Need-add-if1
+add-if1 c = search needs
+
+add-row-requires : tie.Need-add-row-requires
+add-row-requires c κs =
+    let b = c .before .before in
+    let q = z (a2 b) .pre in (
+      q .0 .accepted,
+      q .1,
+      record {
+        page = q .1 .bytes .rules .rules;
+        belongs = belongs b;
+        natural = q .0 .natural;
+        some = q .0 .some;
+        most = q .0 .short;
+        fits = omega (arith, room b, c .before .if1 .taken);
+      },
+    )
+
+same-length : tie.Need-same-length
+same-length c = search needs
+
+returns : tie.Need-returns
+returns c = search needs
+
+split-requires : tie.Need-split-requires
+split-requires c κs =
+    let b = c .before .before in
+    let q = z (a2 b) .pre in
+    (q .0, q .1, belongs b, omega (arith, room b, c .before .if1 .left))
+
+same-length-2 : tie.Need-same-length-2
+same-length-2 c = search needs
+
+returns-2 : tie.Need-returns-2
+returns-2 c =
+    let b = c .before .before .before .before .before in
+    let w = c .before .before .replace in
+    let q = z (a1 b) .args in
+    subst (λ x. Answers (putAccepted S1024 fnv (s (a1 b)) (record { code = x; place = now (q .place) })) (meaning (w .result), w .last .0)) (at b .1) (w .ensures)
+
+same-length-3 : tie.Need-same-length-3
+same-length-3 c = search needs
+
+returns-3 : tie.Need-returns-3
+returns-3 c = search needs
+
+pub put-on-spec : {M : Type 1} → statement M
+put-on-spec =
+    tie.close
+    (tie.spec
+    mul-a
+    add-e
+    sub-find-code
+    part-find-code-start
+    part-find-code-end
+    find-code-requires
+    enum-known-found
+    replace-requires
+    enum-known-found-2
+    sub-get16
+    part-get16-start
+    part-get16-end
+    get16-requires
+    add-if1
+    add-row-requires
+    same-length
+    returns
+    split-requires
+    same-length-2
+    returns-2
+    same-length-3
+    returns-3)

@@ -1,0 +1,75 @@
+-- `putting::put_row` meets its contract, by the entry of the hash. Assumes nothing.
+use Rattle.store.proofs.Reading.{entryOf, Naming, lookup-page}
+use Rattle.store.proofs.Rules.{opened}
+use Rattle.store.specs.Demands.{sized-1024}
+use Rattle.store.specs.Pages.{S1024, dirDepth, entryAt}
+use Rattle.partition.specs.Bits.{top}
+use Rattle.hash.specs.Fnv.{fnv, fnv-lt}
+use denote.Ref.{now}
+use native.Mathlib.Omega.{arith}
+use Prim.Native.Nat.{ℕ}
+use mathlib.Core.List.{List}
+use mathlib.Core.Path.{_≡_, sym, ap, subst, _∙_}
+use borrow.Author.Needs.{needs}
+use Rattle.putting.proofs.putting.put_row.Statement.{statement}
+use Rattle.putting.proofs.putting.put_row.Tie as tie
+
+-- the entry of the hash
+module _ (b : tie.After-entry-of) where
+  abbrev z : tie.Start
+  z = b .before .before .before .before .before .before
+
+  abbrev s : List ℕ
+  s = now (z .args .s)
+
+  abbrev key : List ℕ
+  key = now (z .args .key)
+
+  entry : b .entry-of .result ≡ entryOf S1024 fnv s key
+  entry = b .entry-of .ensures .0 ∙ ap (λ x. entryAt S1024 s (top (dirDepth s) x)) (b .before .before .hash .ensures)
+
+hash-requires : tie.Need-hash-requires
+hash-requires c κs = search needs
+
+entry-of-requires : tie.Need-entry-of-requires
+entry-of-requires c κs =
+    let z = c .before .before .before .before .before in
+    (sized-1024, omega (arith, z .pre .accepted .long .least), opened S1024 fnv (now (z .args .s)) (z .pre .accepted) .page0 .depth)
+
+new-bucket-requires : tie.Need-new-bucket-requires
+new-bucket-requires c κs =
+    let b = c .before .before in
+    (z b .pre, b .before .before .hash .ensures, sym (entry b) ∙ c .before .if1 .taken)
+
+same-length : tie.Need-same-length
+same-length c = search needs
+
+returns : tie.Need-returns
+returns c = search needs
+
+put-on-requires : tie.Need-put-on-requires
+put-on-requires c κs =
+    let b = c .before .before in (
+      z b .pre,
+      subst (λ p. Naming S1024 fnv (s b) (top (dirDepth (s b)) (fnv (key b))) p) (sym (entry b))
+          (lookup-page S1024 fnv sized-1024 fnv-lt (s b) (z b .pre .accepted) (key b) (λ q. c .before .if1 .left (entry b ∙ q)) .0),
+    )
+
+same-length-2 : tie.Need-same-length-2
+same-length-2 c = search needs
+
+returns-2 : tie.Need-returns-2
+returns-2 c = search needs
+
+pub put-row-spec : {M : Type 1} → statement M
+put-row-spec =
+    tie.close
+    (tie.spec
+    hash-requires
+    entry-of-requires
+    new-bucket-requires
+    same-length
+    returns
+    put-on-requires
+    same-length-2
+    returns-2)

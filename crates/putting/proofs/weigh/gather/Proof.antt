@@ -1,0 +1,164 @@
+-- `putting::gather` meets its contract: slot by slot, and then the new row. Assumes nothing.
+use Rattle.putting.proofs.Weighs.{told}
+use Rattle.putting.specs.Split.{weight}
+use Rattle.store_check.proofs.Fills.{Filled, filled-none, filled-more}
+use Rattle.page.proofs.Sums.{len-of-code}
+use Rattle.page.proofs.Slots.{Lies, lies}
+use Rattle.page.specs.Page.{count, code}
+use Rattle.hash.specs.Fnv.{fnv}
+use lib.ListN.{length, length-set}
+use denote.Ref.{now}
+use native.Mathlib.Omega.{arith}
+use Prim.Native.Nat.{ℕ, _+_, _-_, _≤_, _<_}
+use mathlib.Core.List.{List}
+use mathlib.Core.Path.{_≡_, refl, sym, _∙_}
+use borrow.Author.Needs.{needs}
+use Rattle.putting.proofs.weigh.gather.Statement.{statement}
+use Rattle.putting.proofs.weigh.gather.Tie as tie
+
+abbrev Inv-loop : tie.InvT-loop
+Inv-loop page key hs₀ ns₀ n i₀ hs ns i = (i ≤ n) × Filled (λ j x. x ≡ fnv (code page j)) 79 0 i hs × Filled (λ j x. x ≡ weight (code page j)) 79 0 i ns
+
+abbrev μ-loop : tie.MeasureT-loop
+μ-loop page key hs₀ ns₀ n i₀ hs ns i = n - i
+
+-- the page's rows
+module _ (l : tie.At-loop Inv-loop μ-loop) where
+  abbrev z : tie.Start Inv-loop μ-loop
+  z = l .before .before .before .before .before .before
+
+  abbrev page : List ℕ
+  page = now (z .args .page)
+
+  all : l .before .get16 .result ≡ count page
+  all = l .before .get16 .ensures .0
+
+  small : l .before .get16 .result < 79
+  small = omega (arith, all, z .pre .2)
+
+  module _ (t : l .loop .i < l .before .get16 .result) where
+    there : l .loop .i < count page
+    there = omega (arith, all)
+
+    slot : Lies page (l .loop .i)
+    slot = lies (l .loop .i) (z .pre .0) there
+
+get16-requires : tie.Need-get16-requires Inv-loop μ-loop
+get16-requires c κs = omega (arith, c .before .before .before .before .pre .0 .least)
+
+loop-holds : tie.Need-loop-holds Inv-loop μ-loop
+loop-holds c =
+    let z = c .before .before .before .before .before in
+    (omega arith, filled-none _ 79 0 _ (z .pre .3), filled-none _ 79 0 _ (z .pre .4))
+
+extent-of-requires : tie.Need-extent-of-requires Inv-loop μ-loop
+extent-of-requires c κs = let l = c .before in let s = slot l (c .loop-test .taken) in let i = there l (c .loop-test .taken) in (omega (arith, i, s), omega (arith, s))
+
+hash-slot-requires : tie.Need-hash-slot-requires Inv-loop μ-loop
+hash-slot-requires c κs =
+    let l = c .before .before in
+    let t = there l (c .before .loop-test .taken) in
+    (record { rules = z l .pre .0; some = omega (arith, t) }, t)
+
+mul-hs : tie.Need-mul-hs Inv-loop μ-loop
+mul-hs c = let l = c .before .before .before in omega (arith, small l, c .before .before .loop-test .taken)
+
+slice-write-hs : tie.Need-slice-write-hs Inv-loop μ-loop
+slice-write-hs c = let l = c .before .before .before in omega (arith, small l, c .before .before .loop-test .taken, l .loop .inv .1 .long)
+
+add-ns : tie.Need-add-ns Inv-loop μ-loop
+add-ns c =
+    let l = c .before .before .before .before in
+    omega (arith, slot l (c .before .before .before .loop-test .taken), c .before .before .extent-of .ensures .1)
+
+cast-ns : tie.Need-cast-ns Inv-loop μ-loop
+cast-ns c =
+    let l = c .before .before .before .before in
+    omega (arith, slot l (c .before .before .before .loop-test .taken), c .before .before .extent-of .ensures .1)
+
+mul-ns : tie.Need-mul-ns Inv-loop μ-loop
+mul-ns c = let l = c .before .before .before .before in omega (arith, small l, c .before .before .before .loop-test .taken)
+
+slice-write-ns : tie.Need-slice-write-ns Inv-loop μ-loop
+slice-write-ns c = let l = c .before .before .before .before in omega (arith, small l, c .before .before .before .loop-test .taken, l .loop .inv .2 .long)
+
+add-i : tie.Need-add-i Inv-loop μ-loop
+add-i c = let l = c .before .before .before .before in omega (arith, small l, c .before .before .before .loop-test .taken)
+
+loop-less : tie.Need-loop-less Inv-loop μ-loop
+loop-less c = omega (arith, c .before .before .before .loop-test .taken)
+
+loop-again : tie.Need-loop-again Inv-loop μ-loop
+loop-again c =
+    let l = c .before .before .before .before in
+    let t = c .before .before .before .loop-test .taken in
+    let m : l .loop .i < 79 = omega (arith, small l, t) in (
+      omega (arith, t),
+      filled-more _ (l .loop .inv .1) m (c .before .hash-slot .ensures),
+      filled-more _ (l .loop .inv .2) m (omega (arith, len-of-code (page l) (l .loop .i) (z l .pre .0) (there l t), c .before .before .extent-of .ensures .1)),
+    )
+
+hash-requires : tie.Need-hash-requires Inv-loop μ-loop
+hash-requires c κs = search needs
+
+mul-hs-2 : tie.Need-mul-hs-2 Inv-loop μ-loop
+mul-hs-2 c = omega (arith, small (c .before .before))
+
+slice-write-hs-2 : tie.Need-slice-write-hs-2 Inv-loop μ-loop
+slice-write-hs-2 c = let l = c .before .before in omega (arith, small l, l .loop .inv .1 .long)
+
+add-ns-2 : tie.Need-add-ns-2 Inv-loop μ-loop
+add-ns-2 c = omega (arith, z (c .before .before) .pre .1)
+
+cast-ns-2 : tie.Need-cast-ns-2 Inv-loop μ-loop
+cast-ns-2 c = omega (arith, z (c .before .before) .pre .1)
+
+mul-ns-2 : tie.Need-mul-ns-2 Inv-loop μ-loop
+mul-ns-2 c = omega (arith, small (c .before .before))
+
+slice-write-ns-2 : tie.Need-slice-write-ns-2 Inv-loop μ-loop
+slice-write-ns-2 c = let l = c .before .before in omega (arith, small l, l .loop .inv .2 .long)
+
+same-length : tie.Need-same-length Inv-loop μ-loop
+same-length c = let l = c .before .before in length-set (l .loop .hs) (l .before .get16 .result) (c .hash .result) ∙ l .loop .inv .1 .long ∙ sym (z l .pre .3)
+
+same-length-2 : tie.Need-same-length-2 Inv-loop μ-loop
+same-length-2 c = let l = c .before .before in length-set (l .loop .ns) (l .before .get16 .result) (12 + length (now (z l .args .key))) ∙ l .loop .inv .2 .long ∙ sym (z l .pre .4)
+
+returns : tie.Need-returns Inv-loop μ-loop
+returns c =
+    let l = c .before .before in
+    let n = l .before .get16 .result in
+    let e = c .before .loop-test .left in
+    let key = now (z l .args .key) in
+    (told fnv (page l) key (l .loop .inv .1) n (all l) e (small l) _ (c .hash .ensures), told weight (page l) key (l .loop .inv .2) n (all l) e (small l) _ refl)
+
+pub gather-spec : {M : Type 1} → statement M
+gather-spec =
+    tie.close
+    (tie.spec
+    Inv-loop
+    μ-loop
+    get16-requires
+    loop-holds
+    extent-of-requires
+    hash-slot-requires
+    mul-hs
+    slice-write-hs
+    add-ns
+    cast-ns
+    mul-ns
+    slice-write-ns
+    add-i
+    loop-less
+    loop-again
+    hash-requires
+    mul-hs-2
+    slice-write-hs-2
+    add-ns-2
+    cast-ns-2
+    mul-ns-2
+    slice-write-ns-2
+    same-length
+    same-length-2
+    returns)

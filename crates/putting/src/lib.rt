@@ -1,0 +1,9 @@
+// Put: a known code's place, a new row in its bucket, a new bucket, a split.
+mod bucket;
+mod putting;
+mod split;
+mod vacant;
+mod weigh;
+
+pub use putting::put;
+pub use putting::put_row;

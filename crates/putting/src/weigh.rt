@@ -1,0 +1,76 @@
+// A page's rows and a new row together: their hashes and needs, what those of a prefix need, and how many buckets they make.
+ghost use mathlib.Core.Path.{_≡_};
+ghost use mathlib.Core.List.{_∷_, map};
+ghost use Prim.Native.Nat.{_^_, _≤_, _<_};
+ghost use lib.Dec.{eqb};
+ghost use lib.ListN.{length};
+ghost use Rattle.hash.specs.Fnv.{fnv};
+ghost use Rattle.page.specs.Page.{Slotted, count, rows};
+ghost use Rattle.partition.specs.Bits.{top};
+ghost use Rattle.partition.specs.Partition.{needs, rowsOf};
+ghost use Rattle.store.specs.Pages.{asRow};
+ghost use Rattle.store.specs.Moves.{pick};
+ghost use Rattle.putting.specs.Split.{weight, keyed, below, Told};
+
+// The hashes and needs of the page's rows, slot by slot, and then of a row of the code.
+pub fn gather(page: &[u8], key: &[u8], hs: &mut [u32], ns: &mut [u32])
+    requires { ⌜ Slotted (now page) × (length (now key) ≤ 64) × (count (now page) < 79) × (length (now hs) ≡ 79) × (length (now ns) ≡ 79) ⌝ }
+    ensures { λ _. ⌜ Told fnv (now (page .entry)) (now (key .entry)) (now (hs .exit)) × Told weight (now (page .entry)) (now (key .entry)) (now (ns .exit)) ⌝ }
+{
+    let n = words::get16(page, 2);
+    let mut i = 0;
+    while i < n {
+        let e = page::extent_of(page, i);
+        hs[i] = page_check::hash_slot(page, i);
+        ns[i] = (4 + e.len) as u32;
+        i += 1;
+    }
+    hs[n] = hash::hash(key);
+    ns[n] = (12 + key.len()) as u32;
+}
+
+// The need w of a row of the hash x, 0 where the hash does not begin with the k bits of v.
+fn need_of(x: u32, w: u32, k: u32, v: u64) -> u32
+    requires { ⌜ k ≤ 8 ⌝ }
+    ensures { λ r. ⌜ (r ≡ pick (eqb (top k x) v) w 0) × (r ≤ w) ⌝ }
+{
+    if partition::top_bits(x, k) != v {
+        return 0;
+    }
+    w
+}
+
+// What the page's rows and a row of the code need whose hashes begin with the k bits of v.
+pub fn load(page: &[u8], key: &[u8], hs: &[u32], ns: &[u32], k: u32, v: u64) -> u32
+    requires { ⌜ (k ≤ 8) × Slotted (now page) × (length (now key) ≤ 64) × Told fnv (now page) (now key) (now hs) × Told weight (now page) (now key) (now ns) ⌝ }
+    ensures { λ r. ⌜ r ≡ needs (rowsOf fnv (keyed (now (key .entry)) ∷ map asRow (rows (now (page .entry)))) k v) ⌝ }
+{
+    let n = words::get16(page, 2);
+    let mut sum = need_of(hs[n], ns[n], k, v);
+    let mut i = 0;
+    while i < n {
+        sum += need_of(hs[i], ns[i], k, v);
+        i += 1;
+    }
+    sum
+}
+
+// The number of buckets at the prefix v of k bits and below it.
+pub fn count_below(page: &[u8], key: &[u8], hs: &[u32], ns: &[u32], k: u32, v: u64) -> usize
+    requires { ⌜ (k ≤ 8) × (v < 2 ^ k) × Slotted (now page) × (length (now key) ≤ 64) × Told fnv (now page) (now key) (now hs) × Told weight (now page) (now key) (now ns) ⌝ }
+    ensures { λ r. ⌜ r ≡ length (below fnv (keyed (now (key .entry)) ∷ map asRow (rows (now (page .entry)))) k v) ⌝ }
+{
+    let n = load(page, key, hs, ns, k, v);
+    if n == 0 {
+        return 0;
+    }
+    if n <= 1016 {
+        return 1;
+    }
+    if k == 8 {
+        return 0;
+    }
+    let left = count_below(page, key, hs, ns, k + 1, 2 * v);
+    let right = count_below(page, key, hs, ns, k + 1, 2 * v + 1);
+    left + right
+}

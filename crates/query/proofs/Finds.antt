@@ -1,0 +1,173 @@
+-- What a search finds on an accepted store, and how rows are counted. Assumes nothing.
+use mathlib.Core.Path.{_≡_, refl, sym, ap, subst, _∙_}
+use mathlib.Core.List.{List, map}
+use Prim.Native.Nat.{ℕ, zero, suc, _+_, _*_, _-_, _/_, _^_, _≤_, _<_, zero-le}
+use native.Mathlib.Omega.{arith}
+use native.Mathlib.Nat.{le-refl, add-comm, mul-le-mul-right, mul-div-cancel, div-mul-le-self}
+use lib.ListN.{length, getElem?}
+use lib.Pow.{pow-mono}
+use Rattle.ground.specs.Lists.{byte, total}
+use Rattle.ground.proofs.Tables.{length-tab, tab-map, total-insert}
+use Rattle.words.specs.Le.{le16}
+use Rattle.hash.specs.Fnv.{fnv, fnv-lt}
+use Rattle.page.specs.Page.{BucketPage, Belongs, count, rowAt, rows, code}
+use Rattle.partition.specs.Bits.{top}
+use Rattle.partition.specs.declared.Shape.{Shape}
+use Rattle.partition.specs.Listing.{listing, placeOf}
+use Rattle.partition.proofs.Bits.{top-lt}
+use Rattle.store.specs.Pages.{size, pages, page, read, reading, asRow, rowsOn, rowsHeld, dirDepth, entryAt}
+use Rattle.store.specs.Accepted.{Accepted}
+use Rattle.store.specs.Demands.{Sized}
+use Rattle.store.proofs.Rules.{Opened, opened}
+use Rattle.store.proofs.Unique.{read-used, within}
+use Rattle.store.proofs.Depths.{page-byte, kind-byte}
+use Rattle.store.proofs.Reading.{entryOf, Naming, naming, lookup-none, lookup-page, count-rows}
+use Rattle.store.proofs.PageTies.{found-at, found-not}
+use Rattle.store.proofs.Walked.{walkFrom, Start, behind, walk-start, walk-end, walk-none, walk-page, walk-here, walk-past}
+use Rattle.query.specs.Spots.{Stands, Listed}
+use Rattle.query.specs.declared.Spot.the-variants.{Here, Nowhere}
+
+module _ (S : Shape) (sz : Sized S) (s : List ℕ) (a : Accepted S fnv s) where
+  T : Opened S fnv s
+  T = opened S fnv s a
+
+  pub long-enough : 3 * size S ≤ length s
+  long-enough = omega (arith, mul-le-mul-right (size S) (T .long .least), div-mul-le-self (length s) (size S))
+
+  pub shallow : dirDepth s ≤ S .deepest
+  shallow = T .page0 .depth
+
+  module _ (c : List ℕ) where
+    pub not-named : entryOf S fnv s c ≡ 0 → Stands S s c Nowhere
+    not-named e = lookup-none S fnv sz fnv-lt s a c e
+
+    module _ (n : entryOf S fnv s c ≡ 0 → ⊥) where
+      abbrev p : ℕ
+      p = entryOf S fnv s c
+
+      abbrev g : List ℕ
+      g = page S s p
+
+      its : Naming S fnv s (top (dirDepth s) (fnv c)) p
+      its = lookup-page S fnv sz fnv-lt s a c n .0
+
+      pub inside : p * size S + size S ≤ length s
+      inside = within S s p (its .to)
+
+      pub from-two : 2 ≤ p
+      from-two = its .from
+
+      pub keeps : BucketPage g
+      keeps = its .bytes .rules
+
+      on-it : placeOf (rowsHeld S s) c ≡ placeOf (map asRow (rows g)) c
+      on-it = lookup-page S fnv sz fnv-lt s a c n .1 ∙ ap (λ x. placeOf (rowsOn x) c) (read-used g keeps)
+
+      pub here : (i : ℕ) → i < count g → code g i ≡ c → Stands S s c (Here p i)
+      here i l e = (record { from = from-two; within = inside; rules = keeps; slot = l }, e, on-it ∙ found-at g (keeps .rules) c i l e)
+
+      pub nowhere : (i : ℕ) → Belongs g i c → Stands S s c Nowhere
+      nowhere i b = on-it ∙ found-not g (keeps .rules) c i b
+
+-- an entry of a directory lies in page 1
+pub entry-inside : (S : Shape) → Sized S → (d x : ℕ) → d ≤ S .deepest → x < 2 ^ 32 → top d x < S .entries
+entry-inside S sz d x l h = let m : 2 ^ d ≤ 2 ^ S .deepest = pow-mono l in omega (arith, top-lt x d h, sz .deep)
+
+-- ---- counting
+
+count-by : (b : ℕ) (g : List ℕ) → (b ≡ 0 → length (rowsOn (reading b g)) ≡ 0) × ((b ≡ 0 → ⊥) → length (rowsOn (reading b g)) ≡ count g)
+count-by zero g = ((λ e. refl), (λ n. absurd (n refl)))
+count-by (suc b) g = ((λ e. absurd (omega arith)), (λ n. ap length (tab-map asRow (rowAt g) (count g)) ∙ length-tab (λ i. asRow (rowAt g i)) (count g)))
+
+pub rows-free : (S : Shape) (s : List ℕ) (p : ℕ) → byte s (p * size S) ≡ 0 → length (rowsOn (read (page S s p))) ≡ 0
+unfolding read
+rows-free S s p e = count-by (byte (page S s p) 0) (page S s p) .0 (kind-byte S s p ∙ e)
+
+pub rows-used : (S : Shape) (s : List ℕ) (p : ℕ) → (byte s (p * size S) ≡ 0 → ⊥) → length (rowsOn (read (page S s p))) ≡ le16 s (p * size S + 2)
+unfolding read le16
+rows-used S s p n =
+    let e₃ : byte s (p * size S + 2 + 1) ≡ byte s (p * size S + 3) = ap (byte s) (omega arith) in
+    count-by (byte (page S s p) 0) (page S s p) .1 (λ e. n (sym (kind-byte S s p) ∙ e))
+    ∙ omega (arith, page-byte S s p 2 (omega arith), page-byte S s p 3 (omega arith))
+
+-- the rows of the pages from 2 below p
+pub rowsTo : Shape → List ℕ → ℕ → ℕ
+rowsTo S s p = total (λ i. length (rowsOn (read (page S s (i + 2))))) (p - 2)
+
+pub rows-none : (S : Shape) (s : List ℕ) → rowsTo S s 2 ≡ 0
+unfolding rowsTo total
+rows-none S s = refl
+
+pub rows-next : (S : Shape) (s : List ℕ) (p : ℕ) → 2 ≤ p → rowsTo S s (p + 1) ≡ rowsTo S s p + length (rowsOn (read (page S s p)))
+unfolding rowsTo
+rows-next S s p h =
+    let f : ℕ → ℕ = λ i. length (rowsOn (read (page S s (i + 2)))) in
+    let e : p + 1 - 2 ≡ suc (p - 2) = omega arith in
+    let g : p - 2 + 2 ≡ p = omega arith in
+    ap (total (λ i. length (rowsOn (read (page S s (i + 2)))))) e
+    ∙ total-insert (λ i. length (rowsOn (read (page S s (i + 2))))) (λ i. length (rowsOn (read (page S s (i + 2))))) (p - 2) (p - 2) (le-refl (p - 2)) (λ i l. refl) (λ i l m. absurd (omega arith))
+    ∙ add-comm (length (rowsOn (read (page S s (p - 2 + 2))))) (total (λ i. length (rowsOn (read (page S s (i + 2))))) (p - 2))
+    ∙ ap (λ q. total (λ i. length (rowsOn (read (page S s (i + 2))))) (p - 2) + length (rowsOn (read (page S s q)))) g
+
+pub rows-all : (S : Shape) (s : List ℕ) (n : ℕ) → length s ≡ n * size S → rowsTo S s n ≡ length (rowsHeld S s)
+unfolding rowsTo
+rows-all S s n e = let q : length s / size S ≡ n = ap (λ m. m / size S) e ∙ mul-div-cancel n (omega arith) in ap (λ m. total (λ i. length (rowsOn (read (page S s (i + 2))))) (m - 2)) (sym q) ∙ sym (count-rows S s)
+
+-- ---- the listing, from an entry on
+
+-- row n of the listing is row `left` of what the entries from i on list
+pub record From (S : Shape) (s : List ℕ) (n i left : ℕ) : Type 0 where
+  pub here : getElem? (listing S fnv (rowsHeld S s)) n ≡ getElem? (walkFrom S fnv s i) left
+  pub starts : Start S fnv s i
+  pub most : i ≤ 2 ^ dirDepth s
+
+module _ (S : Shape) (sz : Sized S) (s : List ℕ) (a : Accepted S fnv s) (n : ℕ) where
+  abbrev d : ℕ
+  d = dirDepth s
+
+  pub from-first : From S s n 0 n
+  from-first = let w = walk-start S fnv sz fnv-lt s a in record { here = ap (λ l. getElem? l n) (w .0); starts = w .1; most = zero-le }
+
+  pub from-end : (i left : ℕ) → 2 ^ d ≤ i → From S s n i left → Listed S s n Nowhere
+  from-end i left l f = f .here ∙ ap (λ l. getElem? l left) (walk-end S fnv sz fnv-lt s a i l)
+
+  pub from-none : (i left : ℕ) → i < 2 ^ d → entryAt S s i ≡ 0 → From S s n i left → From S s n (i + 1) left
+  from-none i left l z f = let w = walk-none S fnv sz fnv-lt s a i l z in record { here = f .here ∙ ap (λ l. getElem? l left) (w .0); starts = w .1; most = omega arith }
+
+  pub entry-low : (i : ℕ) → i < 2 ^ d → i < S .entries
+  entry-low i l = let m : 2 ^ d ≤ 2 ^ S .deepest = pow-mono (shallow S sz s a) in omega (arith, sz .deep)
+
+  module _ (i left : ℕ) (l : i < 2 ^ d) (z : entryAt S s i ≡ 0 → ⊥) (f : From S s n i left) where
+    abbrev q : ℕ
+    q = entryAt S s i
+
+    named : Naming S fnv s i q
+    named = naming S fnv sz fnv-lt s a i (entry-low i l) z
+
+    pub page-inside : q * size S + size S ≤ length s
+    page-inside = within S s q (named .to)
+
+    pub page-deep : byte s (q * size S + 1) ≤ d
+    page-deep = subst (λ m. m ≤ d) (page-byte S s q 1 (omega arith)) (named .low)
+
+    rows-many : le16 s (q * size S + 2) ≡ count (page S s q)
+    unfolding le16
+    rows-many =
+        let e₃ : byte s (q * size S + 2 + 1) ≡ byte s (q * size S + 3) = ap (byte s) (omega arith) in
+        omega (arith, page-byte S s q 2 (omega arith), page-byte S s q 3 (omega arith))
+
+    pub from-here : left < le16 s (q * size S + 2) → Listed S s n (Here q left)
+    from-here m =
+        let b : left < count (page S s q) = omega (arith, rows-many) in
+        (record { from = named .from; within = page-inside; rules = named .bytes .rules; slot = b }, f .here ∙ walk-here S fnv sz fnv-lt s a i left l z (f .starts) b)
+
+    pub from-past : (w : ℕ) → w ≡ 2 ^ (d - byte s (q * size S + 1)) → le16 s (q * size S + 2) ≤ left → From S s n (i + w) (left - le16 s (q * size S + 2))
+    from-past w e m =
+        let b : count (page S s q) ≤ left = omega (arith, rows-many) in
+        let v = walk-page S fnv sz fnv-lt s a i l z (f .starts) in
+        let y : behind S s i ≡ i + w = ap (λ m. i + 2 ^ (d - m)) (page-byte S s q 1 (omega arith)) ∙ ap (λ m. i + m) (sym e) in
+        subst (λ j. From S s n j (left - le16 s (q * size S + 2))) y (record {
+          here = f .here ∙ walk-past S fnv sz fnv-lt s a i left l z (f .starts) b ∙ ap (λ m. getElem? (walkFrom S fnv s (behind S s i)) (left - m)) (sym rows-many);
+          starts = v .2;
+          most = v .3;
+        })

@@ -1,0 +1,122 @@
+// The calls that read a store: check, count, lookup, row at place n.
+ghost use Rattle.ground.specs.Ladder.{Answers};
+ghost use Prim.Native.Nat.{_≤_};
+ghost use lib.ListN.{length};
+ghost use Rattle.hash.specs.Fnv.{fnv};
+ghost use Rattle.partition.specs.Listing.{listing};
+ghost use Rattle.store.specs.Pages.{S1024, rowsHeld};
+ghost use Rattle.store.specs.Accepted.{Accepted};
+ghost use Rattle.store.specs.Demands.{Sized};
+ghost use Rattle.store.specs.Tables.{checkTable, countTable, lookedUp, lookupTable, rowOf, rowTable, meaning};
+use partition::Shape;
+use store::Answer;
+
+mod spots;
+
+pub use spots::entries_of;
+pub use spots::entry_of;
+pub use spots::find_row;
+
+// A row's page and slot, or no row.
+pub enum Spot {
+    Here(usize, usize),
+    Nowhere,
+}
+
+// Whether the store keeps every rule, and the first page that does not.
+pub fn check(s: &[u8]) -> Answer
+    ensures { λ r. ⌜ Answers (checkTable S1024 fnv (now (s .entry))) (meaning r) ⌝ }
+{
+    if !store_check::good_length(s, partition::S1024) {
+        return Answer::BadLength;
+    }
+    let p = store_check::first_bad(s);
+    if p < s.len() / 1024 {
+        return Answer::BadPage(p);
+    }
+    Answer::Accepted
+}
+
+// The number of rows.
+pub fn count(s: &[u8]) -> Answer
+    ensures { λ r. ⌜ Answers (countTable S1024 fnv (now (s .entry))) (meaning r) ⌝ }
+{
+    if !store_check::good_length(s, partition::S1024) {
+        return Answer::BadLength;
+    }
+    let n = s.len() / 1024;
+    let p = store_check::first_bad(s);
+    if p < n {
+        return Answer::BadPage(p);
+    }
+    Answer::Rows(spots::count_rows(s, partition::S1024, n))
+}
+
+// The place of a code, on an accepted store.
+pub fn place_of(s: &[u8], z: Shape, key: &[u8]) -> Answer
+    requires { ⌜ Sized z × Accepted z fnv (now s) ⌝ }
+    ensures { λ r. ⌜ Answers (lookedUp z (now (s .entry)) (now (key .entry))) (meaning r) ⌝ }
+{
+    match spots::find_row(s, z, key) {
+        Spot::Here(p, i) => {
+            let size = 8 + z.capacity;
+            let a = p * size;
+            let e = a + size;
+            Answer::Found(page::read_place(&s[a..e], i))
+        }
+        Spot::Nowhere => Answer::NoCode,
+    }
+}
+
+// The place of a code.
+pub fn lookup(s: &[u8], key: &[u8]) -> Answer
+    ensures { λ r. ⌜ Answers (lookupTable S1024 fnv (now (s .entry)) (now (key .entry))) (meaning r) ⌝ }
+{
+    if !store_check::good_length(s, partition::S1024) {
+        return Answer::BadLength;
+    }
+    if key.len() == 0 {
+        return Answer::BadCode;
+    }
+    if 64 < key.len() {
+        return Answer::BadCode;
+    }
+    let p = store_check::first_bad(s);
+    if p < s.len() / 1024 {
+        return Answer::BadPage(p);
+    }
+    place_of(s, partition::S1024, key)
+}
+
+// The row at place n of the listing, its code to the start of the output, on an accepted store.
+pub fn give_row(s: &[u8], n: usize, out: &mut [u8]) -> Answer
+    requires { ⌜ Accepted S1024 fnv (now s) × (64 ≤ length (now out)) ⌝ }
+    ensures { λ r. ⌜ Answers (rowOf (listing S1024 fnv (rowsHeld S1024 (now (s .entry)))) n (now (out .entry))) (meaning r, now (out .exit)) ⌝ }
+{
+    match spots::nth_row(s, partition::S1024, n) {
+        Spot::Here(p, i) => {
+            let a = p * 1024;
+            let e = a + 1024;
+            let len = page::read_code(&s[a..e], i, out);
+            Answer::RowOf(len, page::read_place(&s[a..e], i))
+        }
+        Spot::Nowhere => Answer::NoRow,
+    }
+}
+
+// The row at place n of the listing, its code to the start of the output.
+pub fn row_at(s: &[u8], n: usize, out: &mut [u8]) -> Answer
+    ensures { λ r. ⌜ Answers (rowTable S1024 fnv (now (s .entry)) n (now (out .entry))) (meaning r, now (out .exit)) ⌝ }
+{
+    if !store_check::good_length(s, partition::S1024) {
+        return Answer::BadLength;
+    }
+    if out.len() < 64 {
+        return Answer::ShortOutput;
+    }
+    let p = store_check::first_bad(s);
+    if p < s.len() / 1024 {
+        return Answer::BadPage(p);
+    }
+    give_row(s, n, out)
+}

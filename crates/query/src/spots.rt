@@ -1,0 +1,103 @@
+// The rows of an accepted store: found by code, counted, and by their place in the listing.
+ghost use mathlib.Core.Path.{_≡_};
+ghost use Prim.Native.Nat.{_+_, _-_, _*_, _^_, _≤_, _<_};
+ghost use lib.ListN.{length};
+ghost use Rattle.ground.specs.Lists.{byte};
+ghost use Rattle.hash.specs.Fnv.{fnv};
+ghost use Rattle.partition.specs.Bits.{top};
+ghost use Rattle.store.specs.Pages.{size, page, read, rowsOn, dirDepth, entryAt, rowsHeld};
+ghost use Rattle.store.specs.Accepted.{Accepted};
+ghost use Rattle.store.specs.Demands.{Sized};
+ghost use Rattle.query.specs.Spots.{Stands, Listed};
+use page::Found;
+use partition::Shape;
+use super::Spot;
+
+// The entry that a hash's top bits give.
+pub fn entry_of(s: &[u8], z: Shape, x: u32) -> usize
+    requires { ⌜ Sized z × (2 * size z ≤ length (now s)) × (dirDepth (now s) ≤ z .deepest) ⌝ }
+    ensures { λ r. ⌜ (r ≡ entryAt z (now (s .entry)) (top (dirDepth (now (s .entry))) x)) × (r < 4294967296) ⌝ }
+{
+    let d = words::get32(s, 16) as u32;
+    let i = partition::top_bits(x, d) as usize;
+    words::get32(s, 8 + z.capacity + 4 * i)
+}
+
+// Where a code's row stands.
+pub fn find_row(s: &[u8], z: Shape, key: &[u8]) -> Spot
+    requires { ⌜ Sized z × Accepted z fnv (now s) ⌝ }
+    ensures { λ r. ⌜ Stands z (now (s .entry)) (now (key .entry)) r ⌝ }
+{
+    let p = entry_of(s, z, hash::hash(key));
+    if p == 0 {
+        return Spot::Nowhere;
+    }
+    let size = 8 + z.capacity;
+    let a = p * size;
+    let e = a + size;
+    match page::find_code(&s[a..e], key) {
+        Found::At(i) => Spot::Here(p, i),
+        Found::Absent(_) => Spot::Nowhere,
+    }
+}
+
+// The number of rows on page p.
+fn rows_on(s: &[u8], z: Shape, p: usize) -> usize
+    requires { ⌜ p * size z + size z ≤ length (now s) ⌝ }
+    ensures { λ r. ⌜ (r ≡ length (rowsOn (read (page z (now (s .entry)) p)))) × (r < 65536) ⌝ }
+{
+    let a = p * (8 + z.capacity);
+    if s[a] == 0 {
+        return 0;
+    }
+    words::get16(s, a + 2)
+}
+
+// The number of rows of a store of n pages: each page once.
+pub fn count_rows(s: &[u8], z: Shape, n: usize) -> usize
+    requires { ⌜ (length (now s) ≡ n * size z) × (2 ≤ n) × (n ≤ 4098) ⌝ }
+    ensures { λ r. ⌜ r ≡ length (rowsHeld z (now (s .entry))) ⌝ }
+{
+    let mut sum = 0;
+    let mut p = 2;
+    while p < n {
+        sum += rows_on(s, z, p);
+        p += 1;
+    }
+    sum
+}
+
+// The number of entries of the page at offset a, in a directory of depth d.
+pub fn entries_of(s: &[u8], a: usize, d: u32) -> usize
+    requires { ⌜ (a + 2 ≤ length (now s)) × (byte (now s) (a + 1) ≤ d) × (d ≤ 12) ⌝ }
+    ensures { λ r. ⌜ r ≡ 2 ^ (d - byte (now (s .entry)) (a + 1)) ⌝ }
+{
+    partition::two_to(d - s[a + 1] as u32)
+}
+
+// Where the row at place n of the listing stands: bucket after bucket by first entry, each once.
+pub fn nth_row(s: &[u8], z: Shape, n: usize) -> Spot
+    requires { ⌜ Sized z × Accepted z fnv (now s) ⌝ }
+    ensures { λ r. ⌜ Listed z (now (s .entry)) n r ⌝ }
+{
+    let d = words::get32(s, 16) as u32;
+    let end = partition::two_to(d);
+    let mut left = n;
+    let mut i = 0;
+    while i < end {
+        let size = 8 + z.capacity;
+        let p = words::get32(s, size + 4 * i);
+        if p == 0 {
+            i += 1;
+        } else {
+            let a = p * size;
+            let k = words::get16(s, a + 2);
+            if left < k {
+                return Spot::Here(p, left);
+            }
+            left -= k;
+            i += entries_of(s, a, d);
+        }
+    }
+    Spot::Nowhere
+}

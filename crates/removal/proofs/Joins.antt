@@ -1,0 +1,97 @@
+-- The gathered rows, packed into the lowest-numbered page of the prefix. Assumes nothing.
+use mathlib.Core.Path.{_≡_, sym, ap, subst, _∙_}
+use mathlib.Core.Logic.{⊎-elim}
+use mathlib.Core.List.{List, [], _++_, map}
+use Prim.Native.Nat.{ℕ, _+_, _-_, _≤_, _<_}
+use native.Mathlib.Omega.{arith}
+use native.Mathlib.Decide.{ℕ-discrete}
+use lib.ListN.{length, set}
+use Rattle.ground.specs.Lists.{tab}
+use Rattle.ground.proofs.Sides.{side}
+use Rattle.page.specs.Page.{BucketPage, count, depth, rowAt}
+use Rattle.page.specs.Packed.{Fresh, Packed}
+use Rattle.partition.specs.Partition.{Row, needs, Reordered}
+use Rattle.partition.specs.Listing.{inOrder}
+use Rattle.partition.proofs.Reorders.{needs-same}
+use Rattle.partition.proofs.Sorted.{order-same}
+use Rattle.store.specs.Pages.{S1024, pages, Page, bucket, page, read, contents, asRow}
+use Rattle.store.specs.Moves.{find, within, packFrom}
+use Rattle.store.proofs.PageTies.{page-needs, page-once, page-order, packed-rows, read-slotted}
+use Rattle.store.proofs.Views.{setPage, set-long, set-same, set-other, set-below, set-contents}
+use Rattle.directory.specs.Directory.{Sound, used, Settling}
+use Rattle.removal.specs.Join.{Housed, Taking, Gathered, rowsAt, othersIn, Emptied, Joinable, Rejoined}
+use Rattle.removal.proofs.Prefixes.{listed}
+use Rattle.removal.proofs.Empties.{emptied-sound, emptied-holds}
+
+no-rows : (g : List ℕ) → count g ≡ 0 → rowsAt g ≡ []
+unfolding tab
+no-rows g e = ap (λ n. map asRow (tab (rowAt g) n)) e
+
+-- a page of no rows takes any that go on one page
+pub fresh-taking : {p : List ℕ} {d : ℕ} {q : List ℕ} (rs : List Row) → length p ≡ 1024 → Fresh p d q → Housed rs → Taking q rs
+unfolding needs
+fresh-taking {p} {d} {q} rs l F h = record {
+  tight = record {
+    page = F .page;
+    long = F .long ∙ l;
+    full = omega (arith, F .none, F .page .empty (F .none), page-needs q (F .page), ap needs (no-rows q (F .none)), F .long, l);
+  };
+  all = subst (λ x. Housed (x ++ rs)) (sym (no-rows q (F .none))) h;
+}
+
+module _ (h : List ℕ → ℕ) (s : List ℕ) (n j v : ℕ) (c : List ℕ) (P : Settling s n) (shallow : j ≤ 8) (J : Joinable h s j v c) where
+  abbrev gs : List Page
+  gs = contents S1024 s
+
+  abbrev low : ℕ
+  low = 2 + find (within h j v) gs
+
+  pub low-within : low < n
+  low-within = omega (arith, J .there, listed s n P)
+
+  module _ {p q g u k : List ℕ} (l : length p ≡ 1024) (F : Fresh p j q) (G : Gathered q (othersIn h j v c gs) g) (E : Emptied h s n j v 2 u) (K : Packed g k) where
+    all : Reordered (rowsAt g) (othersIn h j v c gs)
+    all = subst (λ x. Reordered (rowsAt g) (x ++ othersIn h j v c gs)) (no-rows q (F .none)) (G .all)
+
+    sorted : rowsAt g ≡ inOrder (othersIn h j v c gs)
+    sorted = sym (page-order g (G .tight .page)) ∙ order-same all (page-once g (G .tight .page))
+
+    some : 1 ≤ count g
+    unfolding needs
+    some = ⊎-elim
+        (λ z. absurd (zero-needs (omega arith)))
+        (λ z. z)
+        (side (count g) 1)
+      where
+        zero-needs : count g ≡ 0 → ⊥
+        zero-needs z = omega (arith, J .some, needs-same all, ap needs (no-rows g z))
+
+    its : BucketPage k
+    its = record { rules = K .page; some = omega (arith, some, K .counted) }
+
+    deep : depth k ≡ j
+    deep = K .deep ∙ G .deep ∙ F .deep
+
+    long : length k ≡ 1024
+    long = K .long ∙ G .tight .long
+
+    there : low < pages S1024 u
+    there = omega (arith, low-within, E .long, P .size)
+
+    pub rejoined : Rejoined h s n j v c (setPage S1024 u low k)
+    rejoined = record {
+      long = set-long S1024 u low k there long ∙ E .long;
+      low = λ i b. set-below S1024 u low k there long i (omega arith) ∙ E .low i b;
+      sound = λ x a b. go x a b (ℕ-discrete x low);
+      holds = set-contents S1024 u low k there long (omega arith) ∙ (λ i. set (emptied-holds h s n j v P u E i) (at i) (now-reads i));
+    }
+      where
+        go : (x : ℕ) → 2 ≤ x → x < n → Dec (x ≡ low) → Sound (page S1024 (setPage S1024 u low k) x)
+        go x a b (yes e) = subst Sound (sym (ap (page S1024 (setPage S1024 u low k)) e ∙ set-same S1024 u low k there long)) (used its (omega (arith, deep)))
+        go x a b (no ne) = subst Sound (sym (set-other S1024 u low k there long x ne)) (emptied-sound h s n j v P u E x a b)
+
+        at : low - 2 ≡ find (within h j v) gs
+        at = omega arith
+
+        now-reads : read k ≡ bucket j (packFrom 8 (inOrder (othersIn h j v c gs)))
+        now-reads = read-slotted k (K .page) ∙ (λ i. bucket (deep i) ((packed-rows g (G .tight .page) k K ∙ ap (packFrom 8) sorted) i))

@@ -1,0 +1,284 @@
+-- REMOVE on an accepted store: where the code's row stands, what is left of its prefix, and the three writes. Over any hash. Assumes nothing.
+use mathlib.Core.Path.{_≡_, refl, sym, ap, subst, subst₂, _∙_}
+use mathlib.Core.List.{List, [], _∷_, _++_, map, List·Memᴰ}
+use mathlib.Core.Logic.{⊎-elim}
+use mathlib.Core.Option.{some}
+use Prim.Native.Nat.{ℕ, suc, _+_, _-_, _/_, _≤_, _<_}
+use native.Mathlib.Omega.{arith}
+use native.Mathlib.Decide.{ℕ-discrete}
+use lib.ListN.{length, getD, set, replicate, length-replicate, length-map}
+use Rattle.ground.specs.Lists.{byte}
+use Rattle.ground.proofs.Sides.{side}
+use Rattle.ground.proofs.Tables.{length-tab}
+use Rattle.page.specs.Page.{Slotted, BucketPage, depth, count, code, place, rows, rowAt}
+use Rattle.page.specs.Steps.{Removed}
+use Rattle.page.proofs.Sums.{len-of-code}
+use Rattle.partition.specs.Bits.{top}
+use Rattle.partition.specs.Partition.{Row, need, needs, rowsOf, IsBucket, Reordered}
+use Rattle.partition.specs.Listing.{without, placeOf, Once}
+use Rattle.partition.proofs.Bits.{top-step}
+use Rattle.partition.proofs.Laws.{Shallowest, share-fewer, bucket-shallowest}
+use Rattle.partition.proofs.Maps.{cut, cut-none, cut-front, cut-length, cut-same, cut-gone, once-remove}
+use Rattle.partition.proofs.Path.{fit-above}
+use Rattle.partition.proofs.Reorders.{needs-same, rows-same}
+use Rattle.partition.proofs.Rising.{tab-in, tab-member, without-member, without-map}
+use Rattle.partition.proofs.Rows.{load, load-mono, rows-on, some-need}
+use Rattle.partition.proofs.Sorted.{by-code, order-same, some-none, some-once}
+use Rattle.store.specs.Pages.{S1024, pages, Page, free, bucket, page, contents, asRow, rowsHeld, deepestIn}
+use Rattle.store.specs.Accepted.{Bucket, Stands, unused, used}
+use Rattle.store.specs.Moves.{pick, find, holds, within, packFrom, packed, clearedOn, removed}
+use Rattle.store.specs.Tables.{Becomes}
+use Rattle.store.specs.Demands.{Hash, sized-1024}
+use Rattle.store.proofs.Rules.{opened}
+use Rattle.store.proofs.Shows.{firstCode, prefixOn, Holding, Shows}
+use Rattle.store.proofs.Shown.{within-on, within-pages, find-least}
+use Rattle.store.proofs.Unique.{read-used, held, page-long}
+use Rattle.store.proofs.Showing.{first-of, first-code, accepted-shows}
+use Rattle.store.proofs.Known.{Known, only-page}
+use Rattle.store.proofs.Holder as Holder
+use Rattle.store.proofs.Rooms.{bucket-one}
+use Rattle.store.proofs.MoveRows.{remove-shown}
+use Rattle.store.proofs.RemoveCases as Cases
+use Rattle.store.proofs.Within.{one-depth, rows-within}
+use Rattle.store.proofs.Accepting.{Laid, accepted-laid, laid-becomes}
+use Rattle.store.proofs.PageTies.{row-in, zeros, read-cleared, page-once, found-at, removed-rows}
+use Rattle.store.proofs.Views.{setPage, set-long, set-same, set-other, set-below, set-contents}
+use Rattle.directory.specs.Directory.{Directed, Sound, free as vacant, Rewritten}
+use Rattle.removal.specs.Prefix.{Climbed}
+use Rattle.removal.specs.Join.{othersIn, Joinable, Rejoined}
+use Rattle.removal.specs.Remove.{Leaving, left, Fits}
+use Rattle.directory.proofs.OnePage.{laid-set}
+use Rattle.directory.proofs.Settles.{unwritten, settled}
+use Rattle.removal.proofs.Gathers.{cut-append, cut-same as cut-key}
+
+module _ (h : List ℕ → ℕ) (hash : Hash h) (s : List ℕ) (p i : ℕ) (c : List ℕ) (L : Leaving h s p i c) where
+  abbrev g : List ℕ
+  g = page S1024 s p
+
+  abbrev k : ℕ
+  k = depth g
+
+  abbrev gs : List Page
+  gs = contents S1024 s
+
+  abbrev rs : List Row
+  rs = rowsHeld S1024 s
+
+  abbrev x : ℕ
+  x = h c
+
+  abbrev old : List ℕ
+  old = place g i
+
+  shows : Shows S1024 h rs gs
+  shows = accepted-shows S1024 h sized-1024 hash s (L .accepted)
+
+  slotted : Slotted g
+  slotted = L .rules .rules
+
+  long : length g ≡ 1024
+  long = page-long S1024 s p (L .to)
+
+  holding : Holding gs (p - 2) k (rows g)
+  holding = held S1024 s p (L .from) (L .to) ∙ read-used g (L .rules)
+
+  -- the page found for the code's hash
+  pub here : find (holds h x) gs ≡ p - 2
+  here =
+      ap (λ y. find (holds h (h y)) gs) (sym (L .coded))
+      ∙ only-page S1024 h rs gs shows (p - 2) k (rows g) holding (asRow (rowAt g i)) (row-in g i (L .slot))
+
+  abbrev its : Known S1024 h rs gs shows c old
+  its = Cases.its S1024 h rs gs c old shows (L .known)
+
+  same : (its .depth ≡ k) × (its .records ≡ rows g)
+  same = bucket-one (sym (its .there) ∙ ap (λ j. getD gs j free) here ∙ holding)
+
+  begins : prefixOn h k (rows g) ≡ top k x
+  begins = subst₂ (λ d r. prefixOn h d r ≡ top d x) (same .0) (same .1) (its .begins)
+
+  -- ---- going up
+
+  sum : (j : ℕ) → needs (rowsOf h rs j (top j x)) ≡ 12 + length c + needs (rowsOf h (left s c) j (top j x))
+  sum = Cases.needs-left S1024 h rs gs c old shows (L .known)
+
+  pub its-bucket : IsBucket S1024 h (rowsHeld S1024 s) (depth (page S1024 s p)) (top (depth (page S1024 s p)) (h c))
+  its-bucket = Holder.its-bucket S1024 h rs gs shows x (p - 2) k (rows g) holding begins
+
+  pub climbed-fits : (need j : ℕ) → need ≡ 12 + length c → Climbed h (rowsHeld S1024 s) (h c) (depth (page S1024 s p)) need j → Fits h s c j
+  climbed-fits need j e C = record {
+    fit = ⊎-elim
+        (λ l. omega (arith, C .fit l, sum j))
+        (λ l. let q : its .depth ≡ j = omega (arith, same .0, C .most) in subst (λ d. needs (rowsOf h (left s c) d (top d x)) ≤ 1016) q (Cases.fits-here S1024 h rs gs c old shows (L .known)))
+        (side j k);
+    over = λ m q. omega (arith, C .over m q, sum m);
+  }
+
+  -- ---- what is left on the page
+
+  abbrev rest : List Row
+  rest = cut c (map asRow (rows g))
+
+  found : placeOf (map asRow (rows g)) c ≡ some old
+  found = found-at g slotted c i (L .slot) (L .coded)
+
+  many : count g ≡ suc (length rest)
+  many = sym (length-map (rows g) asRow ∙ length-tab (rowAt g) (count g)) ∙ cut-length c old (map asRow (rows g)) (page-once g slotted) found
+
+  -- the rows left of the page's prefix are those left on the page
+  rest-needs : needs (rowsOf h (left s c) k (top k x)) ≡ needs rest
+  unfolding need needs
+  rest-needs =
+      let w = sum k in
+      let y : needs (map asRow (rows g)) ≡ needs (rowsOf h rs k (top k x)) = needs-same (Holder.its-rows S1024 h rs gs shows x (p - 2) k (rows g) holding begins) in
+      let z : needs (map asRow (rows g)) ≡ 12 + length c + needs rest = needs-same (cut-front c old (map asRow (rows g)) (page-once g slotted) found) in
+      omega arith
+
+  bucket-page : Bucket h g
+  bucket-page = go (opened S1024 h s (L .accepted) .stands p (L .from) (L .to))
+    where
+      go : Stands S1024 h s p → Bucket h g
+      go (unused z _) = absurd (omega (arith, z 0, slotted .one))
+      go (used b _ _) = b
+
+  module _ (j : ℕ) (F : Fits h s c j) where
+    shallow : Shallowest S1024 h (left s c) x j
+    shallow = record { fit = F .fit; above = F .over }
+
+    -- the pages then
+    after : Shows S1024 h (left s c) (removed S1024 h gs c)
+    after = remove-shown S1024 h sized-1024 hash s c old (L .accepted) (L .known)
+
+    -- ---- rows left at the page's own depth: the record goes
+
+    module _ (own : j ≡ k) (two : 2 ≤ count g) (q : List ℕ) (R : Removed g i q) where
+      rows-left : rows q ≡ without (λ r. r .code) c (rows g)
+      rows-left = removed-rows g i q slotted (L .slot) R ∙ ap (λ y. without (λ r. r .code) y (rows g)) (L .coded)
+
+      fewer : count q ≡ length rest
+      fewer = sym (length-map (rows q) asRow ∙ length-tab (rowAt q) (count q)) ∙ ap length (ap (map asRow) rows-left ∙ without-map (λ r. r .code) by-code asRow (λ r. refl) c (rows g))
+
+      kept : BucketPage q
+      kept = record { rules = R .page; some = omega (arith, many, fewer) }
+
+      -- the first code is one that was there
+      was-there : (m : ℕ) × (m < count g) × (rowAt q 0 ≡ rowAt g m)
+      was-there = tab-member (rowAt g) (count g) (rowAt q 0)
+          (without-member (λ r. r .code) c (rows g) (rowAt q 0) (subst (List·Memᴰ (rowAt q 0)) rows-left (tab-in (rowAt q) (count q) 0 (omega (arith, kept .some)))))
+
+      still : prefixOn h k (rows q) ≡ prefixOn h k (rows g)
+      still =
+          let w = was-there in
+          ap (λ y. top k (h y)) (first-of (rowAt q) (count q) (omega (arith, kept .some)))
+          ∙ ap (λ r. top k (h (r .code))) (w .2)
+          ∙ bucket-page .share (w .0) 0 (w .1) (omega (arith, L .slot))
+          ∙ sym (first-code h g (L .rules))
+
+      written : removed S1024 h gs c ≡ set gs (p - 2) (bucket k (rows q))
+      written =
+          Cases.removed-loses S1024 h rs gs c old shows (L .known) hash j shallow positive (own ∙ sym (same .0))
+          ∙ ap (λ m. set gs m (clearedOn c (getD gs m free))) here
+          ∙ ap (λ y. set gs (p - 2) (clearedOn c y)) holding
+          ∙ ap (λ l. set gs (p - 2) (bucket k l)) (sym rows-left)
+        where
+          positive : 0 < needs (rowsOf h (left s c) j (top j x))
+          positive = omega (arith, ap (λ d. needs (rowsOf h (left s c) d (top d x))) own, rest-needs, some-need rest .0 (omega (arith, many)))
+
+      pub loses : ((m : ℕ) → byte (setPage S1024 s p q) m < 256) → Becomes S1024 h s (removed S1024 h gs c) (setPage S1024 s p q)
+      loses small =
+          laid-becomes S1024 h sized-1024 hash (setPage S1024 s p q) (left s c) (removed S1024 h gs c)
+          (subst (Laid S1024 h (setPage S1024 s p q)) (sym written)
+          (laid-set S1024 h sized-1024 s gs (accepted-laid S1024 h sized-1024 hash s (L .accepted)) p k (rows g) (L .from) (L .to) holding q kept (R .long ∙ long) (R .deep) still))
+          after s (set-long S1024 s p q (L .to) (R .long ∙ long)) small
+
+    -- pages written anew and settled
+    module _ (n : ℕ) (pages-are : n ≡ length s / 1024) {t u : List ℕ} (W : Rewritten s t) (holds-then : contents S1024 t ≡ removed S1024 h gs c) (D : Directed h t (deepestIn (contents S1024 t)) n u) where
+      pub settles : ((m : ℕ) → byte u m < 256) → Becomes S1024 h s (removed S1024 h gs c) u
+      settles small =
+          subst (λ l. Becomes S1024 h s l u) holds-then
+          (settled h hash s (L .accepted) t W u (subst (λ m. Directed h t (deepestIn (contents S1024 t)) m u) pages-are D) (left s c) (subst (Shows S1024 h (left s c)) (sym holds-then) after) small)
+
+    -- ---- nothing left on the page: it is cleared
+
+    module _ (own : j ≡ k) (one : count g ≡ 1) where
+      abbrev t : List ℕ
+      t = setPage S1024 s p (replicate 1024 0)
+
+      zero-long : length (replicate {A = ℕ} 1024 0) ≡ 1024
+      zero-long = length-replicate {A = ℕ} 1024 0
+
+      pub clear-written : Rewritten s t
+      clear-written =
+          let before = unwritten h hash s (L .accepted) in
+          record {
+            long = set-long S1024 s p (replicate 1024 0) (L .to) zero-long;
+            low = λ m l. set-below S1024 s p (replicate 1024 0) (L .to) zero-long m (omega (arith, L .from));
+            sound = λ y a b. go y a b (before .sound y a b) (ℕ-discrete y p);
+          }
+        where
+          go : (y : ℕ) → 2 ≤ y → y < pages S1024 s → Sound (page S1024 s y) → Dec (y ≡ p) → Sound (page S1024 t y)
+          go y a b w (yes e) = subst Sound (sym (ap (page S1024 t) e ∙ set-same S1024 s p (replicate 1024 0) (L .to) zero-long)) (vacant (zeros 1024))
+          go y a b w (no n) = subst Sound (sym (set-other S1024 s p (replicate 1024 0) (L .to) zero-long y n)) w
+
+      pub clear-holds : contents S1024 t ≡ removed S1024 h gs c
+      clear-holds =
+          set-contents S1024 s p (replicate 1024 0) (L .to) zero-long (L .from) ∙ ap (set gs (p - 2)) (read-cleared 1024) ∙ ap (λ m. set gs m free) (sym here)
+          ∙ sym (Cases.removed-clears S1024 h rs gs c old shows (L .known) hash j shallow nothing)
+        where
+          none-needed : needs rest ≡ 0
+          none-needed = ⊎-elim (λ l. absurd (omega (arith, many, some-need rest .1 l))) (λ l. omega arith) (side 0 (needs rest))
+
+          nothing : needs (rowsOf h (left s c) j (top j x)) ≡ 0
+          nothing = ap (λ d. needs (rowsOf h (left s c) d (top d x))) own ∙ rest-needs ∙ none-needed
+
+    -- ---- rows left at a smaller depth: joined
+
+    module _ (less : j < k) where
+      abbrev v : ℕ
+      v = top j x
+
+      -- the rows of the pages of the prefix, the code's left out, are the rows left of the prefix
+      others : othersIn h j v c gs ≡ cut c (rowsOf h rs j v)
+      others = ap (cut c) (sym (rows-within S1024 h rs gs shows x j (one-depth S1024 h rs x j k its-bucket (omega arith))))
+
+      others-left : Reordered (othersIn h j v c gs) (rowsOf h (left s c) j v)
+      others-left =
+          let r : Row = record { code = c; place = old } in
+          let front : Reordered (rowsOf h rs j v) (r ∷ rowsOf h (left s c) j v) = subst (Reordered (rowsOf h rs j v)) (rows-on h r (left s c) j) (rows-same h j v (cut-front c old rs (shows .once) (L .known))) in
+          let gone : cut c (r ∷ rowsOf h (left s c) j v) ≡ rowsOf h (left s c) j v =
+          cut-append c (r ∷ []) (rowsOf h (left s c) j v) ∙ ap (λ l. l ++ cut c (rowsOf h (left s c) j v)) (cut-key r c refl) ∙ cut-none c (rowsOf h (left s c) j v) (some-none h j v (left s c) c (cut-gone c rs)) in
+          subst₂ Reordered (sym others) gone (cut-same c front)
+
+      once : Once (othersIn h j v c gs)
+      once = subst Once (sym others) (once-remove c (rowsOf h rs j v) (some-once h j v rs (shows .once)))
+
+      -- with the row they did not fit
+      positive : 0 < needs (rowsOf h (left s c) j v)
+      positive = omega (
+        arith,
+        fit-above (λ m. top m x) (top-step x) 1016 (load h rs) (load-mono h rs) k j (bucket-shallowest S1024 h rs x k its-bucket) less,
+        sum j,
+        ap length (L .coded),
+        len-of-code g i slotted (L .slot),
+        slotted .long i (L .slot),
+      )
+
+      pub joinable : Joinable h s j v c
+      joinable = record {
+        housed = record { once = once; fit = omega (arith, needs-same others-left, F .fit) };
+        some = omega (arith, needs-same others-left, positive);
+        there = omega (arith, find-least (within h j v) gs (p - 2) inside (ap (within h j v) holding ∙ within-on h j v k (rows g) (shows .page (p - 2) k (rows g) holding .some) .1 (share-fewer (h (firstCode (rows g))) x j k (omega arith) begins)), inside);
+      }
+        where
+          inside : p - 2 < length gs
+          inside = within-pages gs (p - 2) k (rows g) holding
+
+      module _ {n : ℕ} {t : List ℕ} (pages-are : n ≡ pages S1024 s) (R : Rejoined h s n j v c t) where
+        pub join-written : Rewritten s t
+        join-written = record { long = R .long; low = R .low; sound = λ y a b. R .sound y a (omega (arith, pages-are)) }
+
+        pub join-holds : contents S1024 t ≡ removed S1024 h gs c
+        unfolding packed
+        join-holds =
+            R .holds ∙ ap (λ l. set (map (λ y. pick (within h j v y) free y) gs) (find (within h j v) gs) (bucket j (packFrom 8 l))) (order-same others-left once)
+            ∙ sym (Cases.removed-joins S1024 h rs gs c old shows (L .known) hash j shallow positive (λ e. omega (arith, e, same .0)))

@@ -1,0 +1,7 @@
+// Remove: a row taken out, and buckets joined where their rows fit together.
+mod join;
+mod prefix;
+mod removal;
+
+pub use removal::remove;
+pub use removal::remove_row;

@@ -1,0 +1,10 @@
+pub mod Stops
+pub mod Loads
+pub mod Runs
+pub mod Fills
+pub mod Counts
+pub mod Naming
+pub mod Heads
+pub mod Heaps
+pub mod Standing
+pub mod Parting

@@ -1,0 +1,43 @@
+-- `query::ranges` meets its contract. Assumes nothing.
+use borrow.Author.Tests.{not-true, not-false}
+use borrow.Author.Needs.{needs}
+use lib.ListN.{length}
+use Rattle.ground.proofs.Tests.{says-true, says-false, says-same}
+use Rattle.store_check.specs.Directory.{AllAre, AllBelow, NoneIs}
+use Rattle.store_check.proofs.directory.ranges.Statement.{statement}
+use Rattle.store_check.proofs.directory.ranges.Tie as tie
+
+none-is-requires : tie.Need-none-is-requires
+none-is-requires c κs = search needs
+
+returns : tie.Need-returns
+returns c =
+    let x = c .before .before .before .args in
+    λ e. says-false {P = NoneIs (x .dir .now) 0 (length (x .dir .now)) 1} (c .before .none-is .result) (not-true _ (c .if1 .taken)) (c .before .none-is .ensures) (e .not-one)
+
+all-below-requires : tie.Need-all-below-requires
+all-below-requires c κs = search needs
+
+returns-2 : tie.Need-returns-2
+returns-2 c =
+    let x = c .before .before .before .before .before .args in
+    λ e. says-false {P = AllBelow (x .dir .now) 0 (length (x .dir .now)) (x .n)} (c .before .all-below .result) (not-true _ (c .if2 .taken)) (c .before .all-below .ensures) (e .below)
+
+all-are-requires : tie.Need-all-are-requires
+all-are-requires c κs = search needs
+
+returns-3 : tie.Need-returns-3
+returns-3 c =
+    let x = c .before .before .before .before .before .before .args in
+    says-same {P = AllAre (x .dir .now) (x .m) (length (x .dir .now)) 0} (c .all-are .result) (c .all-are .ensures)
+    (λ b. record {
+      not-one = says-true {P = NoneIs (x .dir .now) 0 (length (x .dir .now)) 1} (c .before .before .before .before .none-is .result) (not-false _ (c .before .before .before .if1 .left)) (c .before .before .before .before .none-is .ensures);
+      below = says-true {P = AllBelow (x .dir .now) 0 (length (x .dir .now)) (x .n)} (c .before .before .all-below .result) (not-false _ (c .before .if2 .left)) (c .before .before .all-below .ensures);
+      beyond = b;
+    })
+    (λ e. e .beyond)
+
+pub ranges-spec : {M : Type 1} → statement M
+ranges-spec =
+    tie.close
+    (tie.spec none-is-requires returns all-below-requires returns-2 all-are-requires returns-3)

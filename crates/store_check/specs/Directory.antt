@@ -1,0 +1,41 @@
+-- The directory as it is read once, and runs of its entries. Assumes nothing.
+use mathlib.Core.Path.{_≡_}
+use mathlib.Core.List.{List}
+use mathlib.Core.Logic.{_↔_}
+use Prim.Native.Nat.{ℕ, _≤_, _<_}
+use lib.ListN.{length, getD}
+use Rattle.partition.specs.declared.Shape.{Shape}
+use Rattle.store.specs.Pages.{entryAt}
+use Rattle.store.specs.Accepted.{Calls}
+use Rattle.store_check.specs.Heaps.{Heaped}
+
+-- the entries of the directory of s
+pub record Entries (S : Shape) (s dir : List ℕ) : Type 0 where
+  pub long : length dir ≡ S .entries
+  pub entry : (i : ℕ) → i < S .entries → getD dir i 0 ≡ entryAt S s i
+
+-- the entries from a up to b are x
+abbrev pub AllAre : List ℕ → ℕ → ℕ → ℕ → Type 0
+AllAre dir a b x = (i : ℕ) → a ≤ i → i < b → getD dir i 0 ≡ x
+
+-- none of the entries from a up to b is x
+abbrev pub NoneIs : List ℕ → ℕ → ℕ → ℕ → Type 0
+NoneIs dir a b x = (i : ℕ) → a ≤ i → i < b → getD dir i 0 ≡ x → ⊥
+
+-- the entries from a up to b are below n
+abbrev pub AllBelow : List ℕ → ℕ → ℕ → ℕ → Type 0
+AllBelow dir a b n = (i : ℕ) → a ≤ i → i < b → getD dir i 0 < n
+
+-- for each of n pages the number of the entries up to m that name it
+abbrev pub Counted : List ℕ → ℕ → ℕ → List ℕ → Type 0
+Counted dir m n counts = Heaped (λ i. getD dir i 0) (λ i. 1) m n counts
+
+-- page 1's rules for n pages and a depth of which m is the power of two
+pub record Ranges (dir : List ℕ) (n m : ℕ) : Type 0 where
+  pub not-one : NoneIs dir 0 (length dir) 1
+  pub below : AllBelow dir 0 (length dir) n
+  pub beyond : AllAre dir m (length dir) 0
+
+-- page p is named by exactly the entries that the prefix v of k bits calls for
+abbrev pub Named : List ℕ → ℕ → ℕ → ℕ → ℕ → Type 0
+Named dir d k v p = (i : ℕ) → i < length dir → (getD dir i 0 ≡ p) ↔ Calls d k v i

@@ -1,0 +1,73 @@
+// The check's passes, in document order.
+ghost use Rattle.hash.specs.Fnv.{fnv};
+ghost use Rattle.store.specs.Pages.{S1024};
+ghost use Rattle.store.specs.Accepted.{GoodLength};
+ghost use Rattle.store.specs.Demands.{Sized};
+ghost use Rattle.store_check.specs.First.{Judged};
+ghost use Rattle.store_check.specs.Begun.{Tables};
+use super::directory::entries;
+use super::directory::ranges;
+use super::directory::tally;
+use super::head::page0_ok;
+use super::pages::first_unsound;
+use super::parted::first_joinable;
+use partition::Shape;
+
+// The page at which the check stops, or the number of pages.
+fn judge(
+    s: &[u8],
+    z: Shape,
+    dir: &mut [u32],
+    counts: &mut [u32],
+    hashes: &mut [u32],
+    sums: &mut [u32],
+    tab: &mut [u8],
+) -> usize
+    requires { ⌜ Sized z × GoodLength z (now s) × Tables z (now dir) (now counts) (now hashes) (now sums) (now tab) ⌝ }
+    ensures { λ r. ⌜ Judged z fnv (now (s .entry)) r ⌝ }
+{
+    let n = s.len() / (8 + z.capacity);
+    if !page0_ok(s, z, n) {
+        return 0;
+    }
+    let d = words::get32(s, 16) as u32;
+    let m = partition::two_to(d);
+    entries(s, z, dir);
+    if !ranges(dir, n as u32, m) {
+        return 1;
+    }
+    tally(dir, m, counts);
+    let p = first_unsound(s, z, dir, counts, n, d, tab, hashes);
+    if p < n {
+        return p;
+    }
+    let q = first_joinable(s, z, n, hashes, sums);
+    if q < n {
+        return q;
+    }
+    if store::deepest(s, z, n) != d as usize {
+        return 0;
+    }
+    n
+}
+
+// The same, for pages of 1,024 bytes.
+pub fn first_bad(s: &[u8]) -> usize
+    requires { ⌜ GoodLength S1024 (now s) ⌝ }
+    ensures { λ r. ⌜ Judged S1024 fnv (now (s .entry)) r ⌝ }
+{
+    let mut dir = [0u32; 256];
+    let mut counts = [0u32; 258];
+    let mut hashes = [0u32; 258];
+    let mut sums = [0u32; 257];
+    let mut tab = [0u8; 1024];
+    judge(
+        s,
+        partition::S1024,
+        &mut dir,
+        &mut counts,
+        &mut hashes,
+        &mut sums,
+        &mut tab,
+    )
+}

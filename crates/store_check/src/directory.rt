@@ -1,0 +1,111 @@
+// The directory, read once, and runs of its entries.
+ghost use mathlib.Core.Path.{_≡_};
+ghost use Prim.Native.Nat.{_*_, _^_, _≤_, _<_};
+ghost use lib.ListN.{length};
+ghost use Rattle.ground.specs.Says.{Says};
+ghost use Rattle.words.specs.Zeros.{Zero};
+ghost use Rattle.store_check.specs.Directory.{Entries, AllAre, NoneIs, AllBelow, Counted, Ranges, Named};
+ghost use Rattle.partition.specs.Bits.{top};
+ghost use Rattle.store.specs.Pages.{size};
+ghost use Rattle.store.specs.Demands.{Sized};
+use partition::Shape;
+
+// The directory's entries.
+pub fn entries(s: &[u8], z: Shape, dir: &mut [u32])
+    requires { ⌜ Sized z × (2 * size z ≤ length (now s)) × (length (now dir) ≡ z .entries) ⌝ }
+    ensures { λ _. ⌜ Entries z (now (s .entry)) (now (dir .exit)) ⌝ }
+{
+    let m = z.entries;
+    let mut i = 0;
+    while i < m {
+        dir[i] = words::get32(s, 8 + z.capacity + 4 * i) as u32;
+        i += 1;
+    }
+}
+
+// Whether all entries from a up to b are x.
+fn all_are(dir: &[u32], a: usize, b: usize, x: u32) -> bool
+    requires { ⌜ (a ≤ b) × (b ≤ length (now dir)) ⌝ }
+    ensures { λ r. ⌜ Says r (AllAre (now (dir .entry)) a b x) ⌝ }
+{
+    let mut ok = true;
+    let mut i = a;
+    while i < b {
+        if dir[i] != x {
+            ok = false;
+        }
+        i += 1;
+    }
+    ok
+}
+
+// Whether none of the entries from a up to b is x.
+fn none_is(dir: &[u32], a: usize, b: usize, x: u32) -> bool
+    requires { ⌜ (a ≤ b) × (b ≤ length (now dir)) ⌝ }
+    ensures { λ r. ⌜ Says r (NoneIs (now (dir .entry)) a b x) ⌝ }
+{
+    let mut ok = true;
+    let mut i = a;
+    while i < b {
+        if dir[i] == x {
+            ok = false;
+        }
+        i += 1;
+    }
+    ok
+}
+
+// Whether all entries from a up to b are below n.
+fn all_below(dir: &[u32], a: usize, b: usize, n: u32) -> bool
+    requires { ⌜ (a ≤ b) × (b ≤ length (now dir)) ⌝ }
+    ensures { λ r. ⌜ Says r (AllBelow (now (dir .entry)) a b n) ⌝ }
+{
+    let mut ok = true;
+    let mut i = a;
+    while i < b {
+        if n <= dir[i] {
+            ok = false;
+        }
+        i += 1;
+    }
+    ok
+}
+
+// Whether the entries are in range for n pages, and zero from m on.
+pub fn ranges(dir: &[u32], n: u32, m: usize) -> bool
+    requires { ⌜ m ≤ length (now dir) ⌝ }
+    ensures { λ r. ⌜ Says r (Ranges (now (dir .entry)) n m) ⌝ }
+{
+    if !none_is(dir, 0, dir.len(), 1) {
+        return false;
+    }
+    if !all_below(dir, 0, dir.len(), n) {
+        return false;
+    }
+    all_are(dir, m, dir.len(), 0)
+}
+
+// How many of the entries up to m name each page.
+pub fn tally(dir: &[u32], m: usize, counts: &mut [u32])
+    requires { ⌜ (m ≤ length (now dir)) × (m ≤ 4096) × AllBelow (now dir) 0 m (length (now counts)) × Zero (now counts) ⌝ }
+    ensures { λ _. ⌜ Counted (now (dir .entry)) m (length (now (counts .entry))) (now (counts .exit)) ⌝ }
+{
+    let mut i = 0;
+    while i < m {
+        let e = dir[i] as usize;
+        counts[e] = counts[e] + 1;
+        i += 1;
+    }
+}
+
+// Whether page p is named by exactly the entries that the first k bits of the hash x call for, in a directory of depth d: all of them, and as many as name p.
+pub fn named(dir: &[u32], counts: &[u32], d: u32, k: u32, x: u32, p: u32) -> bool
+    requires { ⌜ (2 ^ d ≤ length (now dir)) × (d ≤ 12) × (k ≤ d) × (2 ≤ p) × (p < length (now counts)) × AllAre (now dir) (2 ^ d) (length (now dir)) 0 × Counted (now dir) (2 ^ d) (length (now counts)) (now counts) ⌝ }
+    ensures { λ r. ⌜ Says r (Named (now (dir .entry)) d k (top k x) p) ⌝ }
+{
+    let run = partition::run_of(x, k, d);
+    if counts[p as usize] as usize != run.to - run.from {
+        return false;
+    }
+    all_are(dir, run.from, run.to, p)
+}
