@@ -18,7 +18,7 @@ use Rattle.commands.specs.declared.Command.{Command}
 use Rattle.commands.specs.declared.Command.the-variants.{Nothing, Unknown, Format, Put, Lookup, Remove, Count, Row, Listing, Check, Inspect}
 use Rattle.commands.specs.Numbers.{Decimal, Integer}
 use Rattle.commands.specs.Codes.{Spells, Coded}
-use Rattle.commands.specs.Lines.{Spaceless, After, Placed, Places, Putting, Asks, Fitting, AsksNothing, Spoken, Uncoded, formatWord, putWord, lookupWord, removeWord, countWord, rowWord, listWord, checkWord, inspectWord}
+use Rattle.commands.specs.Lines.{Spaceless, After, Placed, Places, Putting, Asks, WithinLimits, AsksNothing, Spoken, Uncoded, formatWord, putWord, lookupWord, removeWord, countWord, rowWord, listWord, checkWord, inspectWord}
 use Rattle.commands.proofs.Unread.{split-one, no-space, integer-spaceless, spells-spaceless}
 
 -- ---- places
@@ -97,7 +97,7 @@ module _ (w r : List ℕ) (f : Spaceless w) (s : Spoken (w ++ (32 ∷ r))) where
 
   -- a word and a number
   module _ (u : Uncoded w) (no : (n : ℕ) → n < 2 ^ 64 → Decimal n r → (w ≡ formatWord) ⊎ ((w ≡ rowWord) ⊎ (w ≡ inspectWord)) → ⊥) where
-    numbers : (j : List ℕ) (c : Command) → Fitting c → On w r j c → ⊥
+    numbers : (j : List ℕ) (c : Command) → WithinLimits c → On w r j c → ⊥
     numbers j Nothing h o = o
     numbers j (Format n) h o = no n h (o .1) (inl (o .0))
     numbers j (Put n p) h o = u .put (o .0)
@@ -152,7 +152,7 @@ module _ (w r : List ℕ) (f : Spaceless w) (s : Spoken (w ++ (32 ∷ r))) where
 
 -- what stands after put
 module _ (r k : List ℕ) (no : (j : List ℕ) (n : ℕ) (p : Place) → length j ≡ length k → InRange p → Putting j n p r → ⊥) where
-  puts : (j : List ℕ) (c : Command) → length j ≡ length k → Fitting c → On putWord r j c → ⊥
+  puts : (j : List ℕ) (c : Command) → length j ≡ length k → WithinLimits c → On putWord r j c → ⊥
   puts j Nothing l h o = o
   puts j (Format n) l h o = apart 0 formatWord putWord putWord (o .0) refl (λ x. omega arith)
   puts j (Put n p) l h o = no j n p l h (o .1)

@@ -13,7 +13,7 @@ use lib.Seq.{drop-cons, drop-drop, getD-append-add, getD-drop, getD-take, length
 use Rattle.ground.specs.Lists.{byte}
 use Rattle.commands.specs.declared.Number.the-variants.{Not}
 use Rattle.commands.specs.declared.Signed.the-variants.{Other}
-use Rattle.commands.specs.Numbers.{Decimal, Integer, Reads, ReadsSigned, signed, marked}
+use Rattle.commands.specs.Numbers.{Decimal, Integer, ReadsNumber, ReadsSigned, signed, marked}
 use Rattle.commands.specs.Codes.{Plain, Hex, Unhex, Spells, none, plain, escaped, One}
 use Rattle.commands.specs.declared.Glyph.{Glyph}
 use Rattle.commands.specs.Lines.{FirstSpace, Spaceless}
@@ -96,7 +96,7 @@ module _ (w : List ℕ) (most : ℕ) where
         let g : byte d 0 ≡ 45 = ap (λ (x : List ℕ). byte x 0) u in
         omega (arith, i .each 0 (i .some) .least)
 
-    pub unread-minus : most < 2 ^ 63 → Reads v Not → ReadsSigned w most Other
+    pub unread-minus : most < 2 ^ 63 → ReadsNumber v Not → ReadsSigned w most Other
     unread-minus h r z m i = minus-only z (i .minus) (i .digits) (i .size) (i .text) (i .sized) (i .is) m (λ d l. r (i .size) (omega arith) d)
 
     pub minus-large : (n : ℕ) → Decimal n v → most + 1 < n → ReadsSigned w most Other
@@ -107,7 +107,7 @@ module _ (w : List ℕ) (most : ℕ) where
     plus-only z false d n e i s m f = f (subst (Decimal n) (sym e) i) (subst (λ (y : ℤ). mag y ≤ most) s m)
     plus-only z true d n e i s m f = t (ap (λ (x : List ℕ). byte x 0) e)
 
-    pub unread-plus : most < 2 ^ 63 → Reads w Not → ReadsSigned w most Other
+    pub unread-plus : most < 2 ^ 63 → ReadsNumber w Not → ReadsSigned w most Other
     unread-plus h r z m i = plus-only z (i .minus) (i .digits) (i .size) (i .text) (i .sized) (i .is) m (λ d l. r (i .size) (omega arith) d)
 
     pub plus-large : (n : ℕ) → Decimal n w → most < n → ReadsSigned w most Other

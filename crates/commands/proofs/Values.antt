@@ -7,7 +7,7 @@ use native.Mathlib.Numerals.{add-one}
 use native.Mathlib.Omega.{arith}
 use lib.ListN.{length}
 use Rattle.ground.specs.Lists.{byte}
-use Rattle.commands.specs.Numbers.{value, Digit, Worth, Reads}
+use Rattle.commands.specs.Numbers.{value, Digit, Worth, ReadsNumber}
 use Rattle.commands.specs.declared.Number.the-variants.{Not}
 
 value-step : (w : List ℕ) (k : ℕ) → value w (k + 1) ≡ value w k * 10 + (byte w k - 48)
@@ -31,14 +31,14 @@ value-grows w i zero = rw add-zero (le-refl _)
 value-grows w i (suc k) = let h : value w i ≤ value w (i + k) = value-grows w i k in rw add-suc (omega arith)
 
 -- a word with another byte, or with too much in its first digits, is no number of 64 bits
-pub no-digit : (w : List ℕ) (i : ℕ) → i < length w → (Digit (byte w i) → ⊥) → Reads w Not
+pub no-digit : (w : List ℕ) (i : ℕ) → i < length w → (Digit (byte w i) → ⊥) → ReadsNumber w Not
 no-digit w i h d = λ n l e. d (e .each i h)
 
-too-much : (w : List ℕ) (i : ℕ) → i ≤ length w → 2 ^ 64 ≤ value w i → Reads w Not
+too-much : (w : List ℕ) (i : ℕ) → i ≤ length w → 2 ^ 64 ≤ value w i → ReadsNumber w Not
 too-much w i h m = λ n l e.
     let k : i + (length w - i) ≡ length w = omega arith in
     let g : value w i ≤ value w (length w) = subst (λ (j : ℕ). value w i ≤ value w j) k (value-grows w i (length w - i)) in
     omega arith
 
-pub overflows : (w : List ℕ) (k n d : ℕ) → k < length w → value w k ≡ n → Worth (byte w k) d → d < 10 → 2 ^ 64 ≤ n * 10 + d → Reads w Not
+pub overflows : (w : List ℕ) (k n d : ℕ) → k < length w → value w k ≡ n → Worth (byte w k) d → d < 10 → 2 ^ 64 ≤ n * 10 + d → ReadsNumber w Not
 overflows w k n d h e o l m = too-much w (k + 1) (omega arith) (rw (next w k n d e o l) m)

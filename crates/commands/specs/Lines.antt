@@ -103,22 +103,22 @@ Asks l k (Inspect n) = After l inspectWord (Decimal n)
 Asks l k Unknown = ⊥
 
 -- no number is too large for its field
-abbrev pub Fitting : Command → Type 0
-Fitting Nothing = Unit {0}
-Fitting (Format n) = n < 2 ^ 64
-Fitting (Put n p) = InRange p
-Fitting (Lookup n) = Unit {0}
-Fitting (Remove n) = Unit {0}
-Fitting Count = Unit {0}
-Fitting (Row n) = n < 2 ^ 64
-Fitting Listing = Unit {0}
-Fitting Check = Unit {0}
-Fitting (Inspect n) = n < 2 ^ 64
-Fitting Unknown = Unit {0}
+abbrev pub WithinLimits : Command → Type 0
+WithinLimits Nothing = Unit {0}
+WithinLimits (Format n) = n < 2 ^ 64
+WithinLimits (Put n p) = InRange p
+WithinLimits (Lookup n) = Unit {0}
+WithinLimits (Remove n) = Unit {0}
+WithinLimits Count = Unit {0}
+WithinLimits (Row n) = n < 2 ^ 64
+WithinLimits Listing = Unit {0}
+WithinLimits Check = Unit {0}
+WithinLimits (Inspect n) = n < 2 ^ 64
+WithinLimits Unknown = Unit {0}
 
 -- the line asks nothing whose numbers fit, with a code no longer than k
 abbrev pub AsksNothing : List ℕ → List ℕ → Type 0
-AsksNothing l k = (j : List ℕ) (c : Command) → length j ≡ length k → Fitting c → Asks l j c → ⊥
+AsksNothing l k = (j : List ℕ) (c : Command) → length j ≡ length k → WithinLimits c → Asks l j c → ⊥
 
 -- what a line is taken for: the command that it asks, or unknown where it asks none
 abbrev pub Means : List ℕ → List ℕ → Command → Type 0

@@ -40,9 +40,9 @@ pub record Numeral (n : ℕ) (w : List ℕ) : Type 0 where
   pub text : w ≡ digits 10 (length w) n
 
 -- a word is read as a number of 64 bits, or it is none
-abbrev pub Reads : List ℕ → Number → Type 0
-Reads w (Is n) = Decimal n w
-Reads w Not = (n : ℕ) → n < 2 ^ 64 → Decimal n w → ⊥
+abbrev pub ReadsNumber : List ℕ → Number → Type 0
+ReadsNumber w (Is n) = Decimal n w
+ReadsNumber w Not = (n : ℕ) → n < 2 ^ 64 → Decimal n w → ⊥
 
 -- n, or -n
 abbrev pub signed : Bool → ℕ → ℤ

@@ -2,7 +2,7 @@
 ghost use mathlib.Core.Path.{_≡_};
 ghost use Prim.Native.Nat.{_≤_, _<_, _^_};
 ghost use lib.IntN.{pos, negℤ};
-ghost use Rattle.commands.specs.Numbers.{Reads, ReadsSigned, Worth};
+ghost use Rattle.commands.specs.Numbers.{ReadsNumber, ReadsSigned, Worth};
 use crate::Number;
 use crate::Signed;
 
@@ -21,7 +21,7 @@ fn digit(b: u8) -> usize
 
 // The number that a word writes, if 64 bits hold it.
 pub fn read_number(w: &[u8]) -> Number
-    ensures { λ r. ⌜ Reads (now (w .entry)) r ⌝ }
+    ensures { λ r. ⌜ ReadsNumber (now (w .entry)) r ⌝ }
 {
     let mut n: usize = 0;
     let mut i = 0;

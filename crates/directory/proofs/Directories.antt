@@ -18,7 +18,7 @@ use Rattle.partition.specs.Partition.{Prefix, first, after}
 use Rattle.partition.proofs.Directory.{holds-range}
 use Rattle.store.specs.Pages.{S1024, page, entryAt}
 use Rattle.store.specs.Accepted.{Calls}
-use Rattle.directory.specs.Directory.{CallsFor, Entry, none, names, Directed, RunSet, PageNamed, Standing}
+use Rattle.directory.specs.Directory.{CallsFor, EntryFor, none, names, Directed, RunSet, PageNamed, Nameable}
 
 pub run-none : (s : List ℕ) (a p : ℕ) → RunSet s a a p s
 run-none s a p = record { new = λ i f l. absurd (omega arith); old = record { len = refl; below = λ i l. refl; above = λ i l. refl } }
@@ -105,7 +105,7 @@ module _ (h : List ℕ → ℕ) {s t u v : List ℕ} {d n : ℕ} (w : Put32 s 16
   kept-page : (p : ℕ) → 2 ≤ p → p < n → page S1024 u p ≡ page S1024 s p
   kept-page p a b = page-above s u p a (omega arith) (c .len ∙ w .old .len) kept-above
 
-  entry-from : (i e : ℕ) → Entry h u d n i e → Entry h s d n i e
+  entry-from : (i e : ℕ) → EntryFor h u d n i e → EntryFor h s d n i e
   entry-from i e (none z f) = none z (λ p a b x. f p a b (calls-same h u s d i p (sym (kept-page p a b)) x))
   entry-from i e (names a b x) = names a b (calls-same h s u d i e (kept-page e a b) x)
 
@@ -124,8 +124,8 @@ module _ (h : List ℕ → ℕ) {s t u : List ℕ} {d p : ℕ} (two : 2 ≤ p) (
   same-page : page S1024 t p ≡ page S1024 s p
   same-page = page-above s t p two within (D .long) (D .above)
 
-  entry-more : (i : ℕ) → Entry h s d p i (entryAt S1024 t i)
-      → (CallsFor h t d i p × (entryAt S1024 u i ≡ p)) ⊎ ((CallsFor h t d i p → ⊥) × (entryAt S1024 u i ≡ entryAt S1024 t i)) → Entry h s d (p + 1) i (entryAt S1024 u i)
+  entry-more : (i : ℕ) → EntryFor h s d p i (entryAt S1024 t i)
+      → (CallsFor h t d i p × (entryAt S1024 u i ≡ p)) ⊎ ((CallsFor h t d i p → ⊥) × (entryAt S1024 u i ≡ entryAt S1024 t i)) → EntryFor h s d (p + 1) i (entryAt S1024 u i)
   entry-more i old (inl y) = rw (y .1) (names two (omega arith) (calls-same h s t d i p same-page (y .0)))
   entry-more i (none z f) (inr n) = none (n .1 ∙ z) (λ q a b c. ⊎-elim (λ lt. f q a lt c) (λ ge. let e : q ≡ p = omega arith in n .0 (calls-same h t s d i p (sym same-page) (subst (λ x. CallsFor h s d i x) e c))) (side q p))
   entry-more i (names a b c) (inr n) = rw (n .1) (names a (omega arith) c)
@@ -141,5 +141,5 @@ module _ (h : List ℕ → ℕ) {s t u : List ℕ} {d p : ℕ} (two : 2 ≤ p) (
   }
 
 -- a page of the store keeps its standing while the directory is written
-pub standing-on : (h : List ℕ → ℕ) {s t : List ℕ} {d e p : ℕ} → 2 ≤ p → p * 1024 + 1024 ≤ length s → Directed h s d p t → Standing e (page S1024 s p) → Standing e (page S1024 t p)
-standing-on h {s} {t} {d} {e} {p} two within D st = subst (Standing e) (sym (page-above s t p two within (D .long) (D .above))) st
+pub standing-on : (h : List ℕ → ℕ) {s t : List ℕ} {d e p : ℕ} → 2 ≤ p → p * 1024 + 1024 ≤ length s → Directed h s d p t → Nameable e (page S1024 s p) → Nameable e (page S1024 t p)
+standing-on h {s} {t} {d} {e} {p} two within D st = subst (Nameable e) (sym (page-above s t p two within (D .long) (D .above))) st

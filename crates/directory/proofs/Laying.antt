@@ -18,7 +18,7 @@ use Rattle.store.proofs.Showing.{first-code, pages-held}
 use Rattle.store.proofs.Named as Named
 use Rattle.store.proofs.Named.{deepest-le, deepest-bound}
 use Rattle.store.proofs.Accepting.{Head, Whole, Laid, head-kept, contents-kept, each-kept}
-use Rattle.directory.specs.Directory.{Entry, none, names, Directed, Directable, Sound, free, used, Settling}
+use Rattle.directory.specs.Directory.{EntryFor, none, names, Directed, Directable, SoundPage, free, used, Settling}
 
 module _ (s : List ℕ) (n : ℕ) (P : Settling s n) where
   many : pages S1024 s ≡ n
@@ -34,7 +34,7 @@ module _ (s : List ℕ) (n : ℕ) (P : Settling s n) where
       e : read (page S1024 s (i + 2)) ≡ bucket k rs
       e = let q : i + 2 - 2 ≡ i = omega arith in sym (held S1024 s (i + 2) (omega arith) (omega (arith, many))) ∙ ap (λ j. getD (contents S1024 s) j Page.free) q ∙ x
 
-      go : Sound (page S1024 s (i + 2)) → BucketPage (page S1024 s (i + 2)) × (depth (page S1024 s (i + 2)) ≡ k) × (rows (page S1024 s (i + 2)) ≡ rs) × (k ≤ 8)
+      go : SoundPage (page S1024 s (i + 2)) → BucketPage (page S1024 s (i + 2)) × (depth (page S1024 s (i + 2)) ≡ k) × (rows (page S1024 s (i + 2)) ≡ rs) × (k ≤ 8)
       go (free z) = absurd (free-not (sym (read-zero (page S1024 s (i + 2)) z) ∙ e))
       go (used b d) = let w = bucket-one (sym (read-used (page S1024 s (i + 2)) b) ∙ e) in (b, w .0, w .1, omega (arith, w .0, d))
 
@@ -56,7 +56,7 @@ module _ (s : List ℕ) (n : ℕ) (P : Settling s n) where
   is-used : (p : ℕ) → 2 ≤ p → p < n → byte (page S1024 s p) 0 ≡ 1 → BucketPage (page S1024 s p)
   is-used p a b e = go (P .pages p a b)
     where
-      go : Sound (page S1024 s p) → BucketPage (page S1024 s p)
+      go : SoundPage (page S1024 s p) → BucketPage (page S1024 s p)
       go (free z) = absurd (omega (arith, z 0))
       go (used u d) = u
 
@@ -75,12 +75,12 @@ module _ (s : List ℕ) (n : ℕ) (P : Settling s n) where
   whole-of : (p : ℕ) → 2 ≤ p → p < pages S1024 s → Whole (page S1024 s p)
   whole-of p a b = go (P .pages p a (omega (arith, many)))
     where
-      go : Sound (page S1024 s p) → Whole (page S1024 s p)
+      go : SoundPage (page S1024 s p) → Whole (page S1024 s p)
       go (free z) = inl z
       go (used u d) = inr u
 
   module _ (h : List ℕ → ℕ) (t : List ℕ) (head : Head S1024 s) (D : Directed h s deep n t) where
-    entry-of : (i : ℕ) → Entry h s deep n i (entryAt S1024 t i) → Named.Entry S1024 h t (contents S1024 s) deep (n - 2) i
+    entry-of : (i : ℕ) → EntryFor h s deep n i (entryAt S1024 t i) → Named.EntryFor S1024 h t (contents S1024 s) deep (n - 2) i
     entry-of i (none z f) = Named.nothing z (λ j k rs l x c.
         let w = on-page j k rs x (inside j k rs x) in
         f (j + 2) (omega arith) (inside j k rs x) (record {
@@ -104,5 +104,5 @@ module _ (s : List ℕ) (n : ℕ) (P : Settling s n) where
       deep = D .deep;
       each = each-kept S1024 s t (D .long) (D .above) whole-of;
       holds = contents-kept S1024 s t (D .long) (D .above);
-      entry = λ e l. subst₂ (λ d m. Named.Entry S1024 h t (contents S1024 s) d m e) (sym (D .deep)) (ap (λ m. m - 2) (sym same-many)) (entry-of e (D .entries e l));
+      entry = λ e l. subst₂ (λ d m. Named.EntryFor S1024 h t (contents S1024 s) d m e) (sym (D .deep)) (ap (λ m. m - 2) (sym same-many)) (entry-of e (D .entries e l));
     }

@@ -18,7 +18,7 @@ use Rattle.store.proofs.Shows.{Shows}
 use Rattle.store.proofs.Unique.{read-used}
 use Rattle.store.proofs.Accepting.{accepted-laid, head-kept, laid-becomes}
 use Rattle.store.proofs.Views.{setPage, set-long, set-same, set-other, set-below, set-contents}
-use Rattle.directory.specs.Directory.{Directed, Sound, free, used, Settling, Rewritten}
+use Rattle.directory.specs.Directory.{Directed, SoundPage, free, used, Settling, Rewritten}
 use Rattle.directory.proofs.Laying.{directed-laid}
 
 -- one page more
@@ -33,9 +33,9 @@ module _ (s t : List ℕ) (W : Rewritten s t) (p : ℕ) (two : 2 ≤ p) (to : p 
     sound = λ x a b. go x a b (ℕ-discrete x p);
   }
     where
-      go : (x : ℕ) → 2 ≤ x → x < pages S1024 s → Dec (x ≡ p) → Sound (page S1024 (setPage S1024 t p q) x)
-      go x a b (yes e) = subst Sound (sym (ap (page S1024 (setPage S1024 t p q)) e ∙ set-same S1024 t p q there long)) (used Q deep)
-      go x a b (no n) = subst Sound (sym (set-other S1024 t p q there long x n)) (W .sound x a b)
+      go : (x : ℕ) → 2 ≤ x → x < pages S1024 s → Dec (x ≡ p) → SoundPage (page S1024 (setPage S1024 t p q) x)
+      go x a b (yes e) = subst SoundPage (sym (ap (page S1024 (setPage S1024 t p q)) e ∙ set-same S1024 t p q there long)) (used Q deep)
+      go x a b (no n) = subst SoundPage (sym (set-other S1024 t p q there long x n)) (W .sound x a b)
 
   pub set-holds : contents S1024 (setPage S1024 t p q) ≡ set (contents S1024 t) (p - 2) (bucket (depth q) (rows q))
   set-holds = set-contents S1024 t p q there long two ∙ ap (set (contents S1024 t) (p - 2)) (read-used q Q)
@@ -44,7 +44,7 @@ module _ (h : List ℕ → ℕ) (hash : Hash h) (s : List ℕ) (A : Accepted S10
   pub unwritten : Rewritten s s
   unwritten = record { long = refl; low = λ k l. refl; sound = λ p a b. go p (opened S1024 h s A .stands p a b) }
     where
-      go : (p : ℕ) → Stands S1024 h s p → Sound (page S1024 s p)
+      go : (p : ℕ) → Stands S1024 h s p → SoundPage (page S1024 s p)
       go p (unused z _) = free z
       go p (in-use b l _) = used (b .rules) (le-trans l (opened S1024 h s A .page0 .depth))
 

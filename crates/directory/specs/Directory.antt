@@ -17,9 +17,9 @@ pub record CallsFor (h : List ℕ → ℕ) (s : List ℕ) (d i p : ℕ) : Type 0
   pub calls : Calls d (depth (page S1024 s p)) (top (depth (page S1024 s p)) (h (code (page S1024 s p) 0))) i
 
 -- of the pages from 2 below n, entry i names one that calls for it, or is zero where none does
-pub data Entry (h : List ℕ → ℕ) (s : List ℕ) (d n i e : ℕ) : Type 0 where
-  none : e ≡ 0 → ((p : ℕ) → 2 ≤ p → p < n → CallsFor h s d i p → ⊥) → Entry h s d n i e
-  names : 2 ≤ e → e < n → CallsFor h s d i e → Entry h s d n i e
+pub data EntryFor (h : List ℕ → ℕ) (s : List ℕ) (d n i e : ℕ) : Type 0 where
+  none : e ≡ 0 → ((p : ℕ) → 2 ≤ p → p < n → CallsFor h s d i p → ⊥) → EntryFor h s d n i e
+  names : 2 ≤ e → e < n → CallsFor h s d i e → EntryFor h s d n i e
 
 -- t is s with the depth d and the directory of its pages from 2 below n
 pub record Directed (h : List ℕ → ℕ) (s : List ℕ) (d n : ℕ) (t : List ℕ) : Type 0 where
@@ -27,7 +27,7 @@ pub record Directed (h : List ℕ → ℕ) (s : List ℕ) (d n : ℕ) (t : List 
   pub start : (k : ℕ) → k < 16 → byte t k ≡ byte s k
   pub deep : dirDepth t ≡ d
   pub rest : (k : ℕ) → 20 ≤ k → k < 1024 → byte t k ≡ byte s k
-  pub entries : (i : ℕ) → i < 256 → Entry h s d n i (entryAt S1024 t i)
+  pub entries : (i : ℕ) → i < 256 → EntryFor h s d n i (entryAt S1024 t i)
   pub above : (k : ℕ) → 2048 ≤ k → byte t k ≡ byte s k
 
 -- the entries from a up to b are p, all else is as it was
@@ -41,7 +41,7 @@ pub record PageNamed (h : List ℕ → ℕ) (s : List ℕ) (d p : ℕ) (t : List
   pub old : Frame s 1024 1024 t
 
 -- a page of a directory of depth d: if it is a bucket, its rules hold and its depth is not above d
-pub record Standing (d : ℕ) (g : List ℕ) : Type 0 where
+pub record Nameable (d : ℕ) (g : List ℕ) : Type 0 where
   pub rules : byte g 0 ≡ 1 → BucketPage g
   pub depths : byte g 0 ≡ 1 → depth g ≤ d
 
@@ -51,22 +51,22 @@ pub record Directable (s : List ℕ) (n d : ℕ) : Type 0 where
   pub least : 3 ≤ n
   pub most : n ≤ 258
   pub deep : d ≤ 8
-  pub pages : (p : ℕ) → 2 ≤ p → p < n → Standing d (page S1024 s p)
+  pub pages : (p : ℕ) → 2 ≤ p → p < n → Nameable d (page S1024 s p)
 
 -- a free page, or a bucket page of depth 0 to 8
-pub data Sound (g : List ℕ) : Type 0 where
-  free : Zero g → Sound g
-  used : BucketPage g → depth g ≤ 8 → Sound g
+pub data SoundPage (g : List ℕ) : Type 0 where
+  free : Zero g → SoundPage g
+  used : BucketPage g → depth g ≤ 8 → SoundPage g
 
 -- a store of n pages, each of them sound
 pub record Settling (s : List ℕ) (n : ℕ) : Type 0 where
   pub size : length s ≡ n * 1024
   pub least : 3 ≤ n
   pub most : n ≤ 258
-  pub pages : (p : ℕ) → 2 ≤ p → p < n → Sound (page S1024 s p)
+  pub pages : (p : ℕ) → 2 ≤ p → p < n → SoundPage (page S1024 s p)
 
 -- t is s but for its pages from 2 on, which are sound
 pub record Rewritten (s t : List ℕ) : Type 0 where
   pub long : length t ≡ length s
   pub low : (k : ℕ) → k < 2048 → byte t k ≡ byte s k
-  pub sound : (p : ℕ) → 2 ≤ p → p < pages S1024 s → Sound (page S1024 t p)
+  pub sound : (p : ℕ) → 2 ≤ p → p < pages S1024 s → SoundPage (page S1024 t p)

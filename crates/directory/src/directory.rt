@@ -3,7 +3,7 @@ ghost use Prim.Native.Nat.{_+_, _*_, _≤_, _<_};
 ghost use lib.ListN.{length};
 ghost use Rattle.hash.specs.Fnv.{fnv};
 ghost use Rattle.store.specs.Pages.{S1024, page, contents, deepestIn};
-ghost use Rattle.directory.specs.Directory.{RunSet, PageNamed, Standing, Directable, Directed, Settling};
+ghost use Rattle.directory.specs.Directory.{RunSet, PageNamed, Nameable, Directable, Directed, Settling};
 
 // The entries from a up to b name page p.
 fn set_run(s: &mut [u8], a: usize, b: usize, p: usize)
@@ -19,7 +19,7 @@ fn set_run(s: &mut [u8], a: usize, b: usize, p: usize)
 
 // The entries that page p calls for name it.
 fn name_page(s: &mut [u8], p: usize, d: u32)
-    requires { ⌜ (2 ≤ p) × (p < 258) × (p * 1024 + 1024 ≤ length (now s)) × (d ≤ 8) × Standing d (page S1024 (now s) p) ⌝ }
+    requires { ⌜ (2 ≤ p) × (p < 258) × (p * 1024 + 1024 ≤ length (now s)) × (d ≤ 8) × Nameable d (page S1024 (now s) p) ⌝ }
     ensures { λ _. ⌜ PageNamed fnv (now (s .entry)) d p (now (s .exit)) ⌝ }
 {
     let a = p * 1024;

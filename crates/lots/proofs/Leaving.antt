@@ -17,7 +17,7 @@ use Rattle.store.proofs.Kept.{refusal-keeps}
 use Rattle.lots.specs.declared.Outcome.{Outcome}
 use Rattle.lots.specs.declared.Outcome.the-variants.{Same, Changed, Format as Formats, Stopped}
 use Rattle.lots.specs.declared.Session.{Session}
-use Rattle.lots.specs.Obeys.{Tells, Does, Obeys}
+use Rattle.lots.specs.Obeys.{Outcomes, Does, Obeys}
 use Rattle.lots.specs.Sessions.{Leaves, After, Kept, Ran}
 
 -- a store whose rows are counted is accepted
@@ -28,7 +28,7 @@ counted-accepted s n (inr (_, inl x)) = absurd (let z : _≡_ {A = ℕ} 0 1 = cc
 counted-accepted s n (inr (_, inr x)) = x .1 .0
 
 -- a call whose refusal is told leaves every byte
-pub told-leaves : (c : Call) (s : List ℕ) (a : Out) (o : Outcome) (t : List ℕ) → Made S1024 fnv c s a t → Tells a o → Leaves o → t ≡ s
+pub told-leaves : (c : Call) (s : List ℕ) (a : Out) (o : Outcome) (t : List ℕ) → Made S1024 fnv c s a t → Outcomes a o → Leaves o → t ≡ s
 told-leaves c s a Same t m r l = refusal-keeps S1024 fnv c s a t m r
 told-leaves c s a (Formats n) t m r l = absurd r
 told-leaves c s a Changed t m r l = absurd l

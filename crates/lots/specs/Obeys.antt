@@ -22,17 +22,17 @@ Untouched Changed = ⊥
 Untouched (Formats n) = ⊥
 
 -- the store counts as changed exactly where a call that writes is not refused
-abbrev pub Tells : Out → Outcome → Type 0
-Tells a Same = ok a ≡ false
-Tells a Changed = ok a ≡ true
-Tells a Stopped = Unit {0}
-Tells a (Formats n) = ⊥
+abbrev pub Outcomes : Out → Outcome → Type 0
+Outcomes a Same = ok a ≡ false
+Outcomes a Changed = ok a ≡ true
+Outcomes a Stopped = Unit {0}
+Outcomes a (Formats n) = ⊥
 
 -- the call c made t of the store s, and its answer is told
 pub record Written (c : Call) (s : List ℕ) (o : Outcome) (t : List ℕ) : Type 0 where
   pub answer : Out
   pub made : Made S1024 fnv c s answer t
-  pub told : Tells answer o
+  pub told : Outcomes answer o
 
 -- a command on the store s; its code begins the buffer k
 abbrev pub Does : List ℕ → Command → List ℕ → Outcome → List ℕ → Type 0

@@ -5,7 +5,7 @@ ghost use Rattle.store.specs.Accepted.{Accepted};
 ghost use Rattle.store.specs.Demands.{ok};
 ghost use Rattle.store.specs.Pages.{S1024};
 ghost use Rattle.store.specs.Tables.{meaning};
-ghost use Rattle.lots.specs.Obeys.{Obeys, Tells, Untouched};
+ghost use Rattle.lots.specs.Obeys.{Obeys, Outcomes, Untouched};
 use super::say;
 use crate::Outcome;
 use commands::Command;
@@ -60,7 +60,7 @@ fn is_done(a: Answer) -> bool
 
 // The answer of a call that writes.
 pub fn wrote(a: Answer) -> Outcome
-    ensures { λ r. ⌜ Tells (meaning a) r ⌝ }
+    ensures { λ r. ⌜ Outcomes (meaning a) r ⌝ }
 {
     if !say::answer(a, b"") {
         return Outcome::Stopped;

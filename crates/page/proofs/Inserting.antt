@@ -49,7 +49,7 @@ pub row-same : {p q : List ℕ} (i j : ℕ) → Same q i p j → rowAt q i ≡ r
 row-same i j e = λ k. record { start = e .off-is k; place = e .place-is k; code = e .code-is k }
 
 -- what a slot's numbers must be, for a page whose frontier is f
-pub record Fine (f o l k : ℕ) (pl : List ℕ) : Type 0 where
+pub record SlotNumbers (f o l k : ℕ) (pl : List ℕ) : Type 0 where
   pub kind-one : k ≡ 1
   pub short : 9 ≤ l
   pub long : l ≤ 72
@@ -103,7 +103,7 @@ module _ (p : List ℕ) (s : ℕ) (c pl q : List ℕ) (I : Insertable p s c pl) 
   unfolding code
   new-code = let e : len q s - 8 ≡ length c = omega (arith, new-len) in rw (new-off, e) (P .coded)
 
-  fine-old : (i j : ℕ) → j < count p → Same q i p j → Fine (frontier q) (off q i) (len q i) (kind q i) (place q i)
+  fine-old : (i j : ℕ) → j < count p → Same q i p j → SlotNumbers (frontier q) (off q i) (len q i) (kind q i) (place q i)
   fine-old i j h e = let l : Lies p j = lies j (I .page) h in record {
     kind-one = e .kind-is ∙ I .page .kinds j h;
     short = omega (arith, e .len-is);
@@ -113,7 +113,7 @@ module _ (p : List ℕ) (s : ℕ) (c pl q : List ℕ) (I : Insertable p s c pl) 
     natural = rw (e .place-is) (I .page .places j h);
   }
 
-  fine-new : Fine (frontier q) (off q s) (len q s) (kind q s) (place q s)
+  fine-new : SlotNumbers (frontier q) (off q s) (len q s) (kind q s) (place q s)
   fine-new = record {
     kind-one = new-kind;
     short = omega (arith, new-len, I .some);
@@ -123,7 +123,7 @@ module _ (p : List ℕ) (s : ℕ) (c pl q : List ℕ) (I : Insertable p s c pl) 
     natural = rw new-place (I .natural);
   }
 
-  fine : (i : ℕ) → From p s q i → Fine (frontier q) (off q i) (len q i) (kind q i) (place q i)
+  fine : (i : ℕ) → From p s q i → SlotNumbers (frontier q) (off q i) (len q i) (kind q i) (place q i)
   fine i (below h e) = fine-old i i (omega (arith, I .belongs .within)) e
   fine i (here e) = rw e fine-new
   fine i (above j f h m e) = fine-old i j m e

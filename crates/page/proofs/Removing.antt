@@ -16,7 +16,7 @@ use Rattle.page.specs.Steps.{Removable, Removed, Closed, Headed, Top}
 use Rattle.ground.proofs.Tables.{tab-remove, total-insert}
 use Rattle.page.proofs.Slots.{Lies, lies}
 use Rattle.page.proofs.Painted.{word-at}
-use Rattle.page.proofs.Inserting.{Same, same-word, same-in, in-same, same-before, Fine, row-same}
+use Rattle.page.proofs.Inserting.{Same, same-word, same-in, in-same, same-before, SlotNumbers, row-same}
 
 -- q against p
 pub record Erased (p : List ℕ) (s : ℕ) (q : List ℕ) : Type 0 where
@@ -98,7 +98,7 @@ module _ (p : List ℕ) (s : ℕ) (q : List ℕ) (I : Removable p s) (E : Erased
   from : (i : ℕ) → i < count q → Kept p s q i
   from i h = ⊎-elim (λ lt. below lt (lower i lt)) (λ ge. above ge (omega (arith, E .counted)) (upper i ge h)) (side i s)
 
-  fine-old : (i j : ℕ) → i < count q → j < count p → Same q i p j → Fine (frontier q) (off q i) (len q i) (kind q i) (place q i)
+  fine-old : (i j : ℕ) → i < count q → j < count p → Same q i p j → SlotNumbers (frontier q) (off q i) (len q i) (kind q i) (place q i)
   fine-old i j h m e = let l : Lies p j = lies j (I .page) m in record {
     kind-one = e .kind-is ∙ I .page .kinds j m;
     short = omega (arith, e .len-is);
@@ -108,7 +108,7 @@ module _ (p : List ℕ) (s : ℕ) (q : List ℕ) (I : Removable p s) (E : Erased
     natural = rw (e .place-is) (I .page .places j m);
   }
 
-  fine : (i : ℕ) → i < count q → Kept p s q i → Fine (frontier q) (off q i) (len q i) (kind q i) (place q i)
+  fine : (i : ℕ) → i < count q → Kept p s q i → SlotNumbers (frontier q) (off q i) (len q i) (kind q i) (place q i)
   fine i n (below h e) = fine-old i i n (omega (arith, I .within)) e
   fine i n (above h m e) = fine-old i (i + 1) n m e
 

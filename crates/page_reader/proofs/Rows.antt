@@ -18,7 +18,7 @@ use Rattle.page.specs.Places.{place}
 use Rattle.store.specs.Pages.{S1024, read, asRow, rowsOn}
 use Rattle.store.specs.Tables.{Out, refused, refusedAt, row, rowOf, PageKeeps, inspectTable}
 use Rattle.store.proofs.Reading.{row-slot, row-past, row-free}
-use Rattle.page_reader.specs.Read.{Sound, Reads, whole, nothing, Readable, nthTable}
+use Rattle.page_reader.specs.Read.{SoundBucket, Reads, whole, nothing, Readable, nthTable}
 
 pub empty : (q : List ℕ) → length q ≡ 0 → q ≡ []
 empty [] e = refl
@@ -29,15 +29,15 @@ unfolding le16
 count-none = refl
 
 -- nothing is no page
-pub unsound : (q : List ℕ) → length q ≡ 0 → Sound q → ⊥
+pub unsound : (q : List ℕ) → length q ≡ 0 → SoundBucket q → ⊥
 unsound q e s = omega (arith, s .long)
 
 -- where a row is read there is a page
-pub at-row : (q : List ℕ) (k : ℕ) → Readable q → k < count q → Sound q
+pub at-row : (q : List ℕ) (k : ℕ) → Readable q → k < count q → SoundBucket q
 at-row [] k r h = absurd (omega (arith, count-none))
 at-row (x ∷ q) k r h = r .sound (omega arith)
 
-pub slotted : (q : List ℕ) → Sound q → Slotted q
+pub slotted : (q : List ℕ) → SoundBucket q → Slotted q
 slotted q s = s .keeps .rules .rules
 
 pub few : (q : List ℕ) → Readable q → count q ≤ 4096
@@ -52,15 +52,15 @@ unanswered′ : {m k j : ℕ} {p : Place} → row m p ≡ refusedAt k j → ⊥
 unanswered′ e = let z : _≡_ {A = ℕ} 0 1 = cc in omega arith
 
 module _ (g : List ℕ) (n : ℕ) (out : List ℕ) where
-  pub nth-none : (Sound g → ⊥) → Answers (nthTable g n out) (refusedAt 2 0, out)
+  pub nth-none : (SoundBucket g → ⊥) → Answers (nthTable g n out) (refusedAt 2 0, out)
   unfolding nthTable
   nth-none h = inl (tt, (h, refl))
 
-  pub nth-past : Sound g → count g ≤ n → Answers (nthTable g n out) (refused 9, out)
+  pub nth-past : SoundBucket g → count g ≤ n → Answers (nthTable g n out) (refused 9, out)
   unfolding nthTable
   nth-past s h = inr ((λ _ f. f s), (s, inr ((λ r e. none-some (row-past g (s .keeps .rules) n h) e), refl)))
 
-  pub nth-row : Sound g → n < count g → (c : List ℕ) → c ≡ Page.code g n → (p : Place) → p ≡ place (Page.place g n) → (out′ : List ℕ) → out′ ≡ c ++ drop (length c) out
+  pub nth-row : SoundBucket g → n < count g → (c : List ℕ) → c ≡ Page.code g n → (p : Place) → p ≡ place (Page.place g n) → (out′ : List ℕ) → out′ ≡ c ++ drop (length c) out
       → Answers (nthTable g n out) (row (length c) p, out′)
   unfolding nthTable
   nth-row s h c ec p ep out′ eo = inr (

@@ -9,22 +9,22 @@ use Rattle.store.specs.Pages.{S1024, size, read, rowsOn}
 use Rattle.store.specs.Tables.{Out, refusedAt, rowOf}
 
 -- a bucket page of the store's size: its rules, shared hash bits included, local depth 0 to 8
-pub record Sound (g : List ℕ) : Type 0 where
+pub record SoundBucket (g : List ℕ) : Type 0 where
   pub long : length g ≡ size S1024
   pub keeps : Keeps (S1024 .deepest) g
 
 -- what a reader of page g reads: g if it is sound; nothing if it is free or breaks a rule
 pub data Reads (g q : List ℕ) : Type 0 where
-  whole : Sound g → q ≡ g → Reads g q
-  nothing : (Sound g → ⊥) → q ≡ [] → Reads g q
+  whole : SoundBucket g → q ≡ g → Reads g q
+  nothing : (SoundBucket g → ⊥) → q ≡ [] → Reads g q
 
 -- what a reader may read
 pub record Readable (q : List ℕ) : Type 0 where
-  pub sound : 1 ≤ length q → Sound q
+  pub sound : 1 ≤ length q → SoundBucket q
 
 -- row n of what is read of page g, at the start of the output; 2: nothing is read; 9: n not below the number of rows
 unfoldable pub nthTable : List ℕ → ℕ → List ℕ → Ladder (Out × List ℕ)
 nthTable g n out =
-    refuse (Sound g → ⊥) (refusedAt 2 0, out)
-    (given (Sound g)
+    refuse (SoundBucket g → ⊥) (refusedAt 2 0, out)
+    (given (SoundBucket g)
     (rowOf (rowsOn (read g)) n out))

@@ -7,13 +7,13 @@ ghost use Rattle.ground.specs.Ladder.{Answers};
 ghost use Rattle.page.specs.Page.{code, place, count};
 ghost use Rattle.page.specs.Places as Places;
 ghost use Rattle.store.specs.Tables.{meaning};
-ghost use Rattle.page_reader.specs.Read.{Sound, Reads, Readable, nthTable};
+ghost use Rattle.page_reader.specs.Read.{SoundBucket, Reads, Readable, nthTable};
 use page::Place;
 use store::Answer;
 
 // Whether a page is a bucket page that keeps every rule.
 fn sound(page: &[u8]) -> bool
-    ensures { λ r. ⌜ Says r (Sound (now (page .entry))) ⌝ }
+    ensures { λ r. ⌜ Says r (SoundBucket (now (page .entry))) ⌝ }
 {
     if page.len() != 1024 {
         return false;

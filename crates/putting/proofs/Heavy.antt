@@ -36,7 +36,7 @@ use Rattle.store.proofs.PutRows.{put-shown}
 use Rattle.store.proofs.EveryStep.{Roomy}
 use Rattle.directory.specs.Directory.{Directed}
 use Rattle.putting.specs.Put.{Puttable}
-use Rattle.putting.specs.Split.{keyed, below, Source, pagesBelow, Writable, Wrote}
+use Rattle.putting.specs.Split.{keyed, below, Source, pagesBelow, Writable, BucketsWritten}
 use Rattle.putting.proofs.Puts.{begins}
 use Rattle.putting.proofs.Weighs.{load-any, below-shared, below-all}
 use Rattle.directory.proofs.Settles.{unwritten, settled}
@@ -160,7 +160,7 @@ module _ (h : List ℕ → ℕ) (hash : Hash h) (s c pl : List ℕ) (P : Puttabl
         room = λ m l f. subst (λ j. 0 < frees (written gs j (take m ns))) (sym (first-given gs p (U .from))) (room .step m (f (omega (arith, U .from))) l);
       }
 
-      module _ (t : List ℕ) (n : ℕ) (W : Wrote h (record { code = c; place = pl } ∷ map asRow (rows (page S1024 s p))) (depth (page S1024 s p)) (top (depth (page S1024 s p)) (h c)) s p t n) where
+      module _ (t : List ℕ) (n : ℕ) (W : BucketsWritten h (record { code = c; place = pl } ∷ map asRow (rows (page S1024 s p))) (depth (page S1024 s p)) (top (depth (page S1024 s p)) (h c)) s p t n) where
         holds : contents S1024 t ≡ putNew S1024 h gs r
         holds =
             W .held ∙ (λ x. written gs (first-given gs p (U .from) x) (news x))

@@ -12,7 +12,7 @@ use Rattle.store.specs.Accepted.{GoodLength}
 use Rattle.store.specs.Moves.{find, isFree, packed, written}
 use Rattle.store.proofs.Rooms.{frees}
 use Rattle.store.proofs.Views.{setPage}
-use Rattle.putting.specs.Split.{below, Bucketed, first, left, Room, pagesBelow, Writable, Wrote}
+use Rattle.putting.specs.Split.{below, Bucketed, first, left, Room, pagesBelow, Writable, BucketsWritten}
 use Rattle.directory.proofs.Settles.{rewritten-set, set-holds}
 use Rattle.putting.proofs.Weighs.{below-none, below-one, below-deep, below-two, double}
 
@@ -83,7 +83,7 @@ module _ (h : List ℕ → ℕ) (rs : List Row) (k v : ℕ) (s : List ℕ) (at :
   load = needs (rowsOf h rs k v)
 
   -- no bucket
-  none-wrote : below h rs k v ≡ [] → Wrote h rs k v s at s at
+  none-wrote : below h rs k v ≡ [] → BucketsWritten h rs k v s at s at
   unfolding written
   none-wrote e = record {
     pages = W .sound;
@@ -91,10 +91,10 @@ module _ (h : List ℕ → ℕ) (rs : List Row) (k v : ℕ) (s : List ℕ) (at :
     then = sym (ap (λ l. left at (map (packed h rs) l)) e);
   }
 
-  pub bare-wrote : load ≡ 0 → Wrote h rs k v s at s at
+  pub bare-wrote : load ≡ 0 → BucketsWritten h rs k v s at s at
   bare-wrote e = none-wrote (below-none h rs k v e)
 
-  pub deep-wrote : 1016 < load → k ≡ 8 → Wrote h rs k v s at s at
+  pub deep-wrote : 1016 < load → k ≡ 8 → BucketsWritten h rs k v s at s at
   deep-wrote o e = none-wrote (ap (λ j. below h rs j v) e ∙ below-deep h rs v (subst (λ j. 1016 < needs (rowsOf h rs j v)) e o))
 
   -- one
@@ -116,7 +116,7 @@ module _ (h : List ℕ → ℕ) (rs : List Row) (k v : ℕ) (s : List ℕ) (at :
           set-holds s s (W .sound) n (omega arith) to q (Q .page) (Q .size) (omega (arith, Q .deep, W .deep))
           ∙ (λ x. set gs (i x) (bucket (Q .deep x) (Q .rowsOf x)))
 
-      pub one-wrote : Wrote h rs k v s at (setPage S1024 s n q) 0
+      pub one-wrote : BucketsWritten h rs k v s at (setPage S1024 s n q) 0
       unfolding written
       one-wrote = record {
         pages = rewritten-set s s (W .sound) n (omega arith) to q (Q .page) (Q .size) (omega (arith, Q .deep, W .deep));
@@ -146,7 +146,7 @@ module _ (h : List ℕ → ℕ) (rs : List Row) (k v : ℕ) (s : List ℕ) (at :
       room = room-left gs at ls us (subst (Room gs at) both (W .room));
     }
 
-    module _ (t : List ℕ) (p : ℕ) (A : Wrote h rs (k + 1) (2 * v) s at t p) where
+    module _ (t : List ℕ) (p : ℕ) (A : BucketsWritten h rs (k + 1) (2 * v) s at t p) where
       given : (0 < p → 2 ≤ p) × (p < pages S1024 t)
       given =
           let P : ℕ → Type 0 = λ j. (0 < j → 2 ≤ j) × (j < pages S1024 t) in
@@ -163,7 +163,7 @@ module _ (h : List ℕ → ℕ) (rs : List Row) (k v : ℕ) (s : List ℕ) (at :
         room = subst (λ g. Room g p us) (sym (A .held)) (subst (λ j. Room (written gs (first gs at) ls) j us) (sym (A .then)) (room-right gs at ls us (subst (Room gs at) both (W .room))));
       }
 
-      pub both-wrote : (u : List ℕ) (n : ℕ) → Wrote h rs (k + 1) (2 * v + 1) t p u n → Wrote h rs k v s at u n
+      pub both-wrote : (u : List ℕ) (n : ℕ) → BucketsWritten h rs (k + 1) (2 * v + 1) t p u n → BucketsWritten h rs k v s at u n
       both-wrote u n B = record {
         pages = rewritten-then s t u (A .pages) (B .pages);
         held = B .held ∙ (λ x. written (A .held x) (first (A .held x) (A .then x)) us) ∙ sym (written-append gs at ls us) ∙ sym (ap (written gs (first gs at)) both);

@@ -30,7 +30,7 @@ fn replace(s: &mut [u8], p: usize, i: usize, place: &[u8]) -> store::Answer
 }
 
 // A new code goes to slot i of page p, in which it fits.
-fn add_row(s: &mut [u8], p: usize, i: usize, key: &[u8], place: &[u8]) -> store::Answer
+fn insert_new(s: &mut [u8], p: usize, i: usize, key: &[u8], place: &[u8]) -> store::Answer
     requires { ⌜ Accepted S1024 fnv (now s) × Naming S1024 fnv (now s) (top (dirDepth (now s)) (fnv (now key))) p × Fitting (page S1024 (now s) p) i (now key) (now place) ⌝ }
     ensures { λ r. ⌜ Answers (putAccepted S1024 fnv (now (s .entry)) (record { code = now (key .entry); place = now (place .entry) })) (meaning r, now (s .exit)) ⌝ }
 {
@@ -73,7 +73,7 @@ fn put_on(s: &mut [u8], p: usize, key: &[u8], place: &[u8]) -> store::Answer
         page::Found::Absent(i) => {
             let room = words::get16(&s[a..e], 6);
             if 12 + key.len() <= room {
-                return add_row(s, p, i, key, place);
+                return insert_new(s, p, i, key, place);
             }
             split(s, p, i, key, place)
         }

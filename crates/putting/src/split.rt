@@ -12,7 +12,7 @@ ghost use Rattle.store.specs.Tables.{putAccepted, meaning};
 ghost use Rattle.store.proofs.Reading.{Naming};
 ghost use Rattle.store.proofs.Rooms.{frees};
 ghost use Rattle.putting.specs.Put.{Puttable};
-ghost use Rattle.putting.specs.Split.{Source, weight, Told, first, Writable, Wrote};
+ghost use Rattle.putting.specs.Split.{Source, weight, Told, first, Writable, BucketsWritten};
 use super::bucket::write_bucket;
 use directory::settle;
 use directory::free_pages;
@@ -46,7 +46,7 @@ fn write_below(
     at: usize,
 ) -> usize
     requires { ⌜ Source (now from) i (now key) (now place) × Told fnv (now from) (now key) (now hs) × Told weight (now from) (now key) (now ns) × Writable fnv (record { code = now key; place = now place } ∷ map asRow (rows (now from))) k v (now s) at ⌝ }
-    ensures { λ r. ⌜ Wrote fnv (record { code = now (key .entry); place = now (place .entry) } ∷ map asRow (rows (now (from .entry)))) k v (now (s .entry)) at (now (s .exit)) r ⌝ }
+    ensures { λ r. ⌜ BucketsWritten fnv (record { code = now (key .entry); place = now (place .entry) } ∷ map asRow (rows (now (from .entry)))) k v (now (s .entry)) at (now (s .exit)) r ⌝ }
 {
     let need = load(from, key, hs, ns, k, v);
     if need == 0 {

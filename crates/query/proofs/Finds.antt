@@ -24,7 +24,7 @@ use Rattle.store.proofs.Depths.{page-byte, kind-byte}
 use Rattle.store.proofs.Reading.{entryOf, Naming, naming, lookup-none, lookup-page, count-rows}
 use Rattle.store.proofs.PageTies.{found-at, found-not}
 use Rattle.store.proofs.Walked.{walkFrom, Start, behind, walk-start, walk-end, walk-none, walk-page, walk-here, walk-past}
-use Rattle.query.specs.Spots.{Stands, Listed}
+use Rattle.query.specs.Spots.{StandsAt, Listed}
 use Rattle.query.specs.declared.Spot.the-variants.{Here, Nowhere}
 
 module _ (S : Shape) (sz : Sized S) (s : List ℕ) (a : Accepted S fnv s) where
@@ -38,7 +38,7 @@ module _ (S : Shape) (sz : Sized S) (s : List ℕ) (a : Accepted S fnv s) where
   shallow = T .page0 .depth
 
   module _ (c : List ℕ) where
-    pub not-named : entryOf S fnv s c ≡ 0 → Stands S s c Nowhere
+    pub not-named : entryOf S fnv s c ≡ 0 → StandsAt S s c Nowhere
     not-named e = lookup-none S fnv sz fnv-lt s a c e
 
     module _ (n : entryOf S fnv s c ≡ 0 → ⊥) where
@@ -63,10 +63,10 @@ module _ (S : Shape) (sz : Sized S) (s : List ℕ) (a : Accepted S fnv s) where
       on-it : placeOf (rowsHeld S s) c ≡ placeOf (map asRow (rows g)) c
       on-it = lookup-page S fnv sz fnv-lt s a c n .1 ∙ ap (λ x. placeOf (rowsOn x) c) (read-used g keeps)
 
-      pub here : (i : ℕ) → i < count g → code g i ≡ c → Stands S s c (Here p i)
+      pub here : (i : ℕ) → i < count g → code g i ≡ c → StandsAt S s c (Here p i)
       here i l e = (record { from = from-two; within = inside; rules = keeps; slot = l }, e, on-it ∙ found-at g (keeps .rules) c i l e)
 
-      pub nowhere : (i : ℕ) → Belongs g i c → Stands S s c Nowhere
+      pub nowhere : (i : ℕ) → Belongs g i c → StandsAt S s c Nowhere
       nowhere i b = on-it ∙ found-not g (keeps .rules) c i b
 
 -- an entry of a directory lies in page 1

@@ -20,9 +20,9 @@ pub record OnPage (S : Shape) (s : List ℕ) (p i : ℕ) : Type 0 where
   pub slot : i < count (page S s p)
 
 -- the row of the code c stands there, or there is none
-abbrev pub Stands : Shape → List ℕ → List ℕ → Spot → Type 0
-Stands S s c (Here p i) = OnPage S s p i × (code (page S s p) i ≡ c) × (placeOf (rowsHeld S s) c ≡ some (place (page S s p) i))
-Stands S s c Nowhere = placeOf (rowsHeld S s) c ≡ none
+abbrev pub StandsAt : Shape → List ℕ → List ℕ → Spot → Type 0
+StandsAt S s c (Here p i) = OnPage S s p i × (code (page S s p) i ≡ c) × (placeOf (rowsHeld S s) c ≡ some (place (page S s p) i))
+StandsAt S s c Nowhere = placeOf (rowsHeld S s) c ≡ none
 
 -- the row at place n of the listing stands there, or there is none
 abbrev pub Listed : Shape → List ℕ → ℕ → Spot → Type 0

@@ -8,7 +8,7 @@ ghost use Rattle.partition.specs.Bits.{top};
 ghost use Rattle.store.specs.Pages.{size, page, read, rowsOn, dirDepth, entryAt, rowsHeld};
 ghost use Rattle.store.specs.Accepted.{Accepted};
 ghost use Rattle.store.specs.Demands.{Sized};
-ghost use Rattle.query.specs.Spots.{Stands, Listed};
+ghost use Rattle.query.specs.Spots.{StandsAt, Listed};
 use page::Found;
 use partition::Shape;
 use super::Spot;
@@ -26,7 +26,7 @@ pub fn entry_of(s: &[u8], z: Shape, x: u32) -> usize
 // Where a code's row stands.
 pub fn find_row(s: &[u8], z: Shape, key: &[u8]) -> Spot
     requires { ⌜ Sized z × Accepted z fnv (now s) ⌝ }
-    ensures { λ r. ⌜ Stands z (now (s .entry)) (now (key .entry)) r ⌝ }
+    ensures { λ r. ⌜ StandsAt z (now (s .entry)) (now (key .entry)) r ⌝ }
 {
     let p = entry_of(s, z, hash::hash(key));
     if p == 0 {

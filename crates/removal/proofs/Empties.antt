@@ -14,7 +14,7 @@ use Rattle.store.specs.Pages.{S1024, pages, Page, free, page, read, contents}
 use Rattle.store.specs.Moves.{pick, find, within}
 use Rattle.store.proofs.PageTies.{zeros, read-cleared}
 use Rattle.store.proofs.Views.{setPage, set-long, set-same, set-other, set-below}
-use Rattle.directory.specs.Directory.{Sound, free as unused, Settling}
+use Rattle.directory.specs.Directory.{SoundPage, free as unused, Settling}
 use Rattle.removal.specs.Join.{Emptied}
 use Rattle.removal.proofs.Prefixes.{many, page-at, listed}
 
@@ -92,10 +92,10 @@ module _ (h : List ℕ → ℕ) (s : List ℕ) (n j v : ℕ) (P : Settling s n) 
 
   -- all pages of the prefix cleared
   module _ (t : List ℕ) (E : Emptied h s n j v 2 t) where
-    pub emptied-sound : (p : ℕ) → 2 ≤ p → p < n → Sound (page S1024 t p)
-    emptied-sound p a l = subst Sound (sym (E .from p a l)) (go (within h j v (read (page S1024 s p))))
+    pub emptied-sound : (p : ℕ) → 2 ≤ p → p < n → SoundPage (page S1024 t p)
+    emptied-sound p a l = subst SoundPage (sym (E .from p a l)) (go (within h j v (read (page S1024 s p))))
       where
-        go : (x : Bool) → Sound (pick x blank (page S1024 s p))
+        go : (x : Bool) → SoundPage (pick x blank (page S1024 s p))
         go true = unused (zeros 1024)
         go false = P .pages p a l
 

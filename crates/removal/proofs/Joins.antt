@@ -18,7 +18,7 @@ use Rattle.store.specs.Pages.{S1024, pages, Page, bucket, page, read, contents,
 use Rattle.store.specs.Moves.{find, within, packFrom}
 use Rattle.store.proofs.PageTies.{page-needs, page-once, page-order, packed-rows, read-slotted}
 use Rattle.store.proofs.Views.{setPage, set-long, set-same, set-other, set-below, set-contents}
-use Rattle.directory.specs.Directory.{Sound, used, Settling}
+use Rattle.directory.specs.Directory.{SoundPage, used, Settling}
 use Rattle.removal.specs.Join.{Housed, Taking, Gathered, rowsAt, othersIn, Emptied, Joinable, Rejoined}
 use Rattle.removal.proofs.Prefixes.{listed}
 use Rattle.removal.proofs.Empties.{emptied-sound, emptied-holds}
@@ -86,9 +86,9 @@ module _ (h : List ℕ → ℕ) (s : List ℕ) (n j v : ℕ) (c : List ℕ) (P :
       holds = set-contents S1024 u low k there long (omega arith) ∙ (λ i. set (emptied-holds h s n j v P u E i) (at i) (now-reads i));
     }
       where
-        go : (x : ℕ) → 2 ≤ x → x < n → Dec (x ≡ low) → Sound (page S1024 (setPage S1024 u low k) x)
-        go x a b (yes e) = subst Sound (sym (ap (page S1024 (setPage S1024 u low k)) e ∙ set-same S1024 u low k there long)) (used its (omega (arith, deep)))
-        go x a b (no ne) = subst Sound (sym (set-other S1024 u low k there long x ne)) (emptied-sound h s n j v P u E x a b)
+        go : (x : ℕ) → 2 ≤ x → x < n → Dec (x ≡ low) → SoundPage (page S1024 (setPage S1024 u low k) x)
+        go x a b (yes e) = subst SoundPage (sym (ap (page S1024 (setPage S1024 u low k)) e ∙ set-same S1024 u low k there long)) (used its (omega (arith, deep)))
+        go x a b (no ne) = subst SoundPage (sym (set-other S1024 u low k there long x ne)) (emptied-sound h s n j v P u E x a b)
 
         at : low - 2 ≡ find (within h j v) gs
         at = omega arith

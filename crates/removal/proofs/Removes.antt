@@ -43,7 +43,7 @@ use Rattle.store.proofs.Within.{one-depth, rows-within}
 use Rattle.store.proofs.Accepting.{Laid, accepted-laid, laid-becomes}
 use Rattle.store.proofs.PageTies.{row-in, zeros, read-cleared, page-once, found-at, removed-rows}
 use Rattle.store.proofs.Views.{setPage, set-long, set-same, set-other, set-below, set-contents}
-use Rattle.directory.specs.Directory.{Directed, Sound, free as vacant, Rewritten}
+use Rattle.directory.specs.Directory.{Directed, SoundPage, free as vacant, Rewritten}
 use Rattle.removal.specs.Prefix.{Climbed}
 use Rattle.removal.specs.Join.{othersIn, Joinable, Rejoined}
 use Rattle.removal.specs.Remove.{Leaving, left, Fits}
@@ -216,9 +216,9 @@ module _ (h : List ℕ → ℕ) (hash : Hash h) (s : List ℕ) (p i : ℕ) (c : 
             sound = λ y a b. go y a b (before .sound y a b) (ℕ-discrete y p);
           }
         where
-          go : (y : ℕ) → 2 ≤ y → y < pages S1024 s → Sound (page S1024 s y) → Dec (y ≡ p) → Sound (page S1024 t y)
-          go y a b w (yes e) = subst Sound (sym (ap (page S1024 t) e ∙ set-same S1024 s p (replicate 1024 0) (L .to) zero-long)) (vacant (zeros 1024))
-          go y a b w (no n) = subst Sound (sym (set-other S1024 s p (replicate 1024 0) (L .to) zero-long y n)) w
+          go : (y : ℕ) → 2 ≤ y → y < pages S1024 s → SoundPage (page S1024 s y) → Dec (y ≡ p) → SoundPage (page S1024 t y)
+          go y a b w (yes e) = subst SoundPage (sym (ap (page S1024 t) e ∙ set-same S1024 s p (replicate 1024 0) (L .to) zero-long)) (vacant (zeros 1024))
+          go y a b w (no n) = subst SoundPage (sym (set-other S1024 s p (replicate 1024 0) (L .to) zero-long y n)) w
 
       pub clear-holds : contents S1024 t ≡ removed S1024 h gs c
       clear-holds =

@@ -10,14 +10,14 @@ ghost use Rattle.partition.specs.Listing.{without};
 ghost use Rattle.store.specs.Pages.{S1024, page as pageOf, contents, read};
 ghost use Rattle.store.specs.Moves.{pick, find, within};
 ghost use Rattle.store.proofs.Views.{setPage};
-ghost use Rattle.directory.specs.Directory.{Sound, Settling};
+ghost use Rattle.directory.specs.Directory.{SoundPage, Settling};
 ghost use Rattle.removal.specs.Join.{Taking, Gathered, Storable, rowOf, rowsAt, othersOn, othersIn, Emptied, Joinable, Rejoined};
 use super::prefix::is_within;
 use page::Found;
 use words::Order;
 
 // A new row goes to a page at the frontier, its slot in code order.
-fn add_row(to: &mut [u8], key: &[u8], place: &[u8])
+fn gather_row(to: &mut [u8], key: &[u8], place: &[u8])
     requires { ⌜ Storable (now key) (now place) × Taking (now to) (rowOf (now key) (now place) ∷ []) ⌝ }
     ensures { λ _. ⌜ Gathered (now (to .entry)) (rowOf (now (key .entry)) (now (place .entry)) ∷ []) (now (to .exit)) ⌝ }
 {
@@ -51,7 +51,7 @@ fn add_other(to: &mut [u8], from: &[u8], i: usize, key: &[u8])
         let o = e.off;
         let m = o + 8;
         let t = o + e.len;
-        add_row(to, &from[m..t], &from[o..m]);
+        gather_row(to, &from[m..t], &from[o..m]);
     }
 }
 
@@ -70,7 +70,7 @@ fn add_rows(to: &mut [u8], from: &[u8], key: &[u8])
 
 // So do those of a page of the prefix.
 fn add_page(to: &mut [u8], from: &[u8], j: u32, v: u64, key: &[u8])
-    requires { ⌜ Sound (now from) × (length (now from) ≡ 1024) × (j ≤ 8) × Taking (now to) (othersOn fnv j v (now key) (read (now from))) ⌝ }
+    requires { ⌜ SoundPage (now from) × (length (now from) ≡ 1024) × (j ≤ 8) × Taking (now to) (othersOn fnv j v (now key) (read (now from))) ⌝ }
     ensures { λ _. ⌜ Gathered (now (to .entry)) (othersOn fnv j v (now (key .entry)) (read (now (from .entry)))) (now (to .exit)) ⌝ }
 {
     if is_within(from, j, v) {
@@ -94,7 +94,7 @@ fn gather(to: &mut [u8], s: &[u8], n: usize, j: u32, v: u64, key: &[u8])
 
 // Page p is cleared if it is of the prefix; the lowest-numbered page so far.
 fn clear_if(s: &mut [u8], p: usize, j: u32, v: u64, low: usize) -> usize
-    requires { ⌜ (p < 258) × (p * 1024 + 1024 ≤ length (now s)) × Sound (pageOf S1024 (now s) p) × (j ≤ 8) ⌝ }
+    requires { ⌜ (p < 258) × (p * 1024 + 1024 ≤ length (now s)) × SoundPage (pageOf S1024 (now s) p) × (j ≤ 8) ⌝ }
     ensures wrote { λ r. ⌜ now (s .exit) ≡ pick (within fnv j v (read (pageOf S1024 (now (s .entry)) p))) (setPage S1024 (now (s .entry)) p (replicate 1024 0)) (now (s .entry)) ⌝ }
     ensures lowest { λ r. ⌜ r ≡ pick (within fnv j v (read (pageOf S1024 (now (s .entry)) p))) p low ⌝ }
 {

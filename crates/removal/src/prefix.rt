@@ -9,12 +9,12 @@ ghost use Rattle.partition.specs.Partition.{needs, rowsOf, IsBucket};
 ghost use Rattle.store.specs.Pages.{S1024, read, rowsHeld};
 ghost use Rattle.store.specs.Accepted.{Accepted};
 ghost use Rattle.store.specs.Moves.{within};
-ghost use Rattle.directory.specs.Directory.{Sound};
+ghost use Rattle.directory.specs.Directory.{SoundPage};
 ghost use Rattle.removal.specs.Prefix.{Above, Climbed};
 
 // Whether a page is a bucket whose hashes begin with the j bits of v.
 pub fn is_within(page: &[u8], j: u32, v: u64) -> bool
-    requires { ⌜ Sound (now page) × (length (now page) ≡ 1024) × (j ≤ 8) ⌝ }
+    requires { ⌜ SoundPage (now page) × (length (now page) ≡ 1024) × (j ≤ 8) ⌝ }
     ensures { λ r. ⌜ r ≡ within fnv j v (read (now (page .entry))) ⌝ }
 {
     if page[0] == 0 {

@@ -32,7 +32,7 @@ use Rattle.store.proofs.Shown.{within-pages, Part, Any, page-of, whole,
 use Rattle.store.proofs.Holder.{its-bucket, its-shallowest, its-order, its-rows, its-needs}
 use Rattle.store.proofs.Rooms.{Its, bucket-one, set-other, fill, fill-keeps, clear, becomes, enough, find-free}
 use Rattle.store.proofs.Records.{fits-says, rows-packed, rows-added}
-use Rattle.store.proofs.Written.{NextFree, New, Wrote, write-all, written-over, next-free}
+use Rattle.store.proofs.Written.{NextFree, New, AllWritten, write-all, written-over, next-free}
 
 module _ (S : Shape) (h : List ℕ → ℕ) (small : (c : List ℕ) → h c < 2 ^ 32) (rows : List Row) (r : Row) where
   abbrev x : ℕ
@@ -161,7 +161,7 @@ module _ (S : Shape) (h : List ℕ → ℕ) (small : (c : List ℕ) → h c < 2 
             let b = below S h small r rows k (map asRow rs) same mine too-much (y .bits) (y .value) .0 (listed S h small page-rows (y .bits) (y .value) .0 m .0) in
             (b .0, (λ n. n (b .1)), rows-packed 8 _ ∙ order-below S h small r rows k (map asRow rs) same once (y .bits) (y .value) (b .1))
 
-        wrote : Wrote S h small (r ∷ rows) fine recs (Out k) news cleared i
+        wrote : AllWritten S h small (r ∷ rows) fine recs (Out k) news cleared i
         wrote =
             write-all S h small (r ∷ rows) fine recs news (Out k) cleared i others
             (asc-distinct (S .deepest) 0 (2 ^ S .deepest) news (in-order S h page-rows)) not-shown (omega (arith, seven, length-set gs i free)) (λ _. (there′, is-free))

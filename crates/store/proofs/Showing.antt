@@ -79,7 +79,7 @@ module _ (h : List ℕ → ℕ) where
       go (inr t) rest = up (rest t)
 
 -- What pages say, each of itself, of its prefix and of the others.
-pub record Sound (S : Shape) (h : List ℕ → ℕ) (gs : List Page) : Type 0 where
+pub record SoundPages (S : Shape) (h : List ℕ → ℕ) (gs : List Page) : Type 0 where
   pub some : (i k : ℕ) (rs : List Record) → Holding gs i k rs → 0 < length rs
   pub shallow : (i k : ℕ) (rs : List Record) → Holding gs i k rs → k ≤ S .deepest
   pub keeps : (i k : ℕ) (rs : List Record) → Holding gs i k rs → (r : Row) → List·Memᴰ r (map asRow rs) → top k (h (r .code)) ≡ prefixOn h k rs
@@ -98,7 +98,7 @@ good-once h (p ∷ ps) g o =
     g .1 (w .0) (w .1) (h (q .code)) (subst (λ x. top (p .prefix .bits) (h x) ≡ p .prefix .value) e (g .0 r a)) (P.keeps-of h ps (g .2) (w .0) (w .1) q (w .2)))
 
 module _ (S : Shape) (h : List ℕ → ℕ) where
-  tail-good : (gs : List Page) (n : ℕ) (all : List Page) → ((i : ℕ) → getD gs i free ≡ getD all (i + n) free) → Sound S h all → P.Good h (inUse h gs)
+  tail-good : (gs : List Page) (n : ℕ) (all : List Page) → ((i : ℕ) → getD gs i free ≡ getD all (i + n) free) → SoundPages S h all → P.Good h (inUse h gs)
   unfolding prefixed
   tail-good [] n all e s = tt
   tail-good (free ∷ gs) n all e s = tail-good gs (suc n) all (λ i. e (suc i) ∙ ap (λ j. getD all j free) (omega arith)) s
@@ -114,7 +114,7 @@ module _ (S : Shape) (h : List ℕ → ℕ) where
       here = ap (λ j. getD all j free) (omega arith) ∙ sym (e 0)
 
 -- WHAT THE PAGES SAY IS ENOUGH: they show the rows that they hold
-module _ (S : Shape) (h : List ℕ → ℕ) (gs : List Page) (s : Sound S h gs) where
+module _ (S : Shape) (h : List ℕ → ℕ) (gs : List Page) (s : SoundPages S h gs) where
   good : P.Good h (inUse h gs)
   good = tail-good S h gs 0 gs (λ i. ap (λ j. getD gs j free) (omega arith)) s
 
@@ -246,7 +246,7 @@ module _ (S : Shape) (h : List ℕ → ℕ) (sized : Sized S) (hash : Hash h) (s
       let y : entryAt S s e ≡ j + 2 = under j l qs b .names e n .1 d in
       omega arith
 
-  sound : Sound S h (contents S s)
+  sound : SoundPages S h (contents S s)
   sound = record {
     some = λ i k rs e. let u = under i k rs e in subst (λ t. 0 < length t) (sym (u .its)) (omega (arith, length-tab (rowAt (pg i)) (count (pg i)), u .bytes .rules .some));
     shallow = λ i k rs e. le-trans (under i k rs e .low) (T .page0 .depth);

@@ -37,13 +37,13 @@ module _ (S : Shape) (h : List ℕ → ℕ) (small : (c : List ℕ) → h c < 2 
   abbrev pub New : (ℕ → ℕ → Type 0) → List Prefix → Type 0
   New P ps = (x : Prefix) → List·Memᴰ x ps → IsBucket S h rows (x .bits) (x .value) × (P (x .bits) (x .value) → ⊥) × (map asRow (recs x) ≡ inOrder (rowsOf h rows (x .bits) (x .value)))
 
-  pub record Wrote (P : ℕ → ℕ → Type 0) (ps : List Prefix) (gs : List Page) (i : ℕ) : Type 0 where
+  pub record AllWritten (P : ℕ → ℕ → Type 0) (ps : List Prefix) (gs : List Page) (i : ℕ) : Type 0 where
     pub found : Found gs i (map pageOf ps)
     pub part : Part S h rows (λ k v. P k v ⊎ List·Memᴰ (pfx k v) ps) (written gs i (map pageOf ps))
     pub keeps : Keeps gs (written gs i (map pageOf ps))
 
   pub write-all : (ps : List Prefix) (P : ℕ → ℕ → Type 0) (gs : List Page) (i : ℕ) → Part S h rows P gs → Distinct ps → New P ps
-      → length (buckets S h rows) ≤ length gs → (0 < length ps → (i < length gs) × (getD gs i free ≡ free)) → Wrote P ps gs i
+      → length (buckets S h rows) ≤ length gs → (0 < length ps → (i < length gs) × (getD gs i free ≡ free)) → AllWritten P ps gs i
   unfolding written
   write-all [] P gs i p d new room start = record {
     found = tt;
@@ -55,7 +55,7 @@ module _ (S : Shape) (h : List ℕ → ℕ) (small : (c : List ℕ) → h c < 2 
       left k v (inl u) = u
       left k v (inr m) = absurd (List·Memᴰ·not-nil m)
   write-all (y ∷ ps) P gs i p d new room start =
-      let w : Wrote Q ps fs (find isFree fs) = write-all ps Q fs (find isFree fs) filled (d .1) later room′ next in
+      let w : AllWritten Q ps fs (find isFree fs) = write-all ps Q fs (find isFree fs) filled (d .1) later room′ next in
       record {
         found = (at .0, at .1, w .found);
         part = becomes S h rows (λ k v. Q k v ⊎ List·Memᴰ (pfx k v) ps) (written fs (find isFree fs) (map pageOf ps)) (w .part) rows (λ k v. P k v ⊎ List·Memᴰ (pfx k v) (y ∷ ps))

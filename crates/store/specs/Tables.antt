@@ -14,7 +14,7 @@ use Rattle.partition.specs.Partition.{Row, needs, rowsOf, buckets}
 use Rattle.page.specs.declared.Place.{Place}
 use Rattle.page.specs.Places.{place, stored, Negative}
 use Rattle.store.specs.declared.Answer.{Answer}
-use Rattle.store.specs.declared.Answer.the-variants.{BadLength, BadPage, BadCode, BadPlace, NoCode, PrefixFull, PagesFull, ShortOutput, NoRow, Formatted, Accepted as Sound, New, Replaced, Found, Rows, RowOf}
+use Rattle.store.specs.declared.Answer.the-variants.{BadLength, BadPage, BadCode, BadPlace, NoCode, PrefixFull, PagesFull, ShortOutput, NoRow, Formatted, Accepted as Passed, New, Replaced, Found, Rows, RowOf}
 use Rattle.ground.specs.Ladder.{Ladder, rung, given, ends, answer, refuse}
 use Rattle.partition.specs.Listing.{listing, placeOf}
 use Rattle.store.specs.Pages.{size, pages, Page, read, contents, rowsOn, rowsHeld}
@@ -42,7 +42,7 @@ meaning PagesFull = refused 7
 meaning ShortOutput = refused 8
 meaning NoRow = refused 9
 meaning Formatted = formatted
-meaning Sound = accepted
+meaning Passed = accepted
 meaning New = new
 meaning (Replaced p) = replaced p
 meaning (Found p) = found p

@@ -16,7 +16,7 @@ use Rattle.store.specs.Pages.{size, pages, dirDepth, entryAt}
 use Rattle.hash.specs.Fnv.{fnv}
 use Rattle.store.specs.Accepted.{GoodLength, Page0, Page1, Stands}
 use Rattle.store_check.specs.Directory.{Entries, AllAre, AllBelow, Ranges}
-use Rattle.store_check.specs.Begun.{Begun, Standing}
+use Rattle.store_check.specs.Begun.{Begun, AllStand}
 
 -- the bytes lent from a up to e
 pub lent-zero : (s : List ℕ) (a e : ℕ) → a ≤ e → e ≤ length s → Zero (take (e - a) (drop a s)) → (k : ℕ) → a ≤ k → k < e → byte s k ≡ 0
@@ -74,5 +74,5 @@ module _ (S : Shape) (sized : Sized S) (s : List ℕ) (good : GoodLength S s) (z
     beyond = z;
   }
 
-  pub standing : ((p : ℕ) → 2 ≤ p → p < pages S s → Stands S fnv s p) → Standing S s (pages S s)
+  pub standing : ((p : ℕ) → 2 ≤ p → p < pages S s → Stands S fnv s p) → AllStand S s (pages S s)
   standing f = record { sized = sized; long = whole-long; number = refl; least = good .least; most = good .most; deep = zeroth .depth; each = f }

@@ -33,7 +33,7 @@ use Rattle.store.proofs.Unique.{read-zero, read-used, page-long}
 use Rattle.store.proofs.Depths.{page-byte}
 use Rattle.store.proofs.PageTies.{page-needs}
 use Rattle.store.proofs.Views.{page-lent}
-use Rattle.store_check.specs.Begun.{Standing}
+use Rattle.store_check.specs.Begun.{AllStand}
 use Rattle.store_check.specs.Heaps.{heap, below, Heaped}
 use Rattle.store_check.specs.Digest.{Legible, LoadOf, Hashed, Celled, Digest, firstOf, hashAt, topAt, loadAt}
 use Rattle.store_check.proofs.Fills.{filled-more}
@@ -44,7 +44,7 @@ depth-small : (S : Shape) (s : List ℕ) (p : ℕ) → dirDepth s ≤ S .deepest
 depth-small S s p d (unused z _) = omega (arith, z 1)
 depth-small S s p d (used b k _) = omega arith
 
-pub depth-most : (S : Shape) (s : List ℕ) (n p : ℕ) → Standing S s n → 2 ≤ p → p < n → byte s (p * size S + 1) ≤ S .deepest
+pub depth-most : (S : Shape) (s : List ℕ) (n p : ℕ) → AllStand S s n → 2 ≤ p → p < n → byte s (p * size S + 1) ≤ S .deepest
 depth-most S s n p T a b = omega (arith, page-byte S s p 1 (omega arith), depth-small S s p (T .deep) (T .each p a b))
 
 -- a page that stands can be read
@@ -52,10 +52,10 @@ stands-is : (S : Shape) (s : List ℕ) (p : ℕ) → Stands S fnv s p → Zero (
 stands-is S s p (unused z _) = inl z
 stands-is S s p (used b _ _) = inr (b .rules)
 
-readable : (S : Shape) (s : List ℕ) (n p : ℕ) → Standing S s n → 2 ≤ p → p < n → Legible (page S s p)
+readable : (S : Shape) (s : List ℕ) (n p : ℕ) → AllStand S s n → 2 ≤ p → p < n → Legible (page S s p)
 readable S s n p T a b = record { long = omega (arith, page-long S s p (omega (arith, T .number))); short = omega (arith, page-long S s p (omega (arith, T .number)), T .sized .most); is = stands-is S s p (T .each p a b) }
 
-pub legible : (S : Shape) (s : List ℕ) (n p : ℕ) → Standing S s n → 2 ≤ p → p < n → Legible (take (p * size S + size S - p * size S) (drop (p * size S) s))
+pub legible : (S : Shape) (s : List ℕ) (n p : ℕ) → AllStand S s n → 2 ≤ p → p < n → Legible (take (p * size S + size S - p * size S) (drop (p * size S) s))
 legible S s n p T a b = subst Legible (sym (page-lent S s p)) (readable S s n p T a b)
 
 pub first-free : (g : List ℕ) → byte g 0 ≡ 0 → firstOf g ≡ 0
@@ -105,7 +105,7 @@ module _ (g : List ℕ) (L : Legible g) where
 abbrev loadOf : Shape → List ℕ → ℕ → ℕ → ℕ → ℕ
 loadOf S s k v n = total (λ i. pick (eqb (top k (hashAt S s i)) v) (loadAt S s i) 0) (n - 2)
 
-module _ (S : Shape) (s : List ℕ) (n : ℕ) (T : Standing S s n) where
+module _ (S : Shape) (s : List ℕ) (n : ℕ) (T : AllStand S s n) where
   -- no page needs more than the room of the largest size
   load-most : (i : ℕ) → i < n - 2 → loadAt S s i ≤ 16376
   load-most i l =

@@ -15,7 +15,7 @@ use Rattle.store.specs.Accepted.{Bucket, Calls, Stands, unused, used}
 use Rattle.store_check.specs.Directory.{Counted, Named}
 use Rattle.words.specs.Zeros.{Zero}
 use Rattle.store_check.specs.First.{FirstBad}
-use Rattle.store_check.specs.Begun.{Begun, Free, Own}
+use Rattle.store_check.specs.Begun.{Begun, FreeAndUnnamed, Own}
 use Rattle.store_check.proofs.Naming.{room, unnamed, none-named}
 
 -- the prefix of a bucket, by its first code
@@ -39,7 +39,7 @@ module _ (S : Shape) (s dir counts : List ℕ) (n d p : ℕ) (B : Begun S s dir 
   fits : 2 ^ d ≤ length dir
   fits = omega (arith, room S (B .sized) d (B .deep), B .entries .long)
 
-  free-of : byte (page S s p) 0 ≡ 0 → Stands S fnv s p → Free (page S s p) counts p
+  free-of : byte (page S s p) 0 ≡ 0 → Stands S fnv s p → FreeAndUnnamed (page S s p) counts p
   free-of z (unused a u) = record { zero = a; unnamed = none-named dir d p from (B .beyond) (S .entries + 2) counts C last fits (λ i _ l e. u i (low i l) (sym (B .entries .entry i (low i l)) ∙ e)) }
   free-of z (used b _ _) = absurd (omega (arith, b .rules .rules .one))
 
@@ -62,7 +62,7 @@ module _ (S : Shape) (s dir counts : List ℕ) (n d p : ℕ) (B : Begun S s dir 
 
   -- g is page p, as it was lent
   module _ (g : List ℕ) (e : g ≡ page S s p) where
-    pub free-stands : Free g counts p → Stands S fnv s p
+    pub free-stands : FreeAndUnnamed g counts p → Stands S fnv s p
     free-stands f = unused (subst Zero e (f .zero))
         (λ i l q. unnamed dir d p from (B .beyond) (S .entries + 2) counts C last fits (f .unnamed) i (omega arith) (high i l) (B .entries .entry i l ∙ q))
 
@@ -76,8 +76,8 @@ module _ (S : Shape) (s dir counts : List ℕ) (n d p : ℕ) (B : Begun S s dir 
         ))
 
     -- a page that stands and whose byte 0 is 0 is free, any other a bucket
-    pub stands-free : byte g 0 ≡ 0 → Stands S fnv s p → Free g counts p
-    stands-free z st = subst (λ x. Free x counts p) (sym e) (free-of (subst (λ x. byte x 0 ≡ 0) e z) st)
+    pub stands-free : byte g 0 ≡ 0 → Stands S fnv s p → FreeAndUnnamed g counts p
+    stands-free z st = subst (λ x. FreeAndUnnamed x counts p) (sym e) (free-of (subst (λ x. byte x 0 ≡ 0) e z) st)
 
     module _ (nz : byte g 0 ≡ 0 → ⊥) where
       pub stands-own : Stands S fnv s p → Own g d

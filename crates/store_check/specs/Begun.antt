@@ -26,7 +26,7 @@ pub record Begun (S : Shape) (s dir : List ℕ) (n d : ℕ) : Type 0 where
   pub beyond : AllAre dir (2 ^ d) (length dir) 0
 
 -- a free page, p, named by no entry, as they are counted
-pub record Free (g counts : List ℕ) (p : ℕ) : Type 0 where
+pub record FreeAndUnnamed (g counts : List ℕ) (p : ℕ) : Type 0 where
   pub zero : Zero g
   pub unnamed : getD counts p 0 ≡ 0
 
@@ -36,7 +36,7 @@ pub record Own (g : List ℕ) (d : ℕ) : Type 0 where
   pub deep : depth g ≤ d
 
 -- a store of n pages of a size, those from 2 on all standing
-pub record Standing (S : Shape) (s : List ℕ) (n : ℕ) : Type 0 where
+pub record AllStand (S : Shape) (s : List ℕ) (n : ℕ) : Type 0 where
   pub sized : Sized S
   pub long : length s ≡ n * size S
   pub number : n ≡ pages S s

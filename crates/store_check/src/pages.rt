@@ -9,7 +9,7 @@ ghost use Rattle.store.specs.Pages.{size};
 ghost use Rattle.store.specs.Accepted.{Stands};
 ghost use Rattle.store_check.specs.First.{FirstBad};
 ghost use Rattle.store_check.specs.Directory.{Counted};
-ghost use Rattle.store_check.specs.Begun.{Begun, Free, Own};
+ghost use Rattle.store_check.specs.Begun.{Begun, FreeAndUnnamed, Own};
 ghost use Rattle.store_check.specs.Digest.{Hashed};
 use super::directory::named;
 use partition::Shape;
@@ -17,7 +17,7 @@ use partition::Shape;
 // Whether a page is free and named by none.
 fn free_ok(pg: &[u8], counts: &[u32], p: usize) -> bool
     requires { ⌜ p < length (now counts) ⌝ }
-    ensures { λ r. ⌜ Says r (Free (now (pg .entry)) (now (counts .entry)) p) ⌝ }
+    ensures { λ r. ⌜ Says r (FreeAndUnnamed (now (pg .entry)) (now (counts .entry)) p) ⌝ }
 {
     if !words::all_zero(pg) {
         return false;

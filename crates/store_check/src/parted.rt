@@ -10,7 +10,7 @@ ghost use Rattle.words.specs.Zeros.{Zero};
 ghost use Rattle.store.specs.Pages.{pages};
 ghost use Rattle.store.specs.Accepted.{Parted};
 ghost use Rattle.store_check.specs.First.{FirstBad};
-ghost use Rattle.store_check.specs.Begun.{Standing};
+ghost use Rattle.store_check.specs.Begun.{AllStand};
 ghost use Rattle.store_check.specs.Digest.{Legible, LoadOf, Hashed, Celled, Digest};
 use partition::Shape;
 
@@ -27,7 +27,7 @@ fn page_load(pg: &[u8]) -> u32
 
 // What the pages need together, for each number of the first bits of their first hash.
 fn digest(s: &[u8], z: Shape, n: usize, hashes: &[u32], cells: &mut [u32])
-    requires { ⌜ Standing z (now s) n × Hashed z (now s) n (now hashes) × (length (now cells) ≡ z .entries + 1) × Zero (now cells) ⌝ }
+    requires { ⌜ AllStand z (now s) n × Hashed z (now s) n (now hashes) × (length (now cells) ≡ z .entries + 1) × Zero (now cells) ⌝ }
     ensures { λ _. ⌜ Celled z (now (s .entry)) n (now (cells .exit)) ⌝ }
 {
     let mut p = 2;
@@ -57,7 +57,7 @@ fn add_up(cells: &mut [u32])
 
 // Whether page p keeps pass 2's rule: a prefix's run of cells needs what its rows need.
 fn parted_ok(s: &[u8], z: Shape, hashes: &[u32], sums: &[u32], p: usize) -> bool
-    requires { ⌜ Standing z (now s) (pages z (now s)) × Digest z (now s) (pages z (now s)) (now hashes) (now sums) × (2 ≤ p) × (p < pages z (now s)) ⌝ }
+    requires { ⌜ AllStand z (now s) (pages z (now s)) × Digest z (now s) (pages z (now s)) (now hashes) (now sums) × (2 ≤ p) × (p < pages z (now s)) ⌝ }
     ensures { λ r. ⌜ Says r (Parted z fnv (now (s .entry)) p) ⌝ }
 {
     let d = s[p * (8 + z.capacity) + 1] as u32;
@@ -72,7 +72,7 @@ fn parted_ok(s: &[u8], z: Shape, hashes: &[u32], sums: &[u32], p: usize) -> bool
 
 // The first page that does not keep it, or n.
 pub fn first_joinable(s: &[u8], z: Shape, n: usize, hashes: &[u32], sums: &mut [u32]) -> usize
-    requires { ⌜ Standing z (now s) n × Hashed z (now s) n (now hashes) × (length (now sums) ≡ z .entries + 1) × Zero (now sums) ⌝ }
+    requires { ⌜ AllStand z (now s) n × Hashed z (now s) n (now hashes) × (length (now sums) ≡ z .entries + 1) × Zero (now sums) ⌝ }
     ensures { λ r. ⌜ FirstBad n (Parted z fnv (now (s .entry))) r ⌝ }
 {
     digest(s, z, n, hashes, sums);

@@ -1,7 +1,7 @@
 -- `query::place_of` meets its contract. Assumes nothing.
 use denote.Ref.{now}
 use Rattle.ground.proofs.Tests.{none-some}
-use Rattle.query.specs.Spots.{Stands}
+use Rattle.query.specs.Spots.{StandsAt}
 use Rattle.query.specs.declared.Spot.the-variants.{Here}
 use borrow.Author.Needs.{needs}
 use mathlib.Core.Path.{_≡_, refl, ap, subst, _∙_}
@@ -37,8 +37,8 @@ module _ (b : tie.After-p) where
   abbrev slot-no : ℕ
   slot-no = b .p .given .0 .1 .0
 
-  here : Stands S store key (Here page-no slot-no)
-  here = subst (Stands S store key) (b .p .given .1) (b .before .before .find-row .ensures)
+  here : StandsAt S store key (Here page-no slot-no)
+  here = subst (StandsAt S store key) (b .p .given .1) (b .before .before .find-row .ensures)
 
 find-row-requires : tie.Need-find-row-requires
 find-row-requires c κs = search needs
@@ -80,7 +80,7 @@ returns c = let b = c .before .before .before .before in
 
 returns-2 : tie.Need-returns-2
 returns-2 c = let f = c .before .before in
-    let e : placeOf _ _ ≡ none = subst (Stands _ _ _) (c .enum-told .given .1) (f .find-row .ensures) in
+    let e : placeOf _ _ ≡ none = subst (StandsAt _ _ _) (c .enum-told .given .1) (f .find-row .ensures) in
     inr ((λ b q. none-some e q), refl)
 
 pub place-of-spec : {M : Type 1} → statement M

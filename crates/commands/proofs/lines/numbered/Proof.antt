@@ -3,7 +3,7 @@ use mathlib.Core.Logic.{⊎-elim}
 use mathlib.Core.Path.{sym, _∙_, subst}
 use borrow.Author.Needs.{needs}
 use Rattle.ground.proofs.Tests.{untrue}
-use Rattle.commands.specs.Numbers.{Reads}
+use Rattle.commands.specs.Numbers.{ReadsNumber}
 use Rattle.commands.proofs.Unasked.{no-number}
 use Rattle.commands.proofs.Phrases.{after-word}
 use Rattle.commands.proofs.lines.numbered.Statement.{statement}
@@ -21,7 +21,7 @@ enum-told c = search needs
 returns : tie.Need-returns
 returns c =
     let s = c .before .before .before .before .before in
-    no-number (s .args .word .now) (s .args .rest .now) (s .pre .0) (s .pre .1) (s .pre .2) (λ n h d _. subst (Reads _) (c .enum-told .given .1) (c .before .before .read-number .ensures) n h d)
+    no-number (s .args .word .now) (s .args .rest .now) (s .pre .0) (s .pre .1) (s .pre .2) (λ n h d _. subst (ReadsNumber _) (c .enum-told .given .1) (c .before .before .read-number .ensures) n h d)
 
 slice-aggregate-same : tie.Need-slice-aggregate-same
 slice-aggregate-same c = search needs
@@ -32,7 +32,7 @@ same-requires c κs = search needs
 returns-2 : tie.Need-returns-2
 returns-2 c =
     λ k. let n = c .before .before .before .before in
-    after-word _ _ _ _ (c .before .same .ensures .0 (c .if1 .taken)) (subst (Reads _) (n .n .given .1) (n .before .before .read-number .ensures))
+    after-word _ _ _ _ (c .before .same .ensures .0 (c .if1 .taken)) (subst (ReadsNumber _) (n .n .given .1) (n .before .before .read-number .ensures))
 
 slice-aggregate-same-2 : tie.Need-slice-aggregate-same-2
 slice-aggregate-same-2 c = search needs
@@ -43,7 +43,7 @@ same-requires-2 c κs = search needs
 returns-3 : tie.Need-returns-3
 returns-3 c =
     λ k. let n = c .before .before .before .before .before .before .before in
-    after-word _ _ _ _ (c .before .same2 .ensures .0 (c .if2 .taken)) (subst (Reads _) (n .n .given .1) (n .before .before .read-number .ensures))
+    after-word _ _ _ _ (c .before .same2 .ensures .0 (c .if2 .taken)) (subst (ReadsNumber _) (n .n .given .1) (n .before .before .read-number .ensures))
 
 slice-aggregate-same-3 : tie.Need-slice-aggregate-same-3
 slice-aggregate-same-3 c = search needs
@@ -54,7 +54,7 @@ same-requires-3 c κs = search needs
 returns-4 : tie.Need-returns-4
 returns-4 c =
     λ k. let n = c .before .before .before .before .before .before .before .before .before .before in
-    after-word _ _ _ _ (c .before .same3 .ensures .0 (c .if3 .taken)) (subst (Reads _) (n .n .given .1) (n .before .before .read-number .ensures))
+    after-word _ _ _ _ (c .before .same3 .ensures .0 (c .if3 .taken)) (subst (ReadsNumber _) (n .n .given .1) (n .before .before .read-number .ensures))
 
 returns-5 : tie.Need-returns-5
 returns-5 c =

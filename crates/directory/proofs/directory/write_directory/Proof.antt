@@ -1,6 +1,6 @@
 -- `directory::write_directory` meets its contract: page after page names its entries. Assumes nothing.
 use Rattle.directory.proofs.Directories.{page-above, directed-none, directed-from, directed-more, standing-on}
-use Rattle.directory.specs.Directory.{Directed, Standing}
+use Rattle.directory.specs.Directory.{Directed, Nameable}
 use Rattle.store.specs.Pages.{S1024, page}
 use Rattle.hash.specs.Fnv.{fnv}
 use lib.ListN.{length}
@@ -46,13 +46,13 @@ module _ (b : tie.At-loop Inv-loop μ-loop) where
   long : length u ≡ z .args .n * 1024
   long = cleared .len ∙ set .old .len ∙ z .pre .size
 
-  standing : b .loop .p < z .args .n → Standing (z .args .d) (page S1024 (b .loop .s) (b .loop .p))
+  standing : b .loop .p < z .args .n → Nameable (z .args .d) (page S1024 (b .loop .s) (b .loop .p))
   standing l =
       let p = b .loop .p in
       let two = b .loop .inv .0 in
       let e : page S1024 u p ≡ page S1024 (now (z .args .s)) p =
       page-above (now (z .args .s)) u p two (omega (arith, z .pre .size)) (cleared .len ∙ set .old .len) (λ k m. cleared .above k m ∙ set .old .above k (omega arith)) in
-      standing-on fnv two (omega (arith, long)) (b .loop .inv .2) (subst (Standing (z .args .d)) (sym e) (z .pre .pages p two l))
+      standing-on fnv two (omega (arith, long)) (b .loop .inv .2) (subst (Nameable (z .args .d)) (sym e) (z .pre .pages p two l))
 
 name-page-requires : tie.Need-name-page-requires Inv-loop μ-loop
 name-page-requires c κs =

@@ -10,7 +10,7 @@ use Rattle.words.proofs.Bytes.{copied-front}
 use Rattle.page.specs.Page.{count}
 use Rattle.page.proofs.Slots.{lies}
 use Rattle.page.proofs.Sums.{len-of-code}
-use Rattle.page_reader.specs.Read.{Sound}
+use Rattle.page_reader.specs.Read.{SoundBucket}
 use Rattle.page_reader.proofs.Rows.{unsound, slotted, nth-none, nth-past, nth-row}
 use Rattle.page_reader.proofs.slots.give_at.Statement.{statement}
 use Rattle.page_reader.proofs.slots.give_at.Tie as tie
@@ -24,7 +24,7 @@ left-at-requires : tie.Need-left-at-requires
 left-at-requires c κs = search needs
 
 -- there is a page
-page-of : (c : tie.Else1) → Sound (c .before .before .before .args .page .now)
+page-of : (c : tie.Else1) → SoundBucket (c .before .before .before .args .page .now)
 page-of c = c .before .before .before .pre .0 .sound (omega arith)
 
 returns-2 : tie.Need-returns-2

@@ -100,8 +100,8 @@ get16-requires c κs = search needs
 add-if1 : tie.Need-add-if1
 add-if1 c = search needs
 
-add-row-requires : tie.Need-add-row-requires
-add-row-requires c κs =
+insert-new-requires : tie.Need-insert-new-requires
+insert-new-requires c κs =
     let b = c .before .before in
     let q = z (a2 b) .pre in (
       q .0 .accepted,
@@ -162,7 +162,7 @@ put-on-spec =
     part-get16-end
     get16-requires
     add-if1
-    add-row-requires
+    insert-new-requires
     same-length
     returns
     split-requires

@@ -2,7 +2,7 @@
 use Rattle.putting.proofs.Splits.{bare-wrote, deep-wrote, one-free, one-wrote, half-ready, other-ready, both-wrote}
 use Rattle.putting.proofs.Weighs.{load-any}
 use Rattle.directory.proofs.OnePage.{lent, back}
-use Rattle.putting.specs.Split.{keyed, Writable, Wrote}
+use Rattle.putting.specs.Split.{keyed, Writable, BucketsWritten}
 use Rattle.store.proofs.Unique.{page-long}
 use Rattle.store.specs.Pages.{S1024, pages, asRow}
 use borrow.Author.Needs as Needs
@@ -166,7 +166,7 @@ write-below-returns-2 t c =
     let n = d .before .if1 .left in
     let l = d .if2 .taken in
     let w = c .before .before .write-bucket in
-    subst (λ x. Wrote fnv (rs t b) (k t b) (v t b) (s t b) (at t b) x 0) (sym (back (s t b) (taken t q) (w .last .0)))
+    subst (λ x. BucketsWritten fnv (rs t b) (k t b) (v t b) (s t b) (at t b) x 0) (sym (back (s t b) (taken t q) (w .last .0)))
     (one-wrote fnv (rs t b) (k t b) (v t b) (s t b) (at t b) (W t b) (pos t b n l) (most t b n l) (taken t q) (q .next-page .ensures .0) (there t q) (w .last .0) (w .ensures))
 
 write-below-returns-3 : (t : ℕ) → write-below-lts.Need-returns-3 (told t) (write-below-at t) write-below.Post

@@ -2,7 +2,7 @@
 use Rattle.putting.proofs.Heavy.{shallow, heavy-six, heavy-seven, as-many, source, writable, heavy-new}
 use Rattle.directory.proofs.Settles.{settling}
 use Rattle.directory.proofs.OnePage.{lent}
-use Rattle.putting.specs.Split.{keyed, below, pagesBelow, Source, Writable, Wrote}
+use Rattle.putting.specs.Split.{keyed, below, pagesBelow, Source, Writable, BucketsWritten}
 use Rattle.store.proofs.EveryStep.{Roomy, every-step, packed-used}
 use Rattle.store.proofs.Unique.{page-long}
 use Rattle.store.specs.Pages.{S1024, page, contents, asRow}
@@ -280,8 +280,8 @@ returns-3 c =
     let q = z b .pre in
     let n = y .write-below in
     heavy-new fnv fnv-lt (s b) (key b) (place b) (q .0) (p b) (q .1) (z b .args .i) (q .2) (q .3) (fine (d4 w)) (room w) (n .last .0) (n .result)
-    (subst (λ g. Wrote fnv (record { code = key b; place = place b } ∷ map asRow (rows g)) (depth g) (top (depth g) (fnv (key b))) (s b) (p b) (n .last .0) (n .result)) (copied b)
-    (subst (λ v. Wrote fnv (record { code = key b; place = place b } ∷ map asRow (rows (from b))) (depth (from b)) v (s b) (p b) (n .last .0) (n .result)) (prefix (t3 (d4 w))) (n .ensures)))
+    (subst (λ g. BucketsWritten fnv (record { code = key b; place = place b } ∷ map asRow (rows g)) (depth g) (top (depth g) (fnv (key b))) (s b) (p b) (n .last .0) (n .result)) (copied b)
+    (subst (λ v. BucketsWritten fnv (record { code = key b; place = place b } ∷ map asRow (rows (from b))) (depth (from b)) v (s b) (p b) (n .last .0) (n .result)) (prefix (t3 (d4 w))) (n .ensures)))
     (c .before .before .settle .last .0) (c .before .before .settle .ensures) (λ k. (c .slice-known3 .given k) .fits)
 
 pub split-spec : {M : Type 1} → statement M

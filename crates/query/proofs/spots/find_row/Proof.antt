@@ -14,7 +14,7 @@ use Rattle.partition.specs.Bits.{top}
 use Rattle.store.specs.Pages.{size, page, dirDepth, entryAt}
 use Rattle.store.proofs.Views.{page-lent}
 use Rattle.store.proofs.Reading.{entryOf}
-use Rattle.query.specs.Spots.{Stands}
+use Rattle.query.specs.Spots.{StandsAt}
 use Rattle.query.specs.declared.Spot.the-variants.{Here, Nowhere}
 use Rattle.query.proofs.Finds.{long-enough, shallow, not-named, inside, keeps, here, nowhere}
 use borrow.Author.Needs.{needs}
@@ -50,11 +50,11 @@ module _ (c : tie.Else1) where
   bucket : BucketPage (page S s (c .before .entry-of .result))
   bucket = subst (λ p. BucketPage (page S s p)) (sym (entry (c .before))) (keeps S (start .pre .0) s (start .pre .1) key some-entry)
 
-  stands-at : (i : ℕ) → i < count (page S s (c .before .entry-of .result)) → code (page S s (c .before .entry-of .result)) i ≡ key → Stands S s key (Here (c .before .entry-of .result) i)
+  stands-at : (i : ℕ) → i < count (page S s (c .before .entry-of .result)) → code (page S s (c .before .entry-of .result)) i ≡ key → StandsAt S s key (Here (c .before .entry-of .result) i)
   stands-at i l e =
-      subst (λ p. (i : ℕ) → i < count (page S s p) → code (page S s p) i ≡ key → Stands S s key (Here p i)) (sym (entry (c .before))) (here S (start .pre .0) s (start .pre .1) key some-entry) i l e
+      subst (λ p. (i : ℕ) → i < count (page S s p) → code (page S s p) i ≡ key → StandsAt S s key (Here p i)) (sym (entry (c .before))) (here S (start .pre .0) s (start .pre .1) key some-entry) i l e
 
-  stands-not : (i : ℕ) → Belongs (page S s (c .before .entry-of .result)) i key → Stands S s key Nowhere
+  stands-not : (i : ℕ) → Belongs (page S s (c .before .entry-of .result)) i key → StandsAt S s key Nowhere
   stands-not i b = nowhere S (start .pre .0) s (start .pre .1) key some-entry i (subst (λ p. Belongs (page S s p) i key) (entry (c .before)) b)
 
 hash-requires : tie.Need-hash-requires

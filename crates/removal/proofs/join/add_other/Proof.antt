@@ -42,26 +42,26 @@ add-m c = omega (arith, slot (c .before .before .before .before .before .before)
 add-t : tie.Need-add-t
 add-t c = omega (arith, slot (c .before .before .before .before .before .before .before), c .before .extent-of .ensures)
 
-sub-add-row : tie.Need-sub-add-row
-sub-add-row c = omega (arith, slot (c .before .before .before .before .before .before .before .before), c .before .before .extent-of .ensures)
+sub-gather-row : tie.Need-sub-gather-row
+sub-gather-row c = omega (arith, slot (c .before .before .before .before .before .before .before .before), c .before .before .extent-of .ensures)
 
-part-add-row-start : tie.Need-part-add-row-start
-part-add-row-start c = omega (arith, slot (c .before .before .before .before .before .before .before .before), c .before .before .extent-of .ensures)
+part-gather-row-start : tie.Need-part-gather-row-start
+part-gather-row-start c = omega (arith, slot (c .before .before .before .before .before .before .before .before), c .before .before .extent-of .ensures)
 
-part-add-row-end : tie.Need-part-add-row-end
-part-add-row-end c = omega (arith, slot (c .before .before .before .before .before .before .before .before), c .before .before .extent-of .ensures)
+part-gather-row-end : tie.Need-part-gather-row-end
+part-gather-row-end c = omega (arith, slot (c .before .before .before .before .before .before .before .before), c .before .before .extent-of .ensures)
 
-sub-add-row-2 : tie.Need-sub-add-row-2
-sub-add-row-2 c = search needs
+sub-gather-row-2 : tie.Need-sub-gather-row-2
+sub-gather-row-2 c = search needs
 
-part-add-row-start-2 : tie.Need-part-add-row-start-2
-part-add-row-start-2 c = search needs
+part-gather-row-start-2 : tie.Need-part-gather-row-start-2
+part-gather-row-start-2 c = search needs
 
-part-add-row-end-2 : tie.Need-part-add-row-end-2
-part-add-row-end-2 c = omega (arith, slot (c .before .before .before .before .before .before .before .before .before), c .before .before .before .extent-of .ensures)
+part-gather-row-end-2 : tie.Need-part-gather-row-end-2
+part-gather-row-end-2 c = omega (arith, slot (c .before .before .before .before .before .before .before .before .before), c .before .before .before .extent-of .ensures)
 
-add-row-requires : tie.Need-add-row-requires
-add-row-requires c κs = let z = c .before .before .before .before .before .before .before .before .before .before in
+gather-row-requires : tie.Need-gather-row-requires
+gather-row-requires c κs = let z = c .before .before .before .before .before .before .before .before .before .before in
     let e = c .before .before .before .before .extent-of in
     let other = says-false (c .before .before .before .before .before .before .has-code .result) (not-true _ (c .before .before .before .before .before .if1 .taken)) (c .before .before .before .before .before .before .has-code .ensures) in
     rw (its-code z (e .result .off) (e .result .len) (e .ensures .0) (e .ensures .1), place-part (g z) (i z) (e .result .off) (e .ensures .0))
@@ -74,9 +74,9 @@ returns : tie.Need-returns
 returns c = let z = c .before .before .before .before .before .before .before .before .before .before .before .before .before in
     let e = c .before .before .before .before .before .before .before .extent-of in
     let other = says-false (c .before .before .before .before .before .before .before .before .before .has-code .result) (not-true _ (c .before .before .before .before .before .before .before .before .if1 .taken)) (c .before .before .before .before .before .before .before .before .before .has-code .ensures) in
-    let q = c .before .before .add-row .last .0 in
+    let q = c .before .before .gather-row .last .0 in
     subst (λ l. Gathered (now (z .args .to)) l q) (sym (cut-other (rowIn (g z) (i z)) (now (z .args .key)) other))
-    (rw (its-code z (e .result .off) (e .result .len) (e .ensures .0) (e .ensures .1), place-part (g z) (i z) (e .result .off) (e .ensures .0)) at (c .before .before .add-row .ensures))
+    (rw (its-code z (e .result .off) (e .result .len) (e .ensures .0) (e .ensures .1), place-part (g z) (i z) (e .result .off) (e .ensures .0)) at (c .before .before .gather-row .ensures))
 
 returns-2 : tie.Need-returns-2
 returns-2 c = let z = c .before .before .before .before .before in
@@ -91,13 +91,13 @@ add-other-spec =
     extent-of-requires
     add-m
     add-t
-    sub-add-row
-    part-add-row-start
-    part-add-row-end
-    sub-add-row-2
-    part-add-row-start-2
-    part-add-row-end-2
-    add-row-requires
+    sub-gather-row
+    part-gather-row-start
+    part-gather-row-end
+    sub-gather-row-2
+    part-gather-row-start-2
+    part-gather-row-end-2
+    gather-row-requires
     same-length
     returns
     returns-2)

@@ -8,7 +8,7 @@ use denote.Ref.{now}
 use Rattle.hash.specs.Fnv.{fnv}
 use Rattle.partition.specs.Partition.{Row}
 use Rattle.store.specs.Pages.{S1024, Page, page, contents, read}
-use Rattle.directory.specs.Directory.{Sound}
+use Rattle.directory.specs.Directory.{SoundPage}
 use Rattle.removal.specs.Join.{othersOn, othersIn}
 use Rattle.removal.proofs.Prefixes.{lent-sound, page-at, listed}
 use Rattle.removal.proofs.Gathers.{Coming, coming-all, coming-none, next-taking, next-coming, pages-next, pages-end}
@@ -41,7 +41,7 @@ module _ (b : tie.In-loop Inv-loop μ-loop) where
   abbrev here : List Row
   here = othersOn fnv (z .args .j) (z .args .v) (now (z .args .key)) (read (page S1024 s p))
 
-  lent : (take (p * 1024 + 1024 - p * 1024) (drop (p * 1024) s) ≡ page S1024 s p) × Sound (page S1024 s p) × (length (page S1024 s p) ≡ 1024)
+  lent : (take (p * 1024 + 1024 - p * 1024) (drop (p * 1024) s) ≡ page S1024 s p) × SoundPage (page S1024 s p) × (length (page S1024 s p) ≡ 1024)
   lent = lent-sound s (z .args .n) (z .pre .0) p (b .before .loop .inv .0) (b .loop-test .taken)
 
   coming : Coming (now (z .args .to)) (from gs) (here ++ from (drop (p + 1 - 2) gs)) (b .before .loop .to)

@@ -20,7 +20,7 @@ use Rattle.directory.proofs.OnePage.{lent}
 use Rattle.removal.proofs.removal.remove_row.Statement.{statement}
 use Rattle.removal.proofs.removal.remove_row.Tie as tie
 use Rattle.query.specs.declared.Spot.{Spot}
-use Rattle.query.specs.Spots.{OnPage, Stands}
+use Rattle.query.specs.Spots.{OnPage, StandsAt}
 
 -- where the row stands
 module _ (d : tie.After-p) where
@@ -40,7 +40,7 @@ module _ (d : tie.After-p) where
   i = d .p .given .0 .1 .0
 
   stands : OnPage S1024 s p i × (code (page S1024 s p) i ≡ key) × (placeOf (rowsHeld S1024 s) key ≡ some (place (page S1024 s p) i))
-  stands = subst (λ (r : Spot). Stands S1024 s key r) (d .p .given .1) (d .before .before .find-row .ensures)
+  stands = subst (λ (r : Spot). StandsAt S1024 s key r) (d .p .given .1) (d .before .before .find-row .ensures)
 
   leaving : Leaving fnv s p i key
   leaving =
@@ -82,7 +82,7 @@ same-length c = search needs
 
 returns : tie.Need-returns
 returns c = let z = c .before .before .before .before .before .before in
-    let w = subst (λ (r : Spot). Stands S1024 (now (z .args .s)) (now (z .args .key)) r) (c .enum-told .given .1) (c .before .before .find-row .ensures) in
+    let w = subst (λ (r : Spot). StandsAt S1024 (now (z .args .s)) (now (z .args .key)) r) (c .enum-told .given .1) (c .before .before .find-row .ensures) in
     inr ((λ _. none-some w), refl)
 
 same-length-2 : tie.Need-same-length-2

@@ -21,7 +21,7 @@ use Rattle.store.specs.Pages.{S1024, Page, page, contents, rowsHeld, deepestIn}
 use Rattle.removal.specs.Remove.{Fits}
 use Rattle.removal.specs.Join.{Joinable, Rejoined}
 use Rattle.removal.specs.Prefix.{Climbed}
-use Rattle.directory.specs.Directory.{Sound, free, used, Settling, Directed, Rewritten}
+use Rattle.directory.specs.Directory.{SoundPage, free, used, Settling, Directed, Rewritten}
 use Rattle.directory.proofs.Settles.{unwritten, settling}
 use Rattle.removal.proofs.Removes.{its-bucket, climbed-fits, loses, settles, clear-written, clear-holds, joinable, join-written, join-holds}
 use Rattle.store.proofs.Depths.{page-byte}
@@ -61,7 +61,7 @@ module _ (z : tie.Start) where
   shallow : depth g ≤ 8
   shallow = go (sound .pages p (z .pre .from) (z .pre .to))
     where
-      go : Sound g → depth g ≤ 8
+      go : SoundPage g → depth g ≤ 8
       go (free w) = absurd (omega (arith, w 0, z .pre .rules .rules .one))
       go (used b d) = d
 

@@ -22,7 +22,7 @@ use Rattle.store.proofs.Unique.{within, page-long}
 use Rattle.store.proofs.Views.{page-lent}
 use Rattle.store_check.specs.First.{FirstBad}
 use Rattle.store_check.specs.Directory.{Counted, Named}
-use Rattle.store_check.specs.Begun.{Free, Own}
+use Rattle.store_check.specs.Begun.{FreeAndUnnamed, Own}
 use Rattle.store_check.specs.Digest.{Hashed, firstOf}
 use Rattle.store_check.proofs.Naming.{room}
 use Rattle.store_check.proofs.Parting.{hashed-none, hashed-more, hashed-all, first-free, first-used}
@@ -103,13 +103,13 @@ module _ (c : tie.Else1 Inv-slots μ-slots Inv-pages μ-pages) where
   keeps : {x : ℕ} → x ≡ firstOf pg-of → Hashed S store (p-of + 1) (set (turn .pages .hashes) p-of x)
   keeps e = hashed-more S store (turn .pages .inv .5) (turn .pages .inv .2) in-range (e ∙ ap firstOf lent)
 
-  fine-free : Free pg-of counts-of p-of → Stands S fnv store p-of
+  fine-free : FreeAndUnnamed pg-of counts-of p-of → Stands S fnv store p-of
   fine-free = free-stands S store dir-of counts-of (start .args .n) deep p-of (start .pre .0) (start .pre .1) (turn .pages .inv .2) (c .if1 .left) pg-of lent
 
   fine-used : Own pg-of deep → ((i : ℕ) → i < count pg-of → Like pg-of i) → Named dir-of deep (depth pg-of) (prefixOf pg-of) p-of → Stands S fnv store p-of
   fine-used = used-stands S store dir-of counts-of (start .args .n) deep p-of (start .pre .0) (start .pre .1) (turn .pages .inv .2) (c .if1 .left) pg-of lent
 
-  free-of : byte pg-of 0 ≡ 0 → Stands S fnv store p-of → Free pg-of counts-of p-of
+  free-of : byte pg-of 0 ≡ 0 → Stands S fnv store p-of → FreeAndUnnamed pg-of counts-of p-of
   free-of = stands-free S store dir-of counts-of (start .args .n) deep p-of (start .pre .0) (start .pre .1) (turn .pages .inv .2) (c .if1 .left) pg-of lent
 
   module _ (nz : byte pg-of 0 ≡ 0 → ⊥) where
@@ -193,7 +193,7 @@ pages-again c =
       l .inv .1,
       omega arith,
       omega arith,
-      goes x (fine-free x (says-true {P = Free (pg-of x) (counts-of x) (p-of x)} (c .before .free-ok .result) (not-false _ (c .if3 .left)) (c .before .free-ok .ensures))),
+      goes x (fine-free x (says-true {P = FreeAndUnnamed (pg-of x) (counts-of x) (p-of x)} (c .before .free-ok .result) (not-false _ (c .if3 .left)) (c .before .free-ok .ensures))),
       keeps x (omega (arith, first-free (pg-of x) (c .before .before .if2 .taken))),
     )
 
@@ -295,7 +295,7 @@ same-length-4 c = let t = turn (c .before .before .before .before .before .befor
 returns-2 : tie.Need-returns-2 Inv-slots μ-slots Inv-pages μ-pages
 returns-2 c =
     let x = c .before .before .before .before .before .before in
-    (ends x (λ st. says-false {P = Free (pg-of x) (counts-of x) (p-of x)} (c .before .free-ok .result) (not-true _ (c .if3 .taken)) (c .before .free-ok .ensures) (free-of x (c .before .before .if2 .taken) st)), turn x .pages .inv .5)
+    (ends x (λ st. says-false {P = FreeAndUnnamed (pg-of x) (counts-of x) (p-of x)} (c .before .free-ok .result) (not-true _ (c .if3 .taken)) (c .before .free-ok .ensures) (free-of x (c .before .before .if2 .taken) st)), turn x .pages .inv .5)
 
 same-length-5 : tie.Need-same-length-5 Inv-slots μ-slots Inv-pages μ-pages
 same-length-5 c = let t = turn (c .before .before .before .before .before .before .before .before .before) in c .before .before .before .own-ok .kept .1 .0 ∙ t .pages .inv .0 ∙ sym (t .before .before .before .before .before .before .pre .2)

@@ -9,10 +9,10 @@ use Rattle.ground.proofs.Tests.{says-true, says-false}
 use Rattle.hash.specs.Fnv.{fnv}
 use Rattle.store.specs.Accepted.{Parted}
 use Rattle.store.specs.Pages.{pages}
-use Rattle.store_check.specs.Begun.{Standing}
+use Rattle.store_check.specs.Begun.{AllStand}
 use Rattle.store_check.specs.Digest.{Digest}
 use Rattle.store_check.proofs.Parting.{cells-fit, digested}
-use Rattle.store_check.proofs.Standing.{ends-bad, ends-fine}
+use Rattle.store_check.proofs.AllStand.{ends-bad, ends-fine}
 use Rattle.store_check.proofs.parted.first_joinable.Statement.{statement}
 use Rattle.store_check.proofs.parted.first_joinable.Tie as tie
 
@@ -45,7 +45,7 @@ parted-ok-requires : tie.Need-parted-ok-requires Inv-loop μ-loop
 parted-ok-requires c κs =
     let t = c .before .before in
     let a = start t in
-    (subst (λ m. Standing (a .args .z) (a .args .s .now) m) (a .pre .0 .number) (a .pre .0), t .loop .inv .3, t .loop .inv .0, omega (arith, a .pre .0 .number, c .before .loop-test .taken))
+    (subst (λ m. AllStand (a .args .z) (a .args .s .now) m) (a .pre .0 .number) (a .pre .0), t .loop .inv .3, t .loop .inv .0, omega (arith, a .pre .0 .number, c .before .loop-test .taken))
 
 same-length : tie.Need-same-length Inv-loop μ-loop
 same-length c = let t = c .before .before .before .before in t .loop .inv .3 .long ∙ sym (start t .pre .2)

@@ -1,12 +1,12 @@
--- `removal::add_row` meets its contract: a row goes to the frontier, its slot where its code belongs. Assumes nothing.
+-- `removal::gather_row` meets its contract: a row goes to the frontier, its slot where its code belongs. Assumes nothing.
 use borrow.Author.Needs.{needs}
 use mathlib.Core.Path.{subst}
 use denote.Ref.{now}
 use Rattle.page.specs.declared.Found.{Found}
 use Rattle.page.specs.Found.{FoundIn}
 use Rattle.removal.proofs.Gathers.{row-fits, row-added, row-known}
-use Rattle.removal.proofs.join.add_row.Statement.{statement}
-use Rattle.removal.proofs.join.add_row.Tie as tie
+use Rattle.removal.proofs.join.gather_row.Statement.{statement}
+use Rattle.removal.proofs.join.gather_row.Tie as tie
 
 find-code-requires : tie.Need-find-code-requires
 find-code-requires c κs = search needs
@@ -45,8 +45,8 @@ returns-2 c = let z = c .before .before .before .before .before .before .before 
     let k = now (z .args .key) in
     row-added p k (now (z .args .place)) (z .pre .0) (z .pre .1) (g .0 .0) (c .before .before .insert-at-frontier .last .0) (subst (λ (r : Found). FoundIn p k r) (g .1) (c .before .before .before .before .before .before .before .find-code .ensures)) (c .before .before .insert-at-frontier .ensures)
 
-pub add-row-spec : {M : Type 1} → statement M
-add-row-spec =
+pub gather-row-spec : {M : Type 1} → statement M
+gather-row-spec =
     tie.close
     (tie.spec
     find-code-requires

@@ -1,4 +1,4 @@
--- `putting::add_row` meets its contract: the page with the row in. Assumes nothing.
+-- `putting::insert_new` meets its contract: the page with the row in. Assumes nothing.
 use borrow.Author.Needs.{needs}
 use mathlib.Core.Path.{sym, ap, subst, _∙_}
 use mathlib.Core.List.{List}
@@ -15,8 +15,8 @@ use Rattle.store.specs.Demands.{sized-1024}
 use Rattle.store.proofs.Unique.{page-long}
 use Rattle.directory.proofs.OnePage.{lent, back}
 use Rattle.putting.proofs.Puts.{put-fitted}
-use Rattle.putting.proofs.putting.add_row.Statement.{statement}
-use Rattle.putting.proofs.putting.add_row.Tie as tie
+use Rattle.putting.proofs.putting.insert_new.Statement.{statement}
+use Rattle.putting.proofs.putting.insert_new.Tie as tie
 
 abbrev s : tie.Start → List ℕ
 s z = now (z .args .s)
@@ -60,8 +60,8 @@ returns c =
     (put-fitted S1024 fnv sized-1024 fnv-lt (s z) (z .pre .0) (now (z .args .key)) (p z) (z .pre .1) (z .args .i) (now (z .args .place)) _ q _ (z .pre .2) (rw (lent (s z) (p z)) at (w .ensures))
     (λ k. subst (λ t. byte t k < 256) (back (s z) (p z) q) ((c .before .slice-known2 .given k) .fits)))
 
-pub add-row-spec : {M : Type 1} → statement M
-add-row-spec =
+pub insert-new-spec : {M : Type 1} → statement M
+insert-new-spec =
     tie.close
     (tie.spec
     mul-a
