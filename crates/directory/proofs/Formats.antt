@@ -15,7 +15,7 @@ use Rattle.store.specs.Pages.{S1024, pages}
 use Rattle.store.specs.Accepted.{GoodLength}
 use Rattle.store.specs.Tables.{blank}
 use Rattle.store.specs.Demands.{sized-1024}
-use Rattle.store.proofs.Format.{blank-long, blank-zero, word-0, word-4, word-8, word-12}
+use Rattle.store.proofs.Accepted.Format.{blank-long, blank-zero, word-0, word-4, word-8, word-12}
 
 -- every byte of the blank store is a byte
 blank-bytes : (s : List ℕ) → Small (blank S1024 s)

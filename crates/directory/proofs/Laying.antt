@@ -10,14 +10,14 @@ use Rattle.ground.proofs.Sides.{side}
 use Rattle.page.specs.Page.{Record, BucketPage, depth, rows}
 use Rattle.store.specs.Pages.{S1024, pages, page, entryAt, Page, bucket, read, contents, deepestIn}
 use Rattle.store.specs.Accepted.{GoodLength, Calls}
-use Rattle.store.proofs.Shows.{prefixOn, Holding}
-use Rattle.store.proofs.Shown.{free-not}
-use Rattle.store.proofs.Rooms.{bucket-one}
-use Rattle.store.proofs.Unique.{read-zero, read-used, held}
-use Rattle.store.proofs.Showing.{first-code, pages-held}
-use Rattle.store.proofs.Named as Named
-use Rattle.store.proofs.Named.{deepest-le, deepest-bound}
-use Rattle.store.proofs.Accepting.{Head, Whole, Laid, head-kept, contents-kept, each-kept}
+use Rattle.store.proofs.Showing.Shows.{prefixOn, Holding}
+use Rattle.store.proofs.Showing.Shown.{free-not}
+use Rattle.store.proofs.Showing.Rooms.{bucket-one}
+use Rattle.store.proofs.Accepted.Unique.{read-zero, read-used, held}
+use Rattle.store.proofs.Showing.Showing.{first-code, pages-held}
+use Rattle.store.proofs.Accepted.Named as Named
+use Rattle.store.proofs.Accepted.Named.{deepest-le, deepest-bound}
+use Rattle.store.proofs.Accepted.Accepting.{Head, Whole, Laid, head-kept, contents-kept, each-kept}
 use Rattle.directory.specs.Directory.{EntryFor, none, names, Directed, Directable, SoundPage, free, used, Settling}
 
 module _ (s : List ℕ) (n : ℕ) (P : Settling s n) where
@@ -80,7 +80,7 @@ module _ (s : List ℕ) (n : ℕ) (P : Settling s n) where
       go (used u d) = inr u
 
   module _ (h : List ℕ → ℕ) (t : List ℕ) (head : Head S1024 s) (D : Directed h s deep n t) where
-    entry-of : (i : ℕ) → EntryFor h s deep n i (entryAt S1024 t i) → Named.EntryFor S1024 h t (contents S1024 s) deep (n - 2) i
+    entry-of : (i : ℕ) → EntryFor h s deep n i (entryAt S1024 t i) → Named.Entry S1024 h t (contents S1024 s) deep (n - 2) i
     entry-of i (none z f) = Named.nothing z (λ j k rs l x c.
         let w = on-page j k rs x (inside j k rs x) in
         f (j + 2) (omega arith) (inside j k rs x) (record {
@@ -104,5 +104,5 @@ module _ (s : List ℕ) (n : ℕ) (P : Settling s n) where
       deep = D .deep;
       each = each-kept S1024 s t (D .long) (D .above) whole-of;
       holds = contents-kept S1024 s t (D .long) (D .above);
-      entry = λ e l. subst₂ (λ d m. Named.EntryFor S1024 h t (contents S1024 s) d m e) (sym (D .deep)) (ap (λ m. m - 2) (sym same-many)) (entry-of e (D .entries e l));
+      entry = λ e l. subst₂ (λ d m. Named.Entry S1024 h t (contents S1024 s) d m e) (sym (D .deep)) (ap (λ m. m - 2) (sym same-many)) (entry-of e (D .entries e l));
     }

@@ -13,11 +13,11 @@ use Rattle.store.specs.Pages.{S1024, pages, page, bucket, contents, deepestIn}
 use Rattle.store.specs.Accepted.{Stands, unused, used as in-use, Accepted}
 use Rattle.store.specs.Tables.{Becomes}
 use Rattle.store.specs.Demands.{Hash, sized-1024}
-use Rattle.store.proofs.Rules.{opened}
-use Rattle.store.proofs.Shows.{Shows}
-use Rattle.store.proofs.Unique.{read-used}
-use Rattle.store.proofs.Accepting.{accepted-laid, head-kept, laid-becomes}
-use Rattle.store.proofs.Views.{setPage, set-long, set-same, set-other, set-below, set-contents}
+use Rattle.store.proofs.Accepted.Rules.{opened}
+use Rattle.store.proofs.Showing.Shows.{Shows}
+use Rattle.store.proofs.Accepted.Unique.{read-used}
+use Rattle.store.proofs.Accepted.Accepting.{accepted-laid, head-kept, laid-becomes}
+use Rattle.store.proofs.Paging.Views.{setPage, set-long, set-same, set-other, set-below, set-contents}
 use Rattle.directory.specs.Directory.{Directed, SoundPage, free, used, Settling, Rewritten}
 use Rattle.directory.proofs.Laying.{directed-laid}
 

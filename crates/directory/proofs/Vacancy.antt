@@ -20,13 +20,13 @@ use Rattle.partition.proofs.Maps.{absent}
 use Rattle.store.specs.Pages.{page, dirDepth, entryAt, contents, asRow, rowsHeld}
 use Rattle.store.specs.Accepted.{Calls, Accepted}
 use Rattle.store.specs.Demands.{Sized, Hash}
-use Rattle.store.proofs.Rules.{Opened, opened}
-use Rattle.store.proofs.Shows.{prefixOn, Holding, Shows}
-use Rattle.store.proofs.Shown.{page-row}
-use Rattle.store.proofs.Owner.{entry-within}
-use Rattle.store.proofs.Showing.{calls-top, under, accepted-shows}
-use Rattle.store.proofs.Named.{deep-small, calls-hash}
-use Rattle.store.proofs.Reading.{entryOf, Naming, naming, lookup-none}
+use Rattle.store.proofs.Accepted.Rules.{Opened, opened}
+use Rattle.store.proofs.Showing.Shows.{prefixOn, Holding, Shows}
+use Rattle.store.proofs.Showing.Shown.{page-row}
+use Rattle.store.proofs.Accepted.Owner.{entry-within}
+use Rattle.store.proofs.Showing.Showing.{calls-top, under, accepted-shows}
+use Rattle.store.proofs.Accepted.Named.{deep-small, calls-hash}
+use Rattle.store.proofs.Accepted.Reading.{entryOf, Naming, naming, lookup-none}
 
 present : (r : Row) (l : List Row) → List·Memᴰ r l → 0 < length l
 present r [] m = absurd (List·Memᴰ·not-nil m)

@@ -13,7 +13,7 @@ use Rattle.store.specs.Accepted.{Accepted}
 use Rattle.store.specs.Demands.{Call, Made, put, remove}
 use Rattle.store.specs.Pages.{S1024}
 use Rattle.store.specs.Tables.{Out, counted, countTable}
-use Rattle.store.proofs.Kept.{refusal-keeps}
+use Rattle.store.proofs.Demands.Kept.{refusal-keeps}
 use Rattle.lots.specs.declared.Outcome.{Outcome}
 use Rattle.lots.specs.declared.Outcome.the-variants.{Same, Changed, Format as Formats, Stopped}
 use Rattle.lots.specs.declared.Session.{Session}

@@ -15,7 +15,7 @@ use Rattle.page.specs.declared.Place.{Place}
 use Rattle.store.specs.Pages.{S1024}
 use Rattle.store.specs.Tables.{Out, refused, refusedAt, formatted, accepted, new, replaced, found, counted, row, formatTable, checkTable, countTable, lookupTable, putTable, removeTable, rowTable, inspectTable}
 use Rattle.store.specs.Demands.{sized-1024}
-use Rattle.store.proofs.Said.{Refusal, Placed, Rowed, Counted, Kept, Said, format-said, check-said, count-said, lookup-said, put-said, remove-said, row-said, inspect-said}
+use Rattle.store.proofs.Demands.Said.{Refusal, Placed, Rowed, Counted, Kept, Said, format-said, check-said, count-said, lookup-said, put-said, remove-said, row-said, inspect-said}
 use Rattle.lots_c.specs.Words.{plain, placeWord, refusalWord, word, lengthAfter, Tells, TellsAnd, TellsRow}
 
 -- ---- what a caller reads off a word

@@ -1,12 +1,13 @@
 // A bucket page of any length to 16,384 bytes: its rows found, put in, taken out and packed.
+mod add;
 mod insert;
 mod pack;
 mod places;
 mod read;
 mod remove;
 
+pub use add::insert_row;
 pub use insert::insert_at_frontier;
-pub use insert::insert_row;
 pub use pack::clear_page;
 pub use pack::new_page;
 pub use pack::pack_into;

@@ -17,7 +17,7 @@ use Rattle.page.specs.declared.Place.{Place}
 use Rattle.page.specs.Places.{place}
 use Rattle.store.specs.Pages.{S1024, read, asRow, rowsOn}
 use Rattle.store.specs.Tables.{Out, refused, refusedAt, row, rowOf, PageKeeps, inspectTable}
-use Rattle.store.proofs.Reading.{row-slot, row-past, row-free}
+use Rattle.store.proofs.Accepted.Reading.{row-slot, row-past, row-free}
 use Rattle.page_reader.specs.Read.{SoundBucket, Reads, whole, nothing, Readable, nthTable}
 
 pub empty : (q : List ℕ) → length q ≡ 0 → q ≡ []

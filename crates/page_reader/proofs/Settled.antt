@@ -5,7 +5,7 @@ use Prim.Native.Nat.{ℕ}
 use Rattle.ground.specs.Ladder.{Answers}
 use Rattle.ground.proofs.Ladders.{one}
 use Rattle.store.specs.Tables.{Out}
-use Rattle.store.proofs.Settled.{same, some-one}
+use Rattle.store.proofs.Demands.Settled.{same, some-one}
 use Rattle.page_reader.specs.Read.{Reads, whole, nothing, nthTable}
 
 pub reads-settled : {g q r : List ℕ} → Reads g q → Reads g r → q ≡ r

@@ -12,10 +12,10 @@ use Rattle.page.specs.Places.{InRange}
 use Rattle.store.specs.Pages.{S1024}
 use Rattle.store.specs.Tables.{Out, refused, putTable}
 use Rattle.store.specs.Demands.{Hash, sized-1024}
-use Rattle.store.proofs.Answered.{format-answered, check-answered, count-answered, lookup-answered, row-answered}
-use Rattle.store.proofs.Decided.{every-byte}
-use Rattle.store.proofs.Decisions.{both}
-use Rattle.store.proofs.Total.{put-answered, remove-answered}
+use Rattle.store.proofs.Result.Answered.{format-answered, check-answered, count-answered, lookup-answered, row-answered}
+use Rattle.store.proofs.Result.Decided.{every-byte}
+use Rattle.store.proofs.Result.Decisions.{both}
+use Rattle.store.proofs.Result.Total.{put-answered, remove-answered}
 use Rattle.promises.specs.Programs.{Program, Bytes, Meets}
 
 small-or-not : (c : List ℕ) → Dec (Bytes c)

@@ -28,9 +28,9 @@ use Rattle.partition.proofs.Store.{fine-reordered, every-row}
 use Rattle.partition.proofs.Tree.{pfx}
 use Rattle.store.specs.Pages.{S1024, dirDepth}
 use Rattle.store.specs.Demands.{Hash, History, sized-1024}
-use Rattle.store.proofs.Showing.{accepted-shows}
-use Rattle.store.proofs.Fitted.{prefix-needs}
-use Rattle.store.proofs.Whole.{demand-3}
+use Rattle.store.proofs.Showing.Showing.{accepted-shows}
+use Rattle.store.proofs.Result.Fitted.{prefix-needs}
+use Rattle.store.proofs.Demands.Whole.{demand-3}
 use Rattle.promises.specs.Programs.{Program, Bytes, Meets, OneBucket, Parting}
 use Rattle.promises.proofs.Runs.{rowOf, at, in-range, natural, room, At, begun, at-first, at-next}
 

@@ -25,9 +25,9 @@ use Rattle.store.specs.Pages.{S1024, rowsHeld}
 use Rattle.store.specs.Accepted.{Accepted}
 use Rattle.store.specs.Tables.{Out, row, new, found, rowTable}
 use Rattle.store.specs.Demands.{Hash, lookup, remove, count, ok, GoodCode, AtStart, Nth, map-of, update, answerOf, sized-1024}
-use Rattle.store.proofs.Given.{member}
-use Rattle.store.proofs.Fitted.{prefix-needs}
-use Rattle.store.proofs.Whole.{demand-2}
+use Rattle.store.proofs.Demands.Given.{member}
+use Rattle.store.proofs.Result.Fitted.{prefix-needs}
+use Rattle.store.proofs.Demands.Whole.{demand-2}
 use Rattle.promises.specs.Programs.{Program, Bytes, Meets, RefusesEveryPut, OneFixedPlace, RepeatsOneRow, OnlyAnswers, StoresOnlyTheFirst, Miscounts}
 use Rattle.promises.proofs.Runs.{rowOf, at, in-range, natural, room, At, accepted-at, same-at, map-at, begun, at-first, says-new, at-next}
 

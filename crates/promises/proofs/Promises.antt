@@ -18,14 +18,14 @@ use Rattle.store.specs.Accepted.{Accepted}
 use Rattle.store.specs.Moves.{pick}
 use Rattle.store.specs.Tables.{Out, refused, new, replaced, putAccepted, putTable}
 use Rattle.store.specs.Demands.{Call, format, check, count, lookup, remove, put, rowAt, inspect, Made, ok, GoodCode, WholePages, faults, ExactlyWhen, map-of, putAnswer, Refuses, after, sized-1024}
-use Rattle.store.proofs.Rules.{accepted-whole}
-use Rattle.store.proofs.Settled.{format-settled, check-settled, count-settled, lookup-settled, row-settled, inspect-settled, put-settled, remove-settled}
-use Rattle.store.proofs.Meaning.{meaning-one}
-use Rattle.store.proofs.Kept.{no-three}
-use Rattle.store.proofs.Order.{good-length, whole-pages}
-use Rattle.store.proofs.Whole.{demand-1, demand-2, demand-3}
-use Rattle.store.proofs.Choice.{put-chooses, remove-chooses}
-use Rattle.store.proofs.Total.{answered-always}
+use Rattle.store.proofs.Accepted.Rules.{accepted-whole}
+use Rattle.store.proofs.Demands.Settled.{format-settled, check-settled, count-settled, lookup-settled, row-settled, inspect-settled, put-settled, remove-settled}
+use Rattle.store.proofs.Demands.Meaning.{meaning-one}
+use Rattle.store.proofs.Demands.Kept.{no-three}
+use Rattle.store.proofs.Demands.Order.{good-length, whole-pages}
+use Rattle.store.proofs.Demands.Whole.{demand-1, demand-2, demand-3}
+use Rattle.store.proofs.Demands.Choice.{put-chooses, remove-chooses}
+use Rattle.store.proofs.Result.Total.{answered-always}
 use Rattle.promises.specs.Promises.{First, joining, near, PutSays, Second, Third, Promised}
 
 pair : {A B : Type 0} (x y : A × B) → x ≡ y → (x .0 ≡ y .0) × (x .1 ≡ y .1)

@@ -29,7 +29,7 @@ use Rattle.store.specs.Accepted.{GoodLength, Accepted}
 use Rattle.store.specs.Moves.{pick}
 use Rattle.store.specs.Tables.{Out, formatted, new, blank, formatTable, putTable}
 use Rattle.store.specs.Demands.{Hash, format, put, Made, ok, GoodCode, map-of, putAnswer, Refuses, History, begin, next, after, sized-1024}
-use Rattle.store.proofs.Whole.{demand-2, demand-3}
+use Rattle.store.proofs.Demands.Whole.{demand-2, demand-3}
 use Rattle.promises.specs.Programs.{Program, Bytes, Meets}
 
 abbrev pub rowOf : List ℕ → Place → Row

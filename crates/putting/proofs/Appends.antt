@@ -22,8 +22,8 @@ use Rattle.partition.proofs.Reorders.{needs-same, needs-append, length-same}
 use Rattle.partition.proofs.Sorted.{by-code, in-order-reordered, order-rising, order-put, order-prefix, some-once}
 use Rattle.store.specs.Pages.{asRow}
 use Rattle.store.specs.Moves.{packFrom}
-use Rattle.store.proofs.Slotwise.{pack-rows}
-use Rattle.store.proofs.PageTies.{rows-tab, row-in, page-once, page-order, found-not, append-fits, appended-rows}
+use Rattle.store.proofs.Paging.Slotwise.{pack-rows}
+use Rattle.store.proofs.Paging.PageTies.{rows-tab, row-in, page-once, page-order, found-not, append-fits, appended-rows}
 use Rattle.putting.specs.Split.{slots, Behind, Appended, Source, Bucketed}
 
 -- ---- lists in order

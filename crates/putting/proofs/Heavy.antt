@@ -23,17 +23,17 @@ use Rattle.store.specs.Accepted.{Accepted}
 use Rattle.store.specs.Moves.{packed, written, putNew}
 use Rattle.store.specs.Tables.{new, refused, Refusal6, Refusal7, putAccepted}
 use Rattle.store.specs.Demands.{Hash, sized-1024}
-use Rattle.store.proofs.Shows.{prefixOn, Shows}
-use Rattle.store.proofs.Rules.{opened}
-use Rattle.store.proofs.Shown.{page-row}
-use Rattle.store.proofs.Showing.{accepted-shows, pages-held}
-use Rattle.store.proofs.Unique.{page-long}
-use Rattle.store.proofs.Rooms.{frees}
-use Rattle.store.proofs.Reading.{Naming, place-on}
-use Rattle.store.proofs.PageTies.{found-not, fits-needs}
-use Rattle.store.proofs.PutCases.{here-six, splits-seven, put-splits-is}
-use Rattle.store.proofs.PutRows.{put-shown}
-use Rattle.store.proofs.EveryStep.{Roomy}
+use Rattle.store.proofs.Showing.Shows.{prefixOn, Shows}
+use Rattle.store.proofs.Accepted.Rules.{opened}
+use Rattle.store.proofs.Showing.Shown.{page-row}
+use Rattle.store.proofs.Showing.Showing.{accepted-shows, pages-held}
+use Rattle.store.proofs.Accepted.Unique.{page-long}
+use Rattle.store.proofs.Showing.Rooms.{frees}
+use Rattle.store.proofs.Accepted.Reading.{Naming, place-on}
+use Rattle.store.proofs.Paging.PageTies.{found-not, fits-needs}
+use Rattle.store.proofs.Put.PutCases.{here-six, splits-seven, put-splits-is}
+use Rattle.store.proofs.Put.PutRows.{put-shown}
+use Rattle.store.proofs.Put.EveryStep.{Roomy}
 use Rattle.directory.specs.Directory.{Directed}
 use Rattle.putting.specs.Put.{Puttable}
 use Rattle.putting.specs.Split.{keyed, below, Source, pagesBelow, Writable, BucketsWritten}

@@ -24,15 +24,15 @@ use Rattle.store.specs.Accepted.{Accepted}
 use Rattle.store.specs.Moves.{find, isFree, record-at, putNew}
 use Rattle.store.specs.Tables.{new, refused, Refusal6, Refusal7, putAccepted}
 use Rattle.store.specs.Demands.{Hash, sized-1024}
-use Rattle.store.proofs.Rules.{opened}
-use Rattle.store.proofs.Shows.{Shows}
-use Rattle.store.proofs.Showing.{accepted-shows, pages-held}
-use Rattle.store.proofs.Unique.{page-long}
-use Rattle.store.proofs.Rooms.{frees}
-use Rattle.store.proofs.Reading.{entryOf, lookup-none}
-use Rattle.store.proofs.PutCases.{unheld-six, unheld-seven, put-unheld-is}
-use Rattle.store.proofs.PutRows.{put-shown}
-use Rattle.store.proofs.Views.{setPage}
+use Rattle.store.proofs.Accepted.Rules.{opened}
+use Rattle.store.proofs.Showing.Shows.{Shows}
+use Rattle.store.proofs.Showing.Showing.{accepted-shows, pages-held}
+use Rattle.store.proofs.Accepted.Unique.{page-long}
+use Rattle.store.proofs.Showing.Rooms.{frees}
+use Rattle.store.proofs.Accepted.Reading.{entryOf, lookup-none}
+use Rattle.store.proofs.Put.PutCases.{unheld-six, unheld-seven, put-unheld-is}
+use Rattle.store.proofs.Put.PutRows.{put-shown}
+use Rattle.store.proofs.Paging.Views.{setPage}
 use Rattle.directory.specs.Directory.{Directed, Rewritten}
 use Rattle.putting.specs.Put.{Puttable, Unset, Vacant}
 use Rattle.directory.proofs.Vacancy.{off, set-entry, some-row}

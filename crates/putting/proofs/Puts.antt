@@ -28,20 +28,20 @@ use Rattle.store.specs.Accepted.{Accepted}
 use Rattle.store.specs.Moves.{find, holds, added, placeOn, overwriteOn, overwritten, putNew}
 use Rattle.store.specs.Tables.{replaced, new, Refusal6, Refusal7, putAccepted}
 use Rattle.store.specs.Demands.{Sized, Hash}
-use Rattle.store.proofs.Shows.{prefixOn, Holding, Shows}
-use Rattle.store.proofs.Shown.{within-pages, page-row, find-only}
-use Rattle.store.proofs.Unique.{page-long}
-use Rattle.store.proofs.Showing.{accepted-shows, pages-held}
-use Rattle.store.proofs.Reading.{Naming, place-on}
-use Rattle.store.proofs.OverShows.{over-one, prefix-over}
-use Rattle.store.proofs.MoveRows.{over-shown}
-use Rattle.store.proofs.PageTies.{slot-of, found-at, found-not, page-order, fits-needs, added-rows, overwritten-rows}
-use Rattle.store.proofs.Records.{rows-added}
-use Rattle.store.proofs.Rooms.{set-holds}
-use Rattle.store.proofs.PutCases.{fits-six, fits-seven, put-fits-is}
-use Rattle.store.proofs.PutRows.{put-shown}
-use Rattle.store.proofs.Accepting.{Laid, accepted-laid, laid-becomes}
-use Rattle.store.proofs.Views.{setPage, set-long}
+use Rattle.store.proofs.Showing.Shows.{prefixOn, Holding, Shows}
+use Rattle.store.proofs.Showing.Shown.{within-pages, page-row, find-only}
+use Rattle.store.proofs.Accepted.Unique.{page-long}
+use Rattle.store.proofs.Showing.Showing.{accepted-shows, pages-held}
+use Rattle.store.proofs.Accepted.Reading.{Naming, place-on}
+use Rattle.store.proofs.Put.OverShows.{over-one, prefix-over}
+use Rattle.store.proofs.Remove.MoveRows.{over-shown}
+use Rattle.store.proofs.Paging.PageTies.{slot-of, found-at, found-not, page-order, fits-needs, added-rows, overwritten-rows}
+use Rattle.store.proofs.Paging.Records.{rows-added}
+use Rattle.store.proofs.Showing.Rooms.{set-holds}
+use Rattle.store.proofs.Put.PutCases.{fits-six, fits-seven, put-fits-is}
+use Rattle.store.proofs.Put.PutRows.{put-shown}
+use Rattle.store.proofs.Accepted.Accepting.{Laid, accepted-laid, laid-becomes}
+use Rattle.store.proofs.Paging.Views.{setPage, set-long}
 use Rattle.directory.proofs.OnePage.{laid-set}
 
 module _ (S : Shape) (h : List ℕ → ℕ) (sized : Sized S) (hash : Hash h) (s : List ℕ) (A : Accepted S h s) (c : List ℕ) (p : ℕ) (U : Naming S h s (top (dirDepth s) (h c)) p) where

@@ -26,7 +26,7 @@ use Rattle.partition.proofs.Pages.{rows-every}
 use Rattle.partition.proofs.Reorders.{needs-same, needs-append}
 use Rattle.partition.proofs.Splice.{walk-bare, walk-fits}
 use Rattle.store.specs.Pages.{S1024, asRow}
-use Rattle.store.proofs.PageTies.{rows-tab}
+use Rattle.store.proofs.Paging.PageTies.{rows-tab}
 use Rattle.store.specs.Moves.{pick}
 use Rattle.store_check.proofs.Fills.{Filled}
 use Rattle.putting.specs.Split.{weight, keyed, Told, below}

@@ -11,7 +11,7 @@ use Rattle.partition.proofs.Rising.{Rising}
 use Rattle.store.specs.Pages.{S1024, pages, page, Page, contents, asRow}
 use Rattle.store.specs.Accepted.{GoodLength}
 use Rattle.store.specs.Moves.{find, isFree, packFrom, packed, written}
-use Rattle.store.proofs.Rooms.{frees}
+use Rattle.store.proofs.Showing.Rooms.{frees}
 use Rattle.directory.specs.Directory.{Rewritten}
 
 -- a row of the code, its place left aside

@@ -18,7 +18,7 @@ fn append(page: &mut [u8], key: &[u8], place: &[u8])
     page::insert_at_frontier(page, n, key, place);
 }
 
-// So does a row of the hash x, if the hash begins with the k bits of v.
+// The row goes behind those of a packed page, if its hash x begins with the k bits of v.
 fn append_if(page: &mut [u8], key: &[u8], place: &[u8], x: u32, k: u32, v: u64)
     requires { ⌜ Behind (now page) (rowsOf fnv (record { code = now key; place = now place } ∷ []) k v) × (x ≡ fnv (now key)) × (k ≤ 8) × Natural (now place) × (1 ≤ length (now key)) × (length (now key) ≤ 64) ⌝ }
     ensures { λ _. ⌜ Appended (now (page .entry)) (rowsOf fnv (record { code = now (key .entry); place = now (place .entry) } ∷ []) k v) (now (page .exit)) ⌝ }
@@ -28,7 +28,7 @@ fn append_if(page: &mut [u8], key: &[u8], place: &[u8], x: u32, k: u32, v: u64)
     }
 }
 
-// That of slot i of a page.
+// Slot i's row goes behind those of a packed page, if its hash x begins with the k bits of v.
 fn append_slot(page: &mut [u8], from: &[u8], i: usize, x: u32, k: u32, v: u64)
     requires { ⌜ Slotted (now from) × (i < count (now from)) × (x ≡ fnv (code (now from) i)) × (k ≤ 8) × Behind (now page) (rowsOf fnv (asRow (rowAt (now from) i) ∷ []) k v) ⌝ }
     ensures { λ _. ⌜ Appended (now (page .entry)) (rowsOf fnv (asRow (rowAt (now (from .entry)) i) ∷ []) k v) (now (page .exit)) ⌝ }
@@ -42,7 +42,7 @@ fn append_slot(page: &mut [u8], from: &[u8], i: usize, x: u32, k: u32, v: u64)
     }
 }
 
-// Those of the slots from a up to b, whose hashes are in hs.
+// Of the slots from a up to b, the rows whose hashes, in hs, begin with the k bits of v go behind those of a packed page.
 fn append_slots(page: &mut [u8], from: &[u8], hs: &[u32], a: usize, b: usize, k: u32, v: u64)
     requires { ⌜ Slotted (now from) × Each fnv (now from) (now hs) × (a ≤ b) × (b ≤ count (now from)) × (k ≤ 8) × Behind (now page) (rowsOf fnv (slots (now from) a b) k v) ⌝ }
     ensures { λ _. ⌜ Appended (now (page .entry)) (rowsOf fnv (slots (now (from .entry)) a b) k v) (now (page .exit)) ⌝ }

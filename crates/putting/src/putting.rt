@@ -9,13 +9,13 @@ ghost use Rattle.partition.specs.Bits.{top};
 ghost use Rattle.store.specs.Pages.{S1024, page, dirDepth};
 ghost use Rattle.store.specs.Accepted.{Accepted};
 ghost use Rattle.store.specs.Tables.{putAccepted, putTable, meaning};
-ghost use Rattle.store.proofs.Reading.{Naming, entryOf};
+ghost use Rattle.store.proofs.Accepted.Reading.{Naming, entryOf};
 ghost use Rattle.putting.specs.Put.{Puttable};
-use directory::settle;
-use directory::free_pages;
-use directory::lowest_free;
 use super::split::split;
 use super::vacant::vacant_depth;
+use directory::free_pages;
+use directory::lowest_free;
+use directory::settle;
 
 // The code in slot i of page p gets another place.
 fn replace(s: &mut [u8], p: usize, i: usize, place: &[u8]) -> store::Answer

@@ -9,17 +9,17 @@ ghost use Rattle.page.specs.Page.{Belongs, free, rows};
 ghost use Rattle.partition.specs.Bits.{top};
 ghost use Rattle.store.specs.Pages.{S1024, pages, page, dirDepth, contents, asRow};
 ghost use Rattle.store.specs.Tables.{putAccepted, meaning};
-ghost use Rattle.store.proofs.Reading.{Naming};
-ghost use Rattle.store.proofs.Rooms.{frees};
+ghost use Rattle.store.proofs.Accepted.Reading.{Naming};
+ghost use Rattle.store.proofs.Showing.Rooms.{frees};
 ghost use Rattle.putting.specs.Put.{Puttable};
 ghost use Rattle.putting.specs.Split.{Source, weight, Told, first, Writable, BucketsWritten};
 use super::bucket::write_bucket;
-use directory::settle;
-use directory::free_pages;
-use directory::lowest_free;
 use super::weigh::count_below;
 use super::weigh::gather;
 use super::weigh::load;
+use directory::free_pages;
+use directory::lowest_free;
+use directory::settle;
 
 // The page that the next bucket takes: page at, or the lowest free page where at is 0.
 fn next_page(s: &[u8], at: usize) -> usize

@@ -18,12 +18,12 @@ use Rattle.partition.proofs.Bits.{top-lt}
 use Rattle.store.specs.Pages.{size, pages, page, read, reading, asRow, rowsOn, rowsHeld, dirDepth, entryAt}
 use Rattle.store.specs.Accepted.{Accepted}
 use Rattle.store.specs.Demands.{Sized}
-use Rattle.store.proofs.Rules.{Opened, opened}
-use Rattle.store.proofs.Unique.{read-used, within}
-use Rattle.store.proofs.Depths.{page-byte, kind-byte}
-use Rattle.store.proofs.Reading.{entryOf, Naming, naming, lookup-none, lookup-page, count-rows}
-use Rattle.store.proofs.PageTies.{found-at, found-not}
-use Rattle.store.proofs.Walked.{walkFrom, Start, behind, walk-start, walk-end, walk-none, walk-page, walk-here, walk-past}
+use Rattle.store.proofs.Accepted.Rules.{Opened, opened}
+use Rattle.store.proofs.Accepted.Unique.{read-used, within}
+use Rattle.store.proofs.Paging.Depths.{page-byte, kind-byte}
+use Rattle.store.proofs.Accepted.Reading.{entryOf, Naming, naming, lookup-none, lookup-page, count-rows}
+use Rattle.store.proofs.Paging.PageTies.{found-at, found-not}
+use Rattle.store.proofs.Showing.Walked.{walkFrom, Start, behind, walk-start, walk-end, walk-none, walk-page, walk-here, walk-past}
 use Rattle.query.specs.Spots.{StandsAt, Listed}
 use Rattle.query.specs.declared.Spot.the-variants.{Here, Nowhere}
 

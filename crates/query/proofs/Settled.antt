@@ -7,7 +7,7 @@ use native.Mathlib.Omega.{arith}
 use Rattle.ground.proofs.Sides.{side}
 use Rattle.partition.specs.declared.Shape.{Shape}
 use Rattle.store.specs.Pages.{pages}
-use Rattle.store.proofs.Rules.{broken-one, accepted-whole}
+use Rattle.store.proofs.Accepted.Rules.{broken-one, accepted-whole}
 use Rattle.store_check.specs.First.{FirstBad, Judged}
 
 -- a pass has one first bad page

@@ -9,9 +9,9 @@ ghost use Rattle.store.specs.Pages.{size, page, read, rowsOn, dirDepth, entryAt
 ghost use Rattle.store.specs.Accepted.{Accepted};
 ghost use Rattle.store.specs.Demands.{Sized};
 ghost use Rattle.query.specs.Spots.{StandsAt, Listed};
+use super::Spot;
 use page::Found;
 use partition::Shape;
-use super::Spot;
 
 // The entry that a hash's top bits give.
 pub fn entry_of(s: &[u8], z: Shape, x: u32) -> usize

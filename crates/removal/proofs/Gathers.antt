@@ -23,8 +23,8 @@ use Rattle.partition.proofs.Rising.{by-ne, insert-map}
 use Rattle.partition.proofs.Sorted.{by-code, same-map, in-order-reordered, order-put}
 use Rattle.store.specs.Pages.{Page, free, read, asRow, rowsOn, rowsIn}
 use Rattle.store.specs.Moves.{pick, within, record-at, frontierOf, atFrontier}
-use Rattle.store.proofs.Unique.{read-used}
-use Rattle.store.proofs.PageTies.{rows-tab, page-needs, page-order, page-frontier, inserted-rows, found-at}
+use Rattle.store.proofs.Accepted.Unique.{read-used}
+use Rattle.store.proofs.Paging.PageTies.{rows-tab, page-needs, page-order, page-frontier, inserted-rows, found-at}
 use Rattle.removal.specs.Join.{Housed, Tight, Taking, Gathered, Storable, rowOf, rowsAt, othersOn, othersIn}
 
 -- ---- rows left out of lists

@@ -13,9 +13,9 @@ use Rattle.page.specs.Page.{Record, BucketPage, count, code, depth, rowAt}
 use Rattle.partition.specs.Bits.{top}
 use Rattle.store.specs.Pages.{S1024, pages, page, free, bucket, read, reading, contents}
 use Rattle.store.specs.Moves.{within}
-use Rattle.store.proofs.Unique.{read-used, held}
-use Rattle.store.proofs.Views.{page-lent}
-use Rattle.store.proofs.Showing.{pages-held}
+use Rattle.store.proofs.Accepted.Unique.{read-used, held}
+use Rattle.store.proofs.Paging.Views.{page-lent}
+use Rattle.store.proofs.Showing.Showing.{pages-held}
 use Rattle.directory.specs.Directory.{SoundPage, free as unused, used, Settling}
 
 pub read-free : (g : List ℕ) → byte g 0 ≡ 0 → read g ≡ free

@@ -29,20 +29,20 @@ use Rattle.store.specs.Accepted.{Bucket, Stands, unused, used}
 use Rattle.store.specs.Moves.{pick, find, holds, within, packFrom, packed, clearedOn, removed}
 use Rattle.store.specs.Tables.{Becomes}
 use Rattle.store.specs.Demands.{Hash, sized-1024}
-use Rattle.store.proofs.Rules.{opened}
-use Rattle.store.proofs.Shows.{firstCode, prefixOn, Holding, Shows}
-use Rattle.store.proofs.Shown.{within-on, within-pages, find-least}
-use Rattle.store.proofs.Unique.{read-used, held, page-long}
-use Rattle.store.proofs.Showing.{first-of, first-code, accepted-shows}
-use Rattle.store.proofs.Known.{Known, only-page}
-use Rattle.store.proofs.Holder as Holder
-use Rattle.store.proofs.Rooms.{bucket-one}
-use Rattle.store.proofs.MoveRows.{remove-shown}
-use Rattle.store.proofs.RemoveCases as Cases
-use Rattle.store.proofs.Within.{one-depth, rows-within}
-use Rattle.store.proofs.Accepting.{Laid, accepted-laid, laid-becomes}
-use Rattle.store.proofs.PageTies.{row-in, zeros, read-cleared, page-once, found-at, removed-rows}
-use Rattle.store.proofs.Views.{setPage, set-long, set-same, set-other, set-below, set-contents}
+use Rattle.store.proofs.Accepted.Rules.{opened}
+use Rattle.store.proofs.Showing.Shows.{firstCode, prefixOn, Holding, Shows}
+use Rattle.store.proofs.Showing.Shown.{within-on, within-pages, find-least}
+use Rattle.store.proofs.Accepted.Unique.{read-used, held, page-long}
+use Rattle.store.proofs.Showing.Showing.{first-of, first-code, accepted-shows}
+use Rattle.store.proofs.Showing.Known.{Known, only-page}
+use Rattle.store.proofs.Showing.Holder as Holder
+use Rattle.store.proofs.Showing.Rooms.{bucket-one}
+use Rattle.store.proofs.Remove.MoveRows.{remove-shown}
+use Rattle.store.proofs.Remove.RemoveCases as Cases
+use Rattle.store.proofs.Showing.Within.{one-depth, rows-within}
+use Rattle.store.proofs.Accepted.Accepting.{Laid, accepted-laid, laid-becomes}
+use Rattle.store.proofs.Paging.PageTies.{row-in, zeros, read-cleared, page-once, found-at, removed-rows}
+use Rattle.store.proofs.Paging.Views.{setPage, set-long, set-same, set-other, set-below, set-contents}
 use Rattle.directory.specs.Directory.{Directed, SoundPage, free as vacant, Rewritten}
 use Rattle.removal.specs.Prefix.{Climbed}
 use Rattle.removal.specs.Join.{othersIn, Joinable, Rejoined}

@@ -26,19 +26,19 @@ use Rattle.partition.proofs.Directory.{Holds, holds-range, entries-size}
 use Rattle.store.specs.Pages.{S1024, page, dirDepth, entryAt, contents, asRow, rowsHeld}
 use Rattle.store.specs.Accepted.{Accepted}
 use Rattle.store.specs.Demands.{Hash, sized-1024}
-use Rattle.store.proofs.Rules.{Opened, opened}
-use Rattle.store.proofs.Shows.{prefixOn, OnPage, Shows}
-use Rattle.store.proofs.Shown.{paged}
-use Rattle.store.proofs.Showing.{under, accepted-shows}
-use Rattle.store.proofs.Unique.{page-long, within}
-use Rattle.store.proofs.Within.{one-depth}
-use Rattle.store.proofs.PageTies.{page-needs}
-use Rattle.store.proofs.Named.{calls-hash, shown-bucket}
-use Rattle.store.proofs.Reading.{Naming}
-use Rattle.store.proofs.Walked.{Start, behind, walk-none, walk-page}
+use Rattle.store.proofs.Accepted.Rules.{Opened, opened}
+use Rattle.store.proofs.Showing.Shows.{prefixOn, OnPage, Shows}
+use Rattle.store.proofs.Showing.Shown.{paged}
+use Rattle.store.proofs.Showing.Showing.{under, accepted-shows}
+use Rattle.store.proofs.Accepted.Unique.{page-long, within}
+use Rattle.store.proofs.Showing.Within.{one-depth}
+use Rattle.store.proofs.Paging.PageTies.{page-needs}
+use Rattle.store.proofs.Accepted.Named.{calls-hash, shown-bucket}
+use Rattle.store.proofs.Accepted.Reading.{Naming}
+use Rattle.store.proofs.Showing.Walked.{Start, behind, walk-none, walk-page}
 use Rattle.removal.specs.Prefix.{Above}
 use Rattle.directory.proofs.Vacancy.{set-entry}
-use Rattle.store.proofs.Depths.{page-byte}
+use Rattle.store.proofs.Paging.Depths.{page-byte}
 
 -- ---- a load on prefixes that is the sum of its halves, over all prefixes m bits longer
 

@@ -9,7 +9,7 @@ ghost use Rattle.page.specs.Page.{Slotted, count, code, place};
 ghost use Rattle.partition.specs.Listing.{without};
 ghost use Rattle.store.specs.Pages.{S1024, page as pageOf, contents, read};
 ghost use Rattle.store.specs.Moves.{pick, find, within};
-ghost use Rattle.store.proofs.Views.{setPage};
+ghost use Rattle.store.proofs.Paging.Views.{setPage};
 ghost use Rattle.directory.specs.Directory.{SoundPage, Settling};
 ghost use Rattle.removal.specs.Join.{Taking, Gathered, Storable, rowOf, rowsAt, othersOn, othersIn, Emptied, Joinable, Rejoined};
 use super::prefix::is_within;
@@ -68,7 +68,7 @@ fn add_rows(to: &mut [u8], from: &[u8], key: &[u8])
     }
 }
 
-// So do those of a page of the prefix.
+// A page's rows of another code go to another page, if the page is of the prefix.
 fn add_page(to: &mut [u8], from: &[u8], j: u32, v: u64, key: &[u8])
     requires { ⌜ SoundPage (now from) × (length (now from) ≡ 1024) × (j ≤ 8) × Taking (now to) (othersOn fnv j v (now key) (read (now from))) ⌝ }
     ensures { λ _. ⌜ Gathered (now (to .entry)) (othersOn fnv j v (now (key .entry)) (read (now (from .entry)))) (now (to .exit)) ⌝ }
@@ -78,7 +78,7 @@ fn add_page(to: &mut [u8], from: &[u8], j: u32, v: u64, key: &[u8])
     }
 }
 
-// So do those of all pages of the prefix.
+// The rows of another code on all pages of the prefix go to another page.
 fn gather(to: &mut [u8], s: &[u8], n: usize, j: u32, v: u64, key: &[u8])
     requires { ⌜ Settling (now s) n × (j ≤ 8) × Taking (now to) (othersIn fnv j v (now key) (contents S1024 (now s))) ⌝ }
     ensures { λ _. ⌜ Gathered (now (to .entry)) (othersIn fnv j v (now (key .entry)) (contents S1024 (now (s .entry)))) (now (to .exit)) ⌝ }

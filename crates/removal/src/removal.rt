@@ -6,9 +6,9 @@ ghost use Rattle.store.specs.Accepted.{Accepted};
 ghost use Rattle.store.specs.Moves.{removed};
 ghost use Rattle.store.specs.Tables.{Becomes, removeAccepted, removeTable, meaning};
 ghost use Rattle.removal.specs.Remove.{Leaving};
-use directory::settle;
 use super::join::join;
 use super::prefix::climb;
+use directory::settle;
 use query::Spot;
 
 // The row of the code, which is that of slot i of page p, goes: its page loses the record, is cleared, or is joined with others.

@@ -21,9 +21,9 @@ use Rattle.store.specs.Pages.{pages, page, dirDepth, entryAt, Page, read, asRow
 use Rattle.store.specs.Accepted.{Stands, unused, used}
 use Rattle.store.specs.Moves.{pick}
 use Rattle.store.specs.Demands.{Sized, Hash}
-use Rattle.store.proofs.Unique.{read-zero, read-bucket}
-use Rattle.store.proofs.Owner.{called, shared}
-use Rattle.store.proofs.PageTies.{slot-of}
+use Rattle.store.proofs.Accepted.Unique.{read-zero, read-bucket}
+use Rattle.store.proofs.Accepted.Owner.{called, shared}
+use Rattle.store.proofs.Paging.PageTies.{slot-of}
 
 -- the pages' needs add up
 load-pages : (h : List ℕ → ℕ) (f : ℕ → Page) (n j v : ℕ) → needs (rowsOf h (rowsIn (tab f n)) j v) ≡ total (λ i. needs (rowsOf h (rowsOn (f i)) j v)) n

@@ -29,10 +29,10 @@ use Rattle.store.specs.Accepted.{Stands, unused, used, Parted}
 use Rattle.store.specs.Moves.{pick}
 use Rattle.partition.specs.declared.Shape.{Shape}
 use Rattle.store.specs.Demands.{Sized}
-use Rattle.store.proofs.Unique.{read-zero, read-used, page-long}
-use Rattle.store.proofs.Depths.{page-byte}
-use Rattle.store.proofs.PageTies.{page-needs}
-use Rattle.store.proofs.Views.{page-lent}
+use Rattle.store.proofs.Accepted.Unique.{read-zero, read-used, page-long}
+use Rattle.store.proofs.Paging.Depths.{page-byte}
+use Rattle.store.proofs.Paging.PageTies.{page-needs}
+use Rattle.store.proofs.Paging.Views.{page-lent}
 use Rattle.store_check.specs.Begun.{AllStand}
 use Rattle.store_check.specs.Heaps.{heap, below, Heaped}
 use Rattle.store_check.specs.Digest.{Legible, LoadOf, Hashed, Celled, Digest, firstOf, hashAt, topAt, loadAt}

@@ -6,7 +6,7 @@ use Rattle.partition.specs.declared.Shape.{Shape}
 use Rattle.store.specs.Pages.{pages}
 use Rattle.store.specs.Accepted.{GoodLength, Page0, Page1, Stands, Parted, Deepest}
 use Rattle.store.specs.Demands.{Below, StopsAt, page-0, page-1, first-pass, second-pass, last}
-use Rattle.store.proofs.Rules.{stops-broken, stops-below, closed}
+use Rattle.store.proofs.Accepted.Rules.{stops-broken, stops-below, closed}
 use Rattle.store_check.specs.First.{FirstBad, Judged}
 
 -- no page is bad

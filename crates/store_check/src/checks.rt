@@ -51,7 +51,7 @@ fn judge(
     n
 }
 
-// The same, for pages of 1,024 bytes.
+// The page at which the check of a store of 1,024-byte pages stops, or the number of pages.
 pub fn first_bad(s: &[u8]) -> usize
     requires { ⌜ GoodLength S1024 (now s) ⌝ }
     ensures { λ r. ⌜ Judged S1024 fnv (now (s .entry)) r ⌝ }

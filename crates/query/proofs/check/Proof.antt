@@ -4,7 +4,7 @@ use mathlib.Core.Logic.{inl, inr}
 use mathlib.Core.Path.{refl}
 use Rattle.ground.proofs.Tests.{says-true, says-false}
 use Rattle.hash.specs.Fnv.{fnv}
-use Rattle.store.proofs.Rules.{accepted-whole}
+use Rattle.store.proofs.Accepted.Rules.{accepted-whole}
 use Rattle.store.specs.Tables.{checkTable}
 use Rattle.store.specs.Accepted.{GoodLength}
 use Rattle.store.specs.Demands.{sized-1024}

@@ -5,7 +5,7 @@ use mathlib.Core.Path.{refl, ap}
 use native.Mathlib.Omega.{arith}
 use Rattle.ground.proofs.Tests.{says-true, says-false}
 use Rattle.hash.specs.Fnv.{fnv}
-use Rattle.store.proofs.Rules.{accepted-whole}
+use Rattle.store.proofs.Accepted.Rules.{accepted-whole}
 use Rattle.store.specs.Tables.{countTable, counted}
 use Rattle.store.specs.Accepted.{GoodLength}
 use Rattle.store.specs.Demands.{sized-1024}

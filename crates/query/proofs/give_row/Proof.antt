@@ -15,7 +15,7 @@ use Rattle.page.specs.Places as Places
 use Rattle.store.specs.Pages.{S1024, page, asRow}
 use Rattle.store.specs.Demands.{sized-1024}
 use Rattle.store.specs.Tables.{row}
-use Rattle.store.proofs.Views.{page-lent}
+use Rattle.store.proofs.Paging.Views.{page-lent}
 use Rattle.query.proofs.give_row.Statement.{statement}
 use Rattle.query.proofs.give_row.Tie as tie
 

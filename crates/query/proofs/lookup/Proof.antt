@@ -10,7 +10,7 @@ use Rattle.store.specs.Tables.{Refusal3, lookupTable}
 use Rattle.store.specs.Demands.{sized-1024}
 use Rattle.store.specs.Pages.{S1024}
 use Rattle.store.specs.Accepted.{GoodLength}
-use Rattle.store.proofs.Rules.{accepted-whole}
+use Rattle.store.proofs.Accepted.Rules.{accepted-whole}
 use Rattle.query.proofs.lookup.Statement.{statement}
 use Rattle.query.proofs.lookup.Tie as tie
 

@@ -16,7 +16,7 @@ use Rattle.page.specs.Page.{place}
 use Rattle.page.specs.Places as Places
 use Rattle.store.specs.Pages.{page}
 use Rattle.store.specs.Tables.{found}
-use Rattle.store.proofs.Views.{page-lent}
+use Rattle.store.proofs.Paging.Views.{page-lent}
 use Rattle.query.proofs.place_of.Statement.{statement}
 use Rattle.query.proofs.place_of.Tie as tie
 

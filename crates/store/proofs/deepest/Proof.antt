@@ -5,8 +5,8 @@ use mathlib.Core.Logic.{_⊎_, inl, inr, ⊎-elim}
 use native.Mathlib.Omega.{arith}
 use denote.Ref.{now}
 use Rattle.store.specs.Pages.{size}
-use Rattle.store.proofs.Views.{apart}
-use Rattle.store.proofs.Depths.{deepestTo, deepest-none, deepest-next, deepest-all, larger}
+use Rattle.store.proofs.Paging.Views.{apart}
+use Rattle.store.proofs.Paging.Depths.{deepestTo, deepest-none, deepest-next, deepest-all, larger}
 use Rattle.store.proofs.deepest.Statement.{statement}
 use Rattle.store.proofs.deepest.Tie as tie
 

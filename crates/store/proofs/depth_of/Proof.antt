@@ -5,7 +5,7 @@ use mathlib.Core.Path.{sym}
 use native.Mathlib.Omega.{arith}
 use denote.Ref.{now}
 use Rattle.store.specs.Pages.{size}
-use Rattle.store.proofs.Depths.{depth-free, depth-used}
+use Rattle.store.proofs.Paging.Depths.{depth-free, depth-used}
 use Rattle.store.proofs.depth_of.Statement.{statement}
 use Rattle.store.proofs.depth_of.Tie as tie
 

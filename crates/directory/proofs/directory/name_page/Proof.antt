@@ -12,8 +12,8 @@ use Rattle.page.specs.Page.{depth, code}
 use Rattle.partition.specs.Bits.{top}
 use Rattle.partition.specs.Partition.{first, after}
 use Rattle.store.specs.Pages.{S1024, page}
-use Rattle.store.proofs.Depths.{page-byte, kind-byte}
-use Rattle.store.proofs.Views.{page-lent}
+use Rattle.store.proofs.Paging.Depths.{page-byte, kind-byte}
+use Rattle.store.proofs.Paging.Views.{page-lent}
 use Rattle.directory.proofs.Directories.{named-page, unnamed-page}
 use Rattle.directory.proofs.directory.name_page.Statement.{statement}
 use Rattle.directory.proofs.directory.name_page.Tie as tie

@@ -2,7 +2,7 @@
 use native.Mathlib.Omega.{arith}
 use borrow.Author.Needs.{needs}
 use Rattle.ground.proofs.Tests.{says-same}
-use Rattle.store.proofs.PageTies.{zeros}
+use Rattle.store.proofs.Paging.PageTies.{zeros}
 use Rattle.page_reader.proofs.slots.sound.Statement.{statement}
 use Rattle.page_reader.proofs.slots.sound.Tie as tie
 

@@ -12,7 +12,7 @@ use Rattle.partition.specs.Partition.{Row}
 use Rattle.store.specs.Pages.{S1024}
 use Rattle.store.specs.Tables.{new, putAccepted}
 use Rattle.store.specs.Demands.{sized-1024}
-use Rattle.store.proofs.Unique.{page-long}
+use Rattle.store.proofs.Accepted.Unique.{page-long}
 use Rattle.directory.proofs.OnePage.{lent, back}
 use Rattle.putting.proofs.Puts.{put-fitted}
 use Rattle.putting.proofs.putting.insert_new.Statement.{statement}

@@ -4,9 +4,9 @@ use Rattle.directory.proofs.Settles.{settling}
 use Rattle.directory.proofs.OnePage.{lent, back}
 use Rattle.putting.specs.Put.{Unset, Vacant}
 use Rattle.directory.specs.Directory.{Settling}
-use Rattle.store.proofs.Views.{setPage}
-use Rattle.store.proofs.Rules.{opened}
-use Rattle.store.proofs.Rooms.{frees}
+use Rattle.store.proofs.Paging.Views.{setPage}
+use Rattle.store.proofs.Accepted.Rules.{opened}
+use Rattle.store.proofs.Showing.Rooms.{frees}
 use Rattle.store.specs.Pages.{S1024, pages, page, dirDepth, contents}
 use Rattle.page.specs.Packed.{Started}
 use Rattle.partition.specs.Bits.{top}

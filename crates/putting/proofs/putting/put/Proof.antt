@@ -1,5 +1,5 @@
 -- `putting::put` meets its contract: the refusals in order, then the row on an accepted store. Assumes nothing.
-use Rattle.store.proofs.Rules.{accepted-whole}
+use Rattle.store.proofs.Accepted.Rules.{accepted-whole}
 use Rattle.store.specs.Tables.{Refusal3, putAccepted, putTable, meaning}
 use Rattle.store.specs.Accepted.{GoodLength}
 use Rattle.store.specs.Demands.{sized-1024}

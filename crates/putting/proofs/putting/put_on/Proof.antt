@@ -1,6 +1,6 @@
 -- `putting::put_on` meets its contract, by where the code stands. Assumes nothing.
 use Rattle.directory.proofs.OnePage.{lent}
-use Rattle.store.proofs.Reading.{Naming}
+use Rattle.store.proofs.Accepted.Reading.{Naming}
 use Rattle.store.specs.Tables.{putAccepted, meaning}
 use Rattle.store.specs.Pages.{S1024, page, dirDepth}
 use Rattle.partition.specs.Bits.{top}

@@ -1,6 +1,6 @@
 -- `putting::put_row` meets its contract, by the entry of the hash. Assumes nothing.
-use Rattle.store.proofs.Reading.{entryOf, Naming, lookup-page}
-use Rattle.store.proofs.Rules.{opened}
+use Rattle.store.proofs.Accepted.Reading.{entryOf, Naming, lookup-page}
+use Rattle.store.proofs.Accepted.Rules.{opened}
 use Rattle.store.specs.Demands.{sized-1024}
 use Rattle.store.specs.Pages.{S1024, dirDepth, entryAt}
 use Rattle.partition.specs.Bits.{top}

@@ -3,7 +3,7 @@ use Rattle.putting.proofs.Splits.{bare-wrote, deep-wrote, one-free, one
 use Rattle.putting.proofs.Weighs.{load-any}
 use Rattle.directory.proofs.OnePage.{lent, back}
 use Rattle.putting.specs.Split.{keyed, Writable, BucketsWritten}
-use Rattle.store.proofs.Unique.{page-long}
+use Rattle.store.proofs.Accepted.Unique.{page-long}
 use Rattle.store.specs.Pages.{S1024, pages, asRow}
 use borrow.Author.Needs as Needs
 use Rattle.partition.specs.Partition.{Row, needs, rowsOf}

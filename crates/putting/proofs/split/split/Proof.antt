@@ -3,8 +3,8 @@ use Rattle.putting.proofs.Heavy.{shallow, heavy-six, heavy-seven, as-ma
 use Rattle.directory.proofs.Settles.{settling}
 use Rattle.directory.proofs.OnePage.{lent}
 use Rattle.putting.specs.Split.{keyed, below, pagesBelow, Source, Writable, BucketsWritten}
-use Rattle.store.proofs.EveryStep.{Roomy, every-step, packed-used}
-use Rattle.store.proofs.Unique.{page-long}
+use Rattle.store.proofs.Put.EveryStep.{Roomy, every-step, packed-used}
+use Rattle.store.proofs.Accepted.Unique.{page-long}
 use Rattle.store.specs.Pages.{S1024, page, contents, asRow}
 use Rattle.partition.specs.Partition.{Row, needs, rowsOf}
 use Rattle.partition.proofs.Bits.{top-lt}

@@ -4,7 +4,7 @@ use mathlib.Core.Path.{_≡_, sym, ap, _∙_}
 use native.Mathlib.Omega.{arith}
 use denote.Ref.{now}
 use Rattle.store.specs.Pages.{size}
-use Rattle.store.proofs.Views.{apart}
+use Rattle.store.proofs.Paging.Views.{apart}
 use Rattle.query.proofs.Finds.{rowsTo, rows-none, rows-next, rows-all}
 use Rattle.query.proofs.spots.count_rows.Statement.{statement}
 use Rattle.query.proofs.spots.count_rows.Tie as tie

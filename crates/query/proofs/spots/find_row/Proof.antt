@@ -12,8 +12,8 @@ use Rattle.page.specs.declared.Found.the-variants.{At, Absent}
 use Rattle.partition.specs.declared.Shape.{Shape}
 use Rattle.partition.specs.Bits.{top}
 use Rattle.store.specs.Pages.{size, page, dirDepth, entryAt}
-use Rattle.store.proofs.Views.{page-lent}
-use Rattle.store.proofs.Reading.{entryOf}
+use Rattle.store.proofs.Paging.Views.{page-lent}
+use Rattle.store.proofs.Accepted.Reading.{entryOf}
 use Rattle.query.specs.Spots.{StandsAt}
 use Rattle.query.specs.declared.Spot.the-variants.{Here, Nowhere}
 use Rattle.query.proofs.Finds.{long-enough, shallow, not-named, inside, keeps, here, nowhere}

@@ -6,7 +6,7 @@ use native.Mathlib.Omega.{arith}
 use lib.ListN.{drop, replicate}
 use denote.Ref.{now}
 use Rattle.hash.specs.Fnv.{fnv}
-use Rattle.store.proofs.Views.{setPage}
+use Rattle.store.proofs.Paging.Views.{setPage}
 use Rattle.store.specs.Moves.{pick, find, within}
 use Rattle.store.specs.Pages.{S1024, page, read, contents}
 use Rattle.removal.specs.Join.{Emptied}

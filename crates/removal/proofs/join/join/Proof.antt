@@ -5,7 +5,7 @@ use Prim.Native.Nat.{_+_, _-_, _*_, _<_}
 use native.Mathlib.Omega.{arith}
 use denote.Ref.{now}
 use Rattle.hash.specs.Fnv.{fnv}
-use Rattle.store.proofs.Views.{setPage, page-back}
+use Rattle.store.proofs.Paging.Views.{setPage, page-back}
 use Rattle.store.specs.Moves.{find, within}
 use Rattle.store.specs.Pages.{S1024, contents}
 use Rattle.removal.specs.Join.{Rejoined, othersIn}

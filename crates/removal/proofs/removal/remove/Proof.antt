@@ -7,7 +7,7 @@ use native.Mathlib.Omega.{arith}
 use denote.Ref.{now}
 use Rattle.ground.proofs.Tests.{says-true, says-false}
 use Rattle.hash.specs.Fnv.{fnv}
-use Rattle.store.proofs.Rules.{accepted-whole}
+use Rattle.store.proofs.Accepted.Rules.{accepted-whole}
 use Rattle.store.specs.Tables.{Refusal3, removeTable}
 use Rattle.store.specs.Accepted.{GoodLength}
 use Rattle.store.specs.Demands.{sized-1024}

@@ -13,8 +13,8 @@ use Rattle.page.specs.Steps.{Removed}
 use Rattle.page.specs.Page.{depth, count}
 use Rattle.partition.specs.Bits.{top}
 use Rattle.partition.specs.Partition.{IsBucket}
-use Rattle.store.proofs.Unique.{page-long}
-use Rattle.store.proofs.Views.{setPage}
+use Rattle.store.proofs.Accepted.Unique.{page-long}
+use Rattle.store.proofs.Paging.Views.{setPage}
 use Rattle.store.specs.Tables.{Becomes}
 use Rattle.store.specs.Moves.{removed}
 use Rattle.store.specs.Pages.{S1024, Page, page, contents, rowsHeld, deepestIn}
@@ -24,7 +24,7 @@ use Rattle.removal.specs.Prefix.{Climbed}
 use Rattle.directory.specs.Directory.{SoundPage, free, used, Settling, Directed, Rewritten}
 use Rattle.directory.proofs.Settles.{unwritten, settling}
 use Rattle.removal.proofs.Removes.{its-bucket, climbed-fits, loses, settles, clear-written, clear-holds, joinable, join-written, join-holds}
-use Rattle.store.proofs.Depths.{page-byte}
+use Rattle.store.proofs.Paging.Depths.{page-byte}
 use Rattle.directory.proofs.OnePage.{lent, back}
 use Rattle.removal.proofs.removal.take_out.Statement.{statement}
 use Rattle.removal.proofs.removal.take_out.Tie as tie

@@ -2,7 +2,7 @@
 use borrow.Author.Needs.{needs}
 use mathlib.Core.Path.{refl}
 use Rattle.store.specs.Demands.{sized-1024}
-use Rattle.store.proofs.PageTies.{zeros}
+use Rattle.store.proofs.Paging.PageTies.{zeros}
 use Rattle.store_check.proofs.checks.first_bad.Statement.{statement}
 use Rattle.store_check.proofs.checks.first_bad.Tie as tie
 

@@ -13,7 +13,7 @@ use Rattle.partition.proofs.Sizes.{twelve}
 use Rattle.store.specs.Demands.{Sized}
 use Rattle.store.specs.Pages.{size, pages, dirDepth}
 use Rattle.store.specs.Accepted.{GoodLength, Page0, Page1, Stands, Parted}
-use Rattle.store.proofs.Unique.{within}
+use Rattle.store.proofs.Accepted.Unique.{within}
 use Rattle.store_check.specs.Directory.{Ranges, Counted}
 use Rattle.store_check.proofs.Heads.{to-page1, of-page1, whole-long, begun, standing}
 use Rattle.store_check.proofs.Naming.{room}

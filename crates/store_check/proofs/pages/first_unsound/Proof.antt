@@ -18,8 +18,8 @@ use Rattle.store.specs.Accepted.{Stands}
 use Rattle.partition.specs.declared.Shape.{Shape}
 use Rattle.partition.proofs.Sizes.{twelve}
 use Rattle.store.specs.Pages.{size, page}
-use Rattle.store.proofs.Unique.{within, page-long}
-use Rattle.store.proofs.Views.{page-lent}
+use Rattle.store.proofs.Accepted.Unique.{within, page-long}
+use Rattle.store.proofs.Paging.Views.{page-lent}
 use Rattle.store_check.specs.First.{FirstBad}
 use Rattle.store_check.specs.Directory.{Counted, Named}
 use Rattle.store_check.specs.Begun.{FreeAndUnnamed, Own}

@@ -9,8 +9,8 @@ use Rattle.partition.specs.Bits.{top}
 use Rattle.partition.specs.declared.Shape.{Shape}
 use Rattle.partition.proofs.Sizes.{twelve}
 use Rattle.store.specs.Pages.{size, page}
-use Rattle.store.proofs.Unique.{within, page-long}
-use Rattle.store.proofs.Views.{page-lent}
+use Rattle.store.proofs.Accepted.Unique.{within, page-long}
+use Rattle.store.proofs.Paging.Views.{page-lent}
 use Rattle.store_check.specs.Digest.{LoadOf, Celled, firstOf, topAt, loadAt}
 use Rattle.store_check.proofs.Heaps.{heaped-none}
 use Rattle.store_check.proofs.Parting.{legible, top-most, cell-most, celled-more}

@@ -12,7 +12,7 @@ use Rattle.store.specs.Pages.{pages}
 use Rattle.store_check.specs.Begun.{AllStand}
 use Rattle.store_check.specs.Digest.{Digest}
 use Rattle.store_check.proofs.Parting.{cells-fit, digested}
-use Rattle.store_check.proofs.AllStand.{ends-bad, ends-fine}
+use Rattle.store_check.proofs.Standing.{ends-bad, ends-fine}
 use Rattle.store_check.proofs.parted.first_joinable.Statement.{statement}
 use Rattle.store_check.proofs.parted.first_joinable.Tie as tie
 

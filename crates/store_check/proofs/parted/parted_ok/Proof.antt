@@ -14,8 +14,8 @@ use Rattle.store.specs.Accepted.{Parted}
 use Rattle.partition.specs.declared.Shape.{Shape}
 use Rattle.partition.proofs.Sizes.{twelve}
 use Rattle.store.specs.Pages.{size, page, pages}
-use Rattle.store.proofs.Unique as pages-of
-use Rattle.store.proofs.Depths.{page-byte}
+use Rattle.store.proofs.Accepted.Unique as pages-of
+use Rattle.store.proofs.Paging.Depths.{page-byte}
 use Rattle.store_check.proofs.Parting.{depth-most, parted-flat, sums-rise, parted-by}
 use Rattle.store_check.proofs.parted.parted_ok.Statement.{statement}
 use Rattle.store_check.proofs.parted.parted_ok.Tie as tie

@@ -1,0 +1,13 @@
+-- The three demands, proved of the tables.
+pub mod Settled
+pub mod Kept
+pub mod Order
+pub mod Same
+pub mod Plan
+pub mod KeptPages
+pub mod Afresh
+pub mod Given
+pub mod Said
+pub mod Meaning
+pub mod Whole
+pub mod Choice
