@@ -36,9 +36,8 @@ module _ (l : tie.At-loop Inv-loop μ-loop) where
   small : l .before .get16 .result < 79
   small = omega (arith, all, z .pre .2)
 
-  module _ (t : l .loop .i < l .before .get16 .result) where
-    there : l .loop .i < count page
-    there = omega (arith, all)
+  there : l .loop .i < l .before .get16 .result → l .loop .i < count page
+  there t = omega (arith, all)
 
 get16-requires : tie.Need-get16-requires Inv-loop μ-loop
 get16-requires c κs = omega (arith, c .before .before .before .before .pre .0 .least)
