@@ -20,7 +20,6 @@ pub use places::set_place;
 pub use places::store_place;
 pub use read::code_at;
 pub use read::compare_slot;
-pub use read::extent_of;
 pub use read::find_code;
 pub use read::place_at;
 pub use read::read_code;
