@@ -6,7 +6,8 @@ ghost use Rattle.page.specs.Page.{Slotted, count};
 ghost use Rattle.page.specs.Packed.{Fresh, PackedTo, Packed, Startable, Started};
 use super::insert::insert_at_frontier;
 use super::insert::set_head;
-use super::read::extent_of;
+use super::read::code_at;
+use super::read::place_at;
 
 // A free page, whatever the bytes held.
 pub fn clear_page(page: &mut [u8])
@@ -33,11 +34,7 @@ fn append(page: &mut [u8], from: &[u8], i: usize)
     requires { ⌜ Slotted (now from) × PackedTo (now from) i (now page) × (i < count (now from)) ⌝ }
     ensures { λ _. ⌜ PackedTo (now (from .entry)) (i + 1) (now (page .exit)) ⌝ }
 {
-    let e = extent_of(from, i);
-    let o = e.off;
-    let m = o + 8;
-    let t = o + e.len;
-    insert_at_frontier(page, i, &from[m..t], &from[o..m]);
+    insert_at_frontier(page, i, code_at(from, i), place_at(from, i));
 }
 
 // The rows of a page, packed.

@@ -9,6 +9,7 @@ ghost use Rattle.page.specs.Page.{Slotted, Natural, count, place};
 ghost use Rattle.page.specs.Places as Places;
 ghost use Rattle.page.specs.Steps.{Overwritable, Overwritten};
 use super::read::extent_of;
+use super::read::place_at;
 use crate::Place;
 
 // Whether a part of the place is negative.
@@ -88,10 +89,7 @@ pub fn read_place(page: &[u8], i: usize) -> Place
     requires { ⌜ Slotted (now page) × (i < count (now page)) ⌝ }
     ensures { λ r. ⌜ r ≡ Places.place (place (now (page .entry)) i) ⌝ }
 {
-    let e = extent_of(page, i);
-    let o = e.off;
-    let m = o + 8;
-    load_place(&page[o..m])
+    load_place(place_at(page, i))
 }
 
 // Slot s gets another place.

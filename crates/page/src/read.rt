@@ -3,7 +3,7 @@ ghost use mathlib.Core.Path.{_≡_};
 ghost use Prim.Native.Nat.{_+_, _*_, _≤_, _<_};
 ghost use lib.ListN.{length};
 ghost use Rattle.words.specs.Codes.{Ordered};
-ghost use Rattle.page.specs.Page.{Slotted, off, len, code, count};
+ghost use Rattle.page.specs.Page.{Slotted, off, len, code, place, count};
 ghost use Rattle.page.specs.Found.{FoundIn, CodeOut};
 use crate::Extent;
 use crate::Found;
@@ -21,15 +21,34 @@ pub fn extent_of(page: &[u8], i: usize) -> Extent
     }
 }
 
+// Slot i's code, as a part of the page.
+pub fn code_at(page: &[u8], i: usize) -> &[u8]
+    requires { ⌜ Slotted (now page) × (i < count (now page)) ⌝ }
+    ensures { λ r. ⌜ now r ≡ code (now (page .entry)) i ⌝ }
+{
+    let e = extent_of(page, i);
+    let from = e.off + 8;
+    let to = e.off + e.len;
+    &page[from..to]
+}
+
+// The 8 bytes of slot i's place, as a part of the page.
+pub fn place_at(page: &[u8], i: usize) -> &[u8]
+    requires { ⌜ Slotted (now page) × (i < count (now page)) ⌝ }
+    ensures { λ r. ⌜ now r ≡ place (now (page .entry)) i ⌝ }
+{
+    let e = extent_of(page, i);
+    let from = e.off;
+    let to = from + 8;
+    &page[from..to]
+}
+
 // Slot i's code against a code.
 pub fn compare_slot(page: &[u8], i: usize, key: &[u8]) -> Order
     requires { ⌜ Slotted (now page) × (i < count (now page)) ⌝ }
     ensures { λ r. ⌜ Ordered (code (now (page .entry)) i) (now (key .entry)) r ⌝ }
 {
-    let e = extent_of(page, i);
-    let from = e.off + 8;
-    let to = e.off + e.len;
-    words::compare(&page[from..to], key)
+    words::compare(code_at(page, i), key)
 }
 
 // Where a code stands, or where it belongs: slots are in code order, so what is left is halved.
@@ -62,9 +81,7 @@ pub fn read_code(page: &[u8], i: usize, out: &mut [u8]) -> usize
     requires { ⌜ Slotted (now page) × (i < count (now page)) × (64 ≤ length (now out)) ⌝ }
     ensures { λ r. ⌜ CodeOut (now (page .entry)) i (now (out .entry)) r (now (out .exit)) ⌝ }
 {
-    let e = extent_of(page, i);
-    let from = e.off + 8;
-    let to = e.off + e.len;
-    words::copy_at(out, 0, &page[from..to]);
-    to - from
+    let c = code_at(page, i);
+    words::copy_at(out, 0, c);
+    c.len()
 }

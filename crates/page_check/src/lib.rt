@@ -272,10 +272,7 @@ pub fn hash_slot(page: &[u8], i: usize) -> u32
     requires { ⌜ BucketPage (now page) × (i < count (now page)) ⌝ }
     ensures { λ r. ⌜ r ≡ fnv (code (now (page .entry)) i) ⌝ }
 {
-    let e = page::extent_of(page, i);
-    let a = e.off + 8;
-    let b = e.off + e.len;
-    hash::hash(&page[a..b])
+    hash::hash(page::code_at(page, i))
 }
 
 // Whether two hashes have the same prefix of k bits.

@@ -52,7 +52,7 @@ pub fn place<'a>(r: Reader<'a>) -> Place
     requires { ⌜ Readable (now (r .page)) × (r .slot < Page.count (now (r .page))) ⌝ }
     ensures { λ p. ⌜ p ≡ Places.place (Page.place (now (r .entry .page)) (r .entry .slot)) ⌝ }
 {
-    slots::place_at(r.page, r.slot)
+    slots::read_place(r.page, r.slot)
 }
 
 // The reader at the next row.

@@ -52,14 +52,11 @@ pub fn code_at(page: &[u8], slot: usize) -> &[u8]
     requires { ⌜ Readable (now page) × (slot < count (now page)) ⌝ }
     ensures { λ c. ⌜ now c ≡ code (now (page .entry)) slot ⌝ }
 {
-    let e = page::extent_of(page, slot);
-    let from = e.off + 8;
-    let to = e.off + e.len;
-    &page[from..to]
+    page::code_at(page, slot)
 }
 
 // A slot's place.
-pub fn place_at(page: &[u8], slot: usize) -> Place
+pub fn read_place(page: &[u8], slot: usize) -> Place
     requires { ⌜ Readable (now page) × (slot < count (now page)) ⌝ }
     ensures { λ p. ⌜ p ≡ Places.place (place (now (page .entry)) slot) ⌝ }
 {
@@ -99,5 +96,5 @@ pub fn give_at(page: &[u8], slot: usize, out: &mut [u8]) -> Answer
     }
     let c = code_at(page, slot);
     words::copy_at(out, 0, c);
-    Answer::RowOf(c.len(), place_at(page, slot))
+    Answer::RowOf(c.len(), read_place(page, slot))
 }

@@ -34,11 +34,7 @@ fn append_slot(page: &mut [u8], from: &[u8], i: usize, x: u32, k: u32, v: u64)
     ensures { λ _. ⌜ Appended (now (page .entry)) (rowsOf fnv (asRow (rowAt (now (from .entry)) i) ∷ []) k v) (now (page .exit)) ⌝ }
 {
     if partition::top_bits(x, k) == v {
-        let e = page::extent_of(from, i);
-        let o = e.off;
-        let m = o + 8;
-        let t = o + e.len;
-        append(page, &from[m..t], &from[o..m]);
+        append(page, page::code_at(from, i), page::place_at(from, i));
     }
 }
 

@@ -20,9 +20,9 @@ pub fn gather(page: &[u8], key: &[u8], hs: &mut [u32], ns: &mut [u32])
     let n = words::get16(page, 2);
     let mut i = 0;
     while i < n {
-        let e = page::extent_of(page, i);
-        hs[i] = page_check::hash_slot(page, i);
-        ns[i] = (4 + e.len) as u32;
+        let c = page::code_at(page, i);
+        hs[i] = hash::hash(c);
+        ns[i] = (12 + c.len()) as u32;
         i += 1;
     }
     hs[n] = hash::hash(key);

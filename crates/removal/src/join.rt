@@ -47,11 +47,7 @@ fn add_other(to: &mut [u8], from: &[u8], i: usize, key: &[u8])
     ensures { λ _. ⌜ Gathered (now (to .entry)) (without (λ q. q .code) (now (key .entry)) (rowOf (code (now (from .entry)) i) (place (now (from .entry)) i) ∷ [])) (now (to .exit)) ⌝ }
 {
     if !has_code(from, i, key) {
-        let e = page::extent_of(from, i);
-        let o = e.off;
-        let m = o + 8;
-        let t = o + e.len;
-        gather_row(to, &from[m..t], &from[o..m]);
+        gather_row(to, page::code_at(from, i), page::place_at(from, i));
     }
 }
 

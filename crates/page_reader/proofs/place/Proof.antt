@@ -1,4 +1,4 @@
--- `page_reader::place` meets its contract: a walk of its MIR, by hand. The struct is taken apart, and `place_at` is called on its page and its slot. All that the proof knows of `place_at` is that it meets its contract.
+-- `page_reader::place` meets its contract: a walk of its MIR, by hand. The struct is taken apart, and `read_place` is called on its page and its slot. All that the proof knows of `read_place` is that it meets its contract.
 -- Assumes nothing.
 use mathlib.Core.Path.{_≡_, refl}
 use Prim.Native.Nat.{_<_}
@@ -42,10 +42,10 @@ use Rattle.page_reader.specs.Read.{Readable}
 use Rattle.page_reader.specs.declared.Reader.{Reader}
 use Rattle.page_reader.proofs.Held.{R, D, L, page-val, slot-val, Own, Fields, goes}
 use Rattle.page_reader.proofs.Reader.Laws as T′
-use Rattle.page_reader.proofs.slots.place_at as inner
-use Rattle.page_reader.proofs.slots.place_at.Symbol as inner-def
-use Rattle.page_reader.proofs.slots.place_at.Symbol.{name as #place-at}
-use Rattle.page_reader.proofs.slots.place_at.Met as inner-thm
+use Rattle.page_reader.proofs.slots.read_place as inner
+use Rattle.page_reader.proofs.slots.read_place.Symbol as inner-def
+use Rattle.page_reader.proofs.slots.read_place.Symbol.{name as #read-place}
+use Rattle.page_reader.proofs.slots.read_place.Met as inner-thm
 use Rattle.page_reader.proofs.place.Key.{name as #place}
 use Rattle.page_reader.proofs.place as it
 use Rattle.page_reader.proofs.place.Statement as stated
@@ -94,7 +94,7 @@ module _ {M : Type 1} (𝓤 : URA M) (H : Heap 𝓤) (A : Atoms 𝓤) (W : Given
       suffices ! _ (ends-at 𝓤 H A it.ended stayed (it.clauses 𝓤 H A mem run) W (((κ, tt), (q, tt), tt, (d, tt), (mach ∷ [], tt)), tt) u r (tt, tt) (tt, tt)) $ says ! e $
       move ! (1 ∷ []) $ frame ! $ nothing ! $ move ! (2 ∷ 0 ∷ []) $ fjoin ! $ frame ! $ done !
 
-  module _ (C : Calls 𝓤 H) (Λ : Loops 𝓤 H) (fm : FmC 𝓤 H (W .laws) C) (known : Triple 𝓤 (C #place-at) (Inner 𝓤 H A mem run)) where
+  module _ (C : Calls 𝓤 H) (Λ : Loops 𝓤 H) (fm : FmC 𝓤 H (W .laws) C) (known : Triple 𝓤 (C #read-place) (Inner 𝓤 H A mem run)) where
     walk : Holds (hasTy (T′.mir (named 0)) mach) × WT mach → ent 𝓤 (onEntry 𝓤 H A it.signature (κ, tt) (q, tt) (d, tt) (mach ∷ [], tt)) (WpFn 𝓤 H C Λ code.function (mach ∷ []) Post)
     walk wt =
         qed W (raw (onEntry 𝓤 H A it.signature (κ, tt) (q, tt) (d, tt) (mach ∷ [], tt)) ∷ []) ∵ enter ! C Λ code.function (mach ∷ []) _ $
@@ -112,13 +112,13 @@ module _ {M : Type 1} (𝓤 : URA M) (H : Heap 𝓤) (A : Atoms 𝓤) (W : Given
         move ! (9 ∷ 10 ∷ []) $ free1 ! $ move ! (7 ∷ 8 ∷ []) $ free1 ! $ move ! (5 ∷ 6 ∷ []) $ free1 ! $ move ! (3 ∷ 4 ∷ []) $ free1 ! $ free0 ! $ by ! (exits r u e)))))))))
 
 module _ {M : Type 1} (𝓤 : URA M) (H : Heap 𝓤) (A : Atoms 𝓤) (W : Given 𝓤 H A) (mem : Memory → SProp 𝓤) (run : Routine → Fun 𝓤) where
-  walks : (C : Calls 𝓤 H) (Λ : Loops 𝓤 H) → FmC 𝓤 H (W .laws) C → Triple 𝓤 (C #place-at) (Inner 𝓤 H A mem run)
+  walks : (C : Calls 𝓤 H) (Λ : Loops 𝓤 H) → FmC 𝓤 H (W .laws) C → Triple 𝓤 (C #read-place) (Inner 𝓤 H A mem run)
       → Walks 𝓤 H A it.ended stayed (WpFn 𝓤 H C Λ code.function) (it.clauses 𝓤 H A mem run)
   walks C Λ fm known = walked 𝓤 H A it.ended stayed (it.clauses 𝓤 H A mem run) (WpFn 𝓤 H C Λ code.function) (λ κs. (LL.vals (D (κs .0)) (L (κs .0)), tt)) (λ κs. (LL.tells (D (κs .0)) (L (κs .0)), tt))
       (λ κs qs bounds a g are. needs 𝓤 _ _ (λ pre. walk 𝓤 H A W mem run (κs .0) (qs .0) (a .0) pre C Λ fm known (LL.lawful (D (κs .0)) (L (κs .0)) 𝓤 H A W .typed (a .0) _ (are .0) .0)))
 
 meets : {M : Type 1} (𝓤 : URA M) (H : Heap 𝓤) (A : Atoms 𝓤) (W : Given 𝓤 H A) (mem : Memory → SProp 𝓤) (run : Routine → Fun 𝓤) (𝓣 : Tables 𝓤 H)
-    → Triple 𝓤 (𝓣 .C #place-at) (Inner 𝓤 H A mem run)
+    → Triple 𝓤 (𝓣 .C #read-place) (Inner 𝓤 H A mem run)
     → Meets 𝓤 H A it.signature (WpFn 𝓤 H (𝓣 .C) (𝓣 .Λ) code.function) (it.spec 𝓤 H A mem run)
 meets 𝓤 H A W mem run 𝓣 known = walk-meets 𝓤 H A it.ended stayed W (goes-none 𝓤 H A W 1 B yes (λ κs x f. refl), tt) (it.clauses 𝓤 H A mem run) (WpFn 𝓤 H (𝓣 .C) (𝓣 .Λ) code.function) (WpFn-mono 𝓤 H (W .laws) 𝓣 code.function)
     (walks 𝓤 H A W mem run (𝓣 .C) (𝓣 .Λ) (fmOf 𝓤 H (W .laws) 𝓣) known)
@@ -129,4 +129,4 @@ place-spec 𝓤 H 𝓜 𝓖 𝓡 =
     entered 𝓤 H (tripleOf 𝓤 H (𝓖 .A) it.signature (it.spec 𝓤 H (𝓖 .A) (𝓜 .mem) (𝓡 .run)))
     (tables 𝓤 H 𝓜 𝓡 code.env .C) (tables 𝓤 H 𝓜 𝓡 code.env .Λ) #place code.function (code.unfolded 𝓤 H 𝓜 𝓡)
     (meets 𝓤 H (𝓖 .A) (givenOf 𝓤 H 𝓜 𝓖) (𝓜 .mem) (𝓡 .run) (tablesOf 𝓤 H 𝓜 (tables 𝓤 H 𝓜 𝓡 code.env))
-    (cited 𝓤 H (Inner 𝓤 H (𝓖 .A) (𝓜 .mem) (𝓡 .run)) 𝓜 𝓡 code.env #place-at inner-def.routine code.calls-page-reader·slots·place-at (inner-thm.met 𝓤 H 𝓜 𝓖 𝓡)))
+    (cited 𝓤 H (Inner 𝓤 H (𝓖 .A) (𝓜 .mem) (𝓡 .run)) 𝓜 𝓡 code.env #read-place inner-def.routine code.calls-page-reader·slots·read-place (inner-thm.met 𝓤 H 𝓜 𝓖 𝓡)))

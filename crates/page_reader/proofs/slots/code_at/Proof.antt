@@ -1,46 +1,16 @@
--- `page_reader::code_at` meets its contract: the page's rules say where the record lies. Assumes nothing.
-use native.Mathlib.Omega.{arith}
-use Rattle.page.proofs.Slots.{Lies, lies, code-part}
+-- `page_reader::code_at` meets its contract. Assumes nothing.
+use borrow.Author.Needs.{needs}
 use Rattle.page_reader.proofs.Rows.{at-row, slotted}
 use Rattle.page_reader.proofs.slots.code_at.Statement.{statement}
 use Rattle.page_reader.proofs.slots.code_at.Tie as tie
 
--- where the record lies
-there : (s : tie.Start) → Lies (s .args .page .now) (s .args .slot)
-there s = lies (s .args .slot) (slotted (s .args .page .now) (at-row (s .args .page .now) (s .args .slot) (s .pre .0) (s .pre .1))) (s .pre .1)
-
-extent-of-requires : tie.Need-extent-of-requires
-extent-of-requires c κs = let l = there (c .before) in (omega (arith, l), l .most)
-
-add-from : tie.Need-add-from
-add-from c = omega (arith, there (c .before .before .before), c .before .extent-of .ensures)
-
-add-to : tie.Need-add-to
-add-to c = omega (arith, there (c .before .before .before .before), c .before .before .extent-of .ensures)
-
-sub-result : tie.Need-sub-result
-sub-result c = omega (arith, there (c .before .before .before .before), c .before .before .extent-of .ensures)
-
-part-result-start : tie.Need-part-result-start
-part-result-start c = omega (arith, there (c .before .before .before .before), c .before .before .extent-of .ensures)
-
-part-result-end : tie.Need-part-result-end
-part-result-end c = omega (arith, there (c .before .before .before .before), c .before .before .extent-of .ensures)
+code-at-requires : tie.Need-code-at-requires
+code-at-requires c κs =
+    let s = c .before in
+    (slotted (s .args .page .now) (at-row (s .args .page .now) (s .args .slot) (s .pre .0) (s .pre .1)), s .pre .1)
 
 returns : tie.Need-returns
-returns c =
-    let e = c .before .before .before .extent-of in
-    let s = c .before .before .before .before .before in
-    code-part (s .args .page .now) (s .args .slot) (e .result .off) (e .result .len) (e .ensures .0) (e .ensures .1) (omega (arith, there s, e .ensures))
+returns c = search needs
 
 pub code-at-spec : {M : Type 1} → statement M
-code-at-spec =
-    tie.close
-    (tie.spec
-    extent-of-requires
-    add-from
-    add-to
-    sub-result
-    part-result-start
-    part-result-end
-    returns)
+code-at-spec = tie.close (tie.spec code-at-requires returns)

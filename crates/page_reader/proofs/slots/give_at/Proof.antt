@@ -48,8 +48,8 @@ fits c =
 copy-at-requires : tie.Need-copy-at-requires
 copy-at-requires c κs = omega (arith, fits (c .before))
 
-place-at-requires : tie.Need-place-at-requires
-place-at-requires c κs = search needs
+read-place-requires : tie.Need-read-place-requires
+read-place-requires c κs = search needs
 
 same-length : tie.Need-same-length
 same-length c = search needs
@@ -60,7 +60,7 @@ returns-3 c =
     let e = k .before in
     let s = e .before .before .before .before .before in
     let w : length (now (k .code-at .result)) ≤ length (s .args .out .now) = omega (arith, fits k) in
-    nth-row (s .args .page .now) (s .args .slot) (s .args .out .now) (page-of (e .before .before)) (row-of e) (now (k .code-at .result)) (k .code-at .ensures) (c .place-at .result) (c .place-at .ensures) _
+    nth-row (s .args .page .now) (s .args .slot) (s .args .out .now) (page-of (e .before .before)) (row-of e) (now (k .code-at .result)) (k .code-at .ensures) (c .read-place .result) (c .read-place .ensures) _
     (copied-front (now (k .code-at .result)) (c .before .before .before .copy-at .ensures) w)
 
 pub give-at-spec : {M : Type 1} → statement M
@@ -72,6 +72,6 @@ give-at-spec =
     returns-2
     code-at-requires
     copy-at-requires
-    place-at-requires
+    read-place-requires
     same-length
     returns-3)

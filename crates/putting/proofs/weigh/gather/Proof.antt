@@ -3,7 +3,7 @@ use Rattle.putting.proofs.Weighs.{told}
 use Rattle.putting.specs.Split.{weight}
 use Rattle.store_check.proofs.Fills.{Filled, filled-none, filled-more}
 use Rattle.page.proofs.Sums.{len-of-code}
-use Rattle.page.proofs.Slots.{Lies, lies}
+use Rattle.page.proofs.Slots.{lies}
 use Rattle.page.specs.Page.{count, code}
 use Rattle.hash.specs.Fnv.{fnv}
 use lib.ListN.{length, length-set}
@@ -11,7 +11,7 @@ use denote.Ref.{now}
 use native.Mathlib.Omega.{arith}
 use Prim.Native.Nat.{ℕ, _+_, _-_, _≤_, _<_}
 use mathlib.Core.List.{List}
-use mathlib.Core.Path.{_≡_, refl, sym, _∙_}
+use mathlib.Core.Path.{_≡_, refl, sym, ap, _∙_}
 use borrow.Author.Needs.{needs}
 use Rattle.putting.proofs.weigh.gather.Statement.{statement}
 use Rattle.putting.proofs.weigh.gather.Tie as tie
@@ -36,12 +36,8 @@ module _ (l : tie.At-loop Inv-loop μ-loop) where
   small : l .before .get16 .result < 79
   small = omega (arith, all, z .pre .2)
 
-  module _ (t : l .loop .i < l .before .get16 .result) where
-    there : l .loop .i < count page
-    there = omega (arith, all)
-
-    slot : Lies page (l .loop .i)
-    slot = lies (l .loop .i) (z .pre .0) there
+  there : l .loop .i < l .before .get16 .result → l .loop .i < count page
+  there t = omega (arith, all)
 
 get16-requires : tie.Need-get16-requires Inv-loop μ-loop
 get16-requires c κs = omega (arith, c .before .before .before .before .pre .0 .least)
@@ -51,14 +47,18 @@ loop-holds c =
     let z = c .before .before .before .before .before in
     (omega arith, filled-none _ 79 0 _ (z .pre .3), filled-none _ 79 0 _ (z .pre .4))
 
-extent-of-requires : tie.Need-extent-of-requires Inv-loop μ-loop
-extent-of-requires c κs = let l = c .before in let s = slot l (c .loop-test .taken) in let i = there l (c .loop-test .taken) in (omega (arith, i, s), omega (arith, s))
+code-at-requires : tie.Need-code-at-requires Inv-loop μ-loop
+code-at-requires c κs = (z (c .before) .pre .0, there (c .before) (c .loop-test .taken))
 
-hash-slot-requires : tie.Need-hash-slot-requires Inv-loop μ-loop
-hash-slot-requires c κs =
+hash-requires : tie.Need-hash-requires Inv-loop μ-loop
+hash-requires c κs = search needs
+
+-- a slot's code is short
+short : (c : tie.After-code-at Inv-loop μ-loop) → length (now (c .code-at .result)) ≤ 64
+short c =
     let l = c .before .before in
     let t = there l (c .before .loop-test .taken) in
-    (record { rules = z l .pre .0; some = omega (arith, t) }, t)
+    rw (c .code-at .ensures) (omega (arith, lies (l .loop .i) (z l .pre .0) t, len-of-code (page l) (l .loop .i) (z l .pre .0) t))
 
 mul-hs : tie.Need-mul-hs Inv-loop μ-loop
 mul-hs c = let l = c .before .before .before in omega (arith, small l, c .before .before .loop-test .taken)
@@ -67,39 +67,35 @@ slice-write-hs : tie.Need-slice-write-hs Inv-loop μ-loop
 slice-write-hs c = let l = c .before .before .before in omega (arith, small l, c .before .before .loop-test .taken, l .loop .inv .1 .long)
 
 add-ns : tie.Need-add-ns Inv-loop μ-loop
-add-ns c =
-    let l = c .before .before .before .before in
-    omega (arith, slot l (c .before .before .before .loop-test .taken), c .before .before .extent-of .ensures .1)
+add-ns c = omega (arith, short (c .before))
 
 cast-ns : tie.Need-cast-ns Inv-loop μ-loop
-cast-ns c =
-    let l = c .before .before .before .before in
-    omega (arith, slot l (c .before .before .before .loop-test .taken), c .before .before .extent-of .ensures .1)
+cast-ns c = omega (arith, short (c .before))
 
 mul-ns : tie.Need-mul-ns Inv-loop μ-loop
-mul-ns c = let l = c .before .before .before .before in omega (arith, small l, c .before .before .before .loop-test .taken)
+mul-ns c = let l = c .before .before .before in omega (arith, small l, c .before .before .loop-test .taken)
 
 slice-write-ns : tie.Need-slice-write-ns Inv-loop μ-loop
-slice-write-ns c = let l = c .before .before .before .before in omega (arith, small l, c .before .before .before .loop-test .taken, l .loop .inv .2 .long)
+slice-write-ns c = let l = c .before .before .before in omega (arith, small l, c .before .before .loop-test .taken, l .loop .inv .2 .long)
 
 add-i : tie.Need-add-i Inv-loop μ-loop
-add-i c = let l = c .before .before .before .before in omega (arith, small l, c .before .before .before .loop-test .taken)
+add-i c = let l = c .before .before .before in omega (arith, small l, c .before .before .loop-test .taken)
 
 loop-less : tie.Need-loop-less Inv-loop μ-loop
-loop-less c = omega (arith, c .before .before .before .loop-test .taken)
+loop-less c = omega (arith, c .before .before .loop-test .taken)
 
 loop-again : tie.Need-loop-again Inv-loop μ-loop
 loop-again c =
-    let l = c .before .before .before .before in
-    let t = c .before .before .before .loop-test .taken in
+    let l = c .before .before .before in
+    let t = c .before .before .loop-test .taken in
     let m : l .loop .i < 79 = omega (arith, small l, t) in (
       omega (arith, t),
-      filled-more _ (l .loop .inv .1) m (c .before .hash-slot .ensures),
-      filled-more _ (l .loop .inv .2) m (omega (arith, len-of-code (page l) (l .loop .i) (z l .pre .0) (there l t), c .before .before .extent-of .ensures .1)),
+      filled-more _ (l .loop .inv .1) m (c .hash .ensures ∙ ap fnv (c .before .code-at .ensures)),
+      filled-more _ (l .loop .inv .2) m (ap weight (c .before .code-at .ensures)),
     )
 
-hash-requires : tie.Need-hash-requires Inv-loop μ-loop
-hash-requires c κs = search needs
+hash-requires-2 : tie.Need-hash-requires-2 Inv-loop μ-loop
+hash-requires-2 c κs = search needs
 
 mul-hs-2 : tie.Need-mul-hs-2 Inv-loop μ-loop
 mul-hs-2 c = omega (arith, small (c .before .before))
@@ -120,7 +116,7 @@ slice-write-ns-2 : tie.Need-slice-write-ns-2 Inv-loop μ-loop
 slice-write-ns-2 c = let l = c .before .before in omega (arith, small l, l .loop .inv .2 .long)
 
 same-length : tie.Need-same-length Inv-loop μ-loop
-same-length c = let l = c .before .before in length-set (l .loop .hs) (l .before .get16 .result) (c .hash .result) ∙ l .loop .inv .1 .long ∙ sym (z l .pre .3)
+same-length c = let l = c .before .before in length-set (l .loop .hs) (l .before .get16 .result) (c .hash2 .result) ∙ l .loop .inv .1 .long ∙ sym (z l .pre .3)
 
 same-length-2 : tie.Need-same-length-2 Inv-loop μ-loop
 same-length-2 c = let l = c .before .before in length-set (l .loop .ns) (l .before .get16 .result) (12 + length (now (z l .args .key))) ∙ l .loop .inv .2 .long ∙ sym (z l .pre .4)
@@ -131,7 +127,7 @@ returns c =
     let n = l .before .get16 .result in
     let e = c .before .loop-test .left in
     let key = now (z l .args .key) in
-    (told fnv (page l) key (l .loop .inv .1) n (all l) e (small l) _ (c .hash .ensures), told weight (page l) key (l .loop .inv .2) n (all l) e (small l) _ refl)
+    (told fnv (page l) key (l .loop .inv .1) n (all l) e (small l) _ (c .hash2 .ensures), told weight (page l) key (l .loop .inv .2) n (all l) e (small l) _ refl)
 
 pub gather-spec : {M : Type 1} → statement M
 gather-spec =
@@ -141,8 +137,8 @@ gather-spec =
     μ-loop
     get16-requires
     loop-holds
-    extent-of-requires
-    hash-slot-requires
+    code-at-requires
+    hash-requires
     mul-hs
     slice-write-hs
     add-ns
@@ -152,7 +148,7 @@ gather-spec =
     add-i
     loop-less
     loop-again
-    hash-requires
+    hash-requires-2
     mul-hs-2
     slice-write-hs-2
     add-ns-2

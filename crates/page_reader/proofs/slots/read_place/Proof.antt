@@ -1,8 +1,8 @@
--- `page_reader::place_at` meets its contract. Assumes nothing.
+-- `page_reader::read_place` meets its contract. Assumes nothing.
 use borrow.Author.Needs.{needs}
 use Rattle.page_reader.proofs.Rows.{at-row, slotted}
-use Rattle.page_reader.proofs.slots.place_at.Statement.{statement}
-use Rattle.page_reader.proofs.slots.place_at.Tie as tie
+use Rattle.page_reader.proofs.slots.read_place.Statement.{statement}
+use Rattle.page_reader.proofs.slots.read_place.Tie as tie
 
 read-place-requires : tie.Need-read-place-requires
 read-place-requires c κs =
@@ -12,5 +12,5 @@ read-place-requires c κs =
 returns : tie.Need-returns
 returns c = search needs
 
-pub place-at-spec : {M : Type 1} → statement M
-place-at-spec = tie.close (tie.spec read-place-requires returns)
+pub read-place-spec : {M : Type 1} → statement M
+read-place-spec = tie.close (tie.spec read-place-requires returns)
