@@ -64,8 +64,10 @@ pub record RemovePages (S : Shape) (h : List ℕ → ℕ) (s c t : List ℕ) : T
   pub cleared : ((p : ℕ) (x : Prefix) → On S h t p x → Of h c x → ⊥) → (p : ℕ) (x : Prefix) → On S h s p x → Of h c x → Free S t p
 
 module _ (S : Shape) (h : List ℕ → ℕ) where
+  -- so it is of every put that answers new
   abbrev pub PutChooses : Type 0
   PutChooses = (s c : List ℕ) (a : Place) (t : List ℕ) → Accepted S h s → Made S h (put c a) s new t → PutPages S h s c t
 
+  -- and of every remove that answers a place
   abbrev pub RemoveChooses : Type 0
   RemoveChooses = (s c : List ℕ) (a : Place) (t : List ℕ) → Accepted S h s → Made S h (remove c) s (found a) t → RemovePages S h s c t
