@@ -1,6 +1,6 @@
 // Whether bytes are a store: the length, and the check's passes in document order.
 mod checks;
-mod directory;
+mod entry_runs;
 mod head;
 mod pages;
 mod parted;

@@ -11,7 +11,7 @@ ghost use Rattle.store_check.specs.First.{FirstBad};
 ghost use Rattle.store_check.specs.Directory.{Counted};
 ghost use Rattle.store_check.specs.Begun.{Begun, FreeAndUnnamed, Own};
 ghost use Rattle.store_check.specs.Digest.{Hashed};
-use super::directory::named;
+use super::entry_runs::named;
 use partition::Shape;
 
 // Whether a page is free and named by none.

@@ -4,8 +4,8 @@ use borrow.Author.Needs.{needs}
 use lib.ListN.{length}
 use Rattle.ground.proofs.Tests.{says-true, says-false, says-same}
 use Rattle.store_check.specs.Directory.{AllAre, AllBelow, NoneIs}
-use Rattle.store_check.proofs.directory.ranges.Statement.{statement}
-use Rattle.store_check.proofs.directory.ranges.Tie as tie
+use Rattle.store_check.proofs.entry_runs.ranges.Statement.{statement}
+use Rattle.store_check.proofs.entry_runs.ranges.Tie as tie
 
 none-is-requires : tie.Need-none-is-requires
 none-is-requires c κs = search needs

@@ -5,8 +5,8 @@ use native.Mathlib.Omega.{arith}
 use Rattle.store.specs.Demands.{Sized}
 use Rattle.store.specs.Pages.{entryAt}
 use Rattle.store_check.proofs.Fills.{Filled, filled-none, filled-more}
-use Rattle.store_check.proofs.directory.entries.Statement.{statement}
-use Rattle.store_check.proofs.directory.entries.Tie as tie
+use Rattle.store_check.proofs.entry_runs.entries.Statement.{statement}
+use Rattle.store_check.proofs.entry_runs.entries.Tie as tie
 
 abbrev Inv-loop : tie.InvT-loop
 Inv-loop s z dir₀ m i₀ dir i = (i ≤ z .entries) × Filled (λ k v. v ≡ entryAt z s k) (z .entries) 0 i dir

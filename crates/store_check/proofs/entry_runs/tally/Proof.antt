@@ -6,8 +6,8 @@ use native.Mathlib.Omega.{arith}
 use lib.ListN.{length, getD}
 use Rattle.store_check.specs.Directory.{Counted}
 use Rattle.store_check.proofs.Heaps.{heaped-none, heaped-more, heap-most}
-use Rattle.store_check.proofs.directory.tally.Statement.{statement}
-use Rattle.store_check.proofs.directory.tally.Tie as tie
+use Rattle.store_check.proofs.entry_runs.tally.Statement.{statement}
+use Rattle.store_check.proofs.entry_runs.tally.Tie as tie
 
 abbrev Inv-loop : tie.InvT-loop
 Inv-loop dir m counts₀ i₀ counts i = (i ≤ m) × Counted dir i (length counts₀) counts

@@ -9,8 +9,8 @@ use Rattle.ground.proofs.Tests.{says-same}
 use Rattle.partition.specs.Bits.{top}
 use Rattle.store_check.specs.Directory.{AllAre, Named}
 use Rattle.store_check.proofs.Naming.{run-named, named-run}
-use Rattle.store_check.proofs.directory.named.Statement.{statement}
-use Rattle.store_check.proofs.directory.named.Tie as tie
+use Rattle.store_check.proofs.entry_runs.named.Statement.{statement}
+use Rattle.store_check.proofs.entry_runs.named.Tie as tie
 
 -- the run, with what it was made of
 module _ (c : tie.After-run-of) where
