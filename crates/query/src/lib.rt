@@ -13,14 +13,28 @@ use store::Answer;
 
 mod spots;
 
+pub use spots::cursor_at;
 pub use spots::entries_of;
 pub use spots::entry_of;
 pub use spots::find_row;
+pub use spots::next_row;
 
 // A row's page and slot, or no row.
 pub enum Spot {
     Here(usize, usize),
     Nowhere,
+}
+
+// A place in the listing: a slot of the rows from a directory entry on.
+pub struct Cursor {
+    pub entry: usize,
+    pub slot: usize,
+}
+
+// A row's page and slot with the cursor behind it, or no row is left.
+pub enum Step {
+    Given(usize, usize, Cursor),
+    Done,
 }
 
 // Whether the store keeps every rule, and the first page that does not.
