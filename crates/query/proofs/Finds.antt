@@ -166,15 +166,15 @@ module _ (S : Shape) (sz : Sized S) (s : List ℕ) (a : Accepted S fnv s) (n : �
   first-of : (i left : ℕ) → From S s n i left → getElem? (listing S fnv (rowsHeld S s)) n ≡ getElem? (walkFrom S fnv s i) left
   first-of i left f = ap (getElem? (listing S fnv (rowsHeld S s))) (sym (add-zero n)) ∙ f .here 0 ∙ ap (getElem? (walkFrom S fnv s i)) (add-zero left)
 
-  -- the place after it
-  pub from-more : (i left : ℕ) → From S s n i left → From S s (n + 1) i (left + 1)
-  from-more i left f = record {
+  -- the cursor a slot further stands before the next place
+  pub at-next : (i left m : ℕ) → m ≡ left + 1 → From S s n i left → At S s (n + 1) (record { entry = i; slot = m })
+  at-next i left m q f = from-at S s (n + 1) i m (record {
     here = λ j. let e : n + 1 + j ≡ n + (1 + j) = omega arith in
-        let g : left + (1 + j) ≡ left + 1 + j = omega arith in
+        let g : left + (1 + j) ≡ m + j = omega arith in
         ap (getElem? (listing S fnv (rowsHeld S s))) e ∙ f .here (1 + j) ∙ ap (getElem? (walkFrom S fnv s i)) g;
     starts = f .starts;
     most = f .most;
-  }
+  })
 
   pub from-end : (i left : ℕ) → 2 ^ d ≤ i → From S s n i left → Listed S s n Nowhere
   from-end i left l f = first-of i left f ∙ ap (λ l. getElem? l left) (walk-end S fnv sz fnv-lt s a i l)
