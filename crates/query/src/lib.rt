@@ -4,23 +4,40 @@ ghost use Prim.Native.Nat.{_≤_};
 ghost use lib.ListN.{length};
 ghost use Rattle.hash.specs.Fnv.{fnv};
 ghost use Rattle.partition.specs.Listing.{listing};
-ghost use Rattle.store.specs.Pages.{S1024, rowsHeld};
+ghost use mathlib.Core.Path.{_≡_};
+ghost use Rattle.page.specs.Page.{rowAt};
+ghost use Rattle.store.specs.Pages.{S1024, page, asRow, rowsHeld};
 ghost use Rattle.store.specs.Accepted.{Accepted};
 ghost use Rattle.store.specs.Demands.{Sized};
-ghost use Rattle.store.specs.Tables.{checkTable, countTable, lookedUp, lookupTable, rowOf, rowTable, meaning};
+ghost use Rattle.store.specs.Tables.{checkTable, countTable, lookedUp, lookupTable, rowOf, rowTable, giving, meaning};
+ghost use Rattle.query.specs.Spots.{OnPage};
 use partition::Shape;
 use store::Answer;
 
 mod spots;
 
+pub use spots::cursor_at;
 pub use spots::entries_of;
 pub use spots::entry_of;
 pub use spots::find_row;
+pub use spots::next_row;
 
 // A row's page and slot, or no row.
 pub enum Spot {
     Here(usize, usize),
     Nowhere,
+}
+
+// A place in the listing: a slot of the rows from a directory entry on.
+pub struct Cursor {
+    pub entry: usize,
+    pub slot: usize,
+}
+
+// A row's page and slot with the cursor behind it, or no row is left.
+pub enum Step {
+    Given(usize, usize, Cursor),
+    Done,
 }
 
 // Whether the store keeps every rule, and the first page that does not.
@@ -88,18 +105,24 @@ pub fn lookup(s: &[u8], key: &[u8]) -> Answer
     place_of(s, partition::S1024, key)
 }
 
+// The row in slot i of the bucket page p, its code to the start of the output.
+pub fn read_row(s: &[u8], p: usize, i: usize, out: &mut [u8]) -> Answer
+    requires { ⌜ OnPage S1024 (now s) p i × (64 ≤ length (now out)) ⌝ }
+    ensures { λ r. ⌜ (meaning r, now (out .exit)) ≡ giving (asRow (rowAt (page S1024 (now (s .entry)) p) i)) (now (out .entry)) ⌝ }
+{
+    let a = p * 1024;
+    let e = a + 1024;
+    let len = page::read_code(&s[a..e], i, out);
+    Answer::RowOf(len, page::read_place(&s[a..e], i))
+}
+
 // The row at place n of the listing, its code to the start of the output, on an accepted store.
 pub fn give_row(s: &[u8], n: usize, out: &mut [u8]) -> Answer
     requires { ⌜ Accepted S1024 fnv (now s) × (64 ≤ length (now out)) ⌝ }
     ensures { λ r. ⌜ Answers (rowOf (listing S1024 fnv (rowsHeld S1024 (now (s .entry)))) n (now (out .entry))) (meaning r, now (out .exit)) ⌝ }
 {
     match spots::nth_row(s, partition::S1024, n) {
-        Spot::Here(p, i) => {
-            let a = p * 1024;
-            let e = a + 1024;
-            let len = page::read_code(&s[a..e], i, out);
-            Answer::RowOf(len, page::read_place(&s[a..e], i))
-        }
+        Spot::Here(p, i) => read_row(s, p, i, out),
         Spot::Nowhere => Answer::NoRow,
     }
 }

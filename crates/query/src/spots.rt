@@ -1,6 +1,6 @@
 // The rows of an accepted store: found by code, counted, and by their place in the listing.
 ghost use mathlib.Core.Path.{_≡_};
-ghost use Prim.Native.Nat.{_+_, _-_, _*_, _^_, _≤_, _<_};
+ghost use Prim.Native.Nat.{ℕ, _+_, _-_, _*_, _^_, _≤_, _<_};
 ghost use lib.ListN.{length};
 ghost use Rattle.ground.specs.Lists.{byte};
 ghost use Rattle.hash.specs.Fnv.{fnv};
@@ -9,7 +9,10 @@ ghost use Rattle.store.specs.Pages.{size, page, read, rowsOn, dirDepth, entryAt
 ghost use Rattle.store.specs.Accepted.{Accepted};
 ghost use Rattle.store.specs.Demands.{Sized};
 ghost use Rattle.query.specs.Spots.{StandsAt, Listed};
+ghost use Rattle.query.specs.Cursors.{At, Stepped};
+use super::Cursor;
 use super::Spot;
+use super::Step;
 use page::Found;
 use partition::Shape;
 
@@ -75,15 +78,23 @@ pub fn entries_of(s: &[u8], a: usize, d: u32) -> usize
     partition::two_to(d - s[a + 1] as u32)
 }
 
-// Where the row at place n of the listing stands: bucket after bucket by first entry, each once.
-pub fn nth_row(s: &[u8], z: Shape, n: usize) -> Spot
+// The cursor before place n of the listing; 0 is its start.
+pub fn cursor_at(s: &[u8], z: Shape, n: usize) -> Cursor
     requires { ⌜ Sized z × Accepted z fnv (now s) ⌝ }
-    ensures { λ r. ⌜ Listed z (now (s .entry)) n r ⌝ }
+    ensures { λ r. ⌜ At z (now (s .entry)) n r ⌝ }
+{
+    Cursor { entry: 0, slot: n }
+}
+
+// One row on, from any place before which the cursor stands: bucket after bucket by first entry, each once.
+pub fn next_row(s: &[u8], z: Shape, c: Cursor) -> Step
+    requires { ⌜ Sized z × Accepted z fnv (now s) × ((n : ℕ) × At z (now s) n c) ⌝ }
+    ensures { λ r. ⌜ ((n : ℕ) → At z (now (s .entry)) n c → Stepped z (now (s .entry)) n r) ⌝ }
 {
     let d = words::get32(s, 16) as u32;
     let end = partition::two_to(d);
-    let mut left = n;
-    let mut i = 0;
+    let mut left = c.slot;
+    let mut i = c.entry;
     while i < end {
         let size = 8 + z.capacity;
         let p = words::get32(s, size + 4 * i);
@@ -93,11 +104,30 @@ pub fn nth_row(s: &[u8], z: Shape, n: usize) -> Spot
             let a = p * size;
             let k = words::get16(s, a + 2);
             if left < k {
-                return Spot::Here(p, left);
+                let next = left + 1;
+                return Step::Given(
+                    p,
+                    left,
+                    Cursor {
+                        entry: i,
+                        slot: next,
+                    },
+                );
             }
             left -= k;
             i += entries_of(s, a, d);
         }
     }
-    Spot::Nowhere
+    Step::Done
+}
+
+// Where the row at place n of the listing stands.
+pub fn nth_row(s: &[u8], z: Shape, n: usize) -> Spot
+    requires { ⌜ Sized z × Accepted z fnv (now s) ⌝ }
+    ensures { λ r. ⌜ Listed z (now (s .entry)) n r ⌝ }
+{
+    match next_row(s, z, cursor_at(s, z, n)) {
+        Step::Given(p, i, _) => Spot::Here(p, i),
+        Step::Done => Spot::Nowhere,
+    }
 }
