@@ -19,7 +19,9 @@ use Rattle.ground.proofs.Parts.{part-is, part-same}
 use Rattle.words.specs.Moves.{Copied}
 use Rattle.io.specs.Digits.{digits, Fewest}
 use Rattle.store.specs.declared.Answer.{Answer}
-use Rattle.store.specs.Tables.{meaning}
+use Rattle.store.specs.declared.Refusal.{Refusal}
+use Rattle.store.specs.Tables.{Out, refusal, meaning}
+use Rattle.store.proofs.Demands.Meaning.{by-refusal}
 use Rattle.page.specs.declared.Place.{Place}
 use Rattle.commands.specs.Numbers.{Numeral, Shortest, signed}
 use Rattle.commands.specs.Codes.{upper, escape, glyphs, shown}
@@ -165,8 +167,15 @@ word-adds w n {o} {a} {b} {c} {i} {j} {k} {l} x s y =
 pub no-text : (P : List ℕ → Type 0) (p : List ℕ) → P [] → Adds P p 0 p 0
 no-text P p h = record { words = []; say = h; next = omega arith; text = refl; long = refl }
 
+pub shows-out : (k : List ℕ) (a b : Out) {o q : List ℕ} {i r : ℕ} → a ≡ b → Adds (Shows k b) o i q r → Adds (Shows k a) o i q r
+shows-out k a b {o} {q} {i} {r} e h = subst (λ (x : Out). Adds (Shows k x) o i q r) (sym e) h
+
 pub shows : (k : List ℕ) (a b : Answer) {o q : List ℕ} {i r : ℕ} → a ≡ b → Adds (Shows k (meaning b)) o i q r → Adds (Shows k (meaning a)) o i q r
-shows k a b {o} {q} {i} {r} e h = subst (λ (x : Answer). Adds (Shows k (meaning x)) o i q r) (sym e) h
+shows k a b e h = shows-out k (meaning a) (meaning b) (ap meaning e) h
+
+-- a refusal shows no code
+pub shows-refusal : (k : List ℕ) (f : Refusal) {o q : List ℕ} {i r : ℕ} → Adds (Shows [] (refusal f)) o i q r → Adds (Shows k (refusal f)) o i q r
+shows-refusal k f {o} {q} {i} {r} h = by-refusal (λ x. Adds (Shows [] x) o i q r → Adds (Shows k x) o i q r) (λ n a. a) (λ p a. a) f h
 
 -- the end of a line
 pub ended : (P : List ℕ → Type 0) {o a b : List ℕ} {j k : ℕ} → Adds P o 0 a j → Adds (λ t. t ≡ 10 ∷ []) a j b k → k ≤ length b → Lines P b k

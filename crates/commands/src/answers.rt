@@ -1,16 +1,18 @@
 // Answers as lines of text, put together in a buffer.
 ghost use mathlib.Core.Path.{_≡_};
+ghost use mathlib.Core.List.{[]};
 ghost use Prim.Native.Nat.{_+_, _*_, _≤_, _<_};
 ghost use lib.ListN.{length, take};
 ghost use lib.IntN.{pos};
 ghost use lib.Signed.{ltZ, mag};
 ghost use Rattle.commands.specs.Answers.{Adds, Lines, Paged, Rowed, Shows, refusedWord, replacedWord};
-ghost use Rattle.store.specs.Tables.{meaning};
+ghost use Rattle.store.specs.Tables.{meaning, refusal};
 ghost use Rattle.commands.specs.Codes.{escape, glyphs, shown, upper};
 ghost use Rattle.commands.specs.Lines.{After, Placed};
 ghost use Rattle.commands.specs.Numbers.{Numeral, Shortest, signed};
 use page::Place;
 use store::Answer;
+use store::Refusal;
 
 // A text goes to out at an index.
 fn add(out: &mut [u8], at: usize, text: &[u8]) -> usize
@@ -144,6 +146,18 @@ fn page_text(out: &mut [u8], p: usize) -> usize
     add_number(out, b, p as u64)
 }
 
+fn refusal_text(out: &mut [u8], f: Refusal) -> usize
+    requires { ⌜ 127 ≤ length (now out) ⌝ }
+    ensures { λ r. ⌜ Adds (Shows [] (refusal f)) (now (out .entry)) 0 (now (out .exit)) r ⌝ }
+    ensures { λ r. ⌜ r ≤ 127 ⌝ }
+{
+    let n = store::numbers_of(f);
+    if n.number == 2 {
+        return page_text(out, n.page);
+    }
+    refused_text(out, n.number as u64)
+}
+
 fn replaced_text(out: &mut [u8], p: Place) -> usize
     requires { ⌜ 127 ≤ length (now out) ⌝ }
     ensures { λ r. ⌜ Adds (λ t. After t replacedWord (Placed Shortest p)) (now (out .entry)) 0 (now (out .exit)) r ⌝ }
@@ -181,15 +195,7 @@ fn answer_text(out: &mut [u8], code: &[u8], a: Answer) -> usize
     ensures { λ r. ⌜ r ≤ 127 + 3 * length (now (code .entry)) ⌝ }
 {
     match a {
-        Answer::BadLength => refused_text(out, 1),
-        Answer::BadPage(p) => page_text(out, p),
-        Answer::BadCode => refused_text(out, 3),
-        Answer::BadPlace => refused_text(out, 4),
-        Answer::NoCode => refused_text(out, 5),
-        Answer::PrefixFull => refused_text(out, 6),
-        Answer::PagesFull => refused_text(out, 7),
-        Answer::ShortOutput => refused_text(out, 8),
-        Answer::NoRow => refused_text(out, 9),
+        Answer::Refused(r) => refusal_text(out, r),
         Answer::Formatted => add(out, 0, b"ok"),
         Answer::Accepted => add(out, 0, b"accepted"),
         Answer::New => add(out, 0, b"new"),

@@ -15,14 +15,14 @@ pub fn format(s: &mut [u8]) -> store::Answer
     ensures { λ r. ⌜ Answers (formatTable S1024 (now (s .entry))) (meaning r, now (s .exit)) ⌝ }
 {
     if s.len() % 1024 != 0 {
-        return store::Answer::BadLength;
+        return store::Answer::Refused(store::Refusal::BadLength);
     }
     let n = s.len() / 1024;
     if n < 3 {
-        return store::Answer::BadLength;
+        return store::Answer::Refused(store::Refusal::BadLength);
     }
     if 258 < n {
-        return store::Answer::BadLength;
+        return store::Answer::Refused(store::Refusal::BadLength);
     }
     let len = s.len();
     words::clear(s, 0, len);

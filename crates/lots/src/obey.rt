@@ -10,6 +10,7 @@ use super::say;
 use crate::Outcome;
 use commands::Command;
 use store::Answer;
+use store::Refusal;
 
 // A line that reads: its answer was written, or could not be.
 fn said(written: bool) -> Outcome
@@ -39,15 +40,7 @@ fn is_done(a: Answer) -> bool
     ensures { λ r. ⌜ r ≡ ok (meaning a) ⌝ }
 {
     match a {
-        Answer::BadLength => false,
-        Answer::BadPage(_) => false,
-        Answer::BadCode => false,
-        Answer::BadPlace => false,
-        Answer::NoCode => false,
-        Answer::PrefixFull => false,
-        Answer::PagesFull => false,
-        Answer::ShortOutput => false,
-        Answer::NoRow => false,
+        Answer::Refused(_) => false,
         Answer::Formatted => true,
         Answer::Accepted => true,
         Answer::New => true,
@@ -114,6 +107,14 @@ fn list(s: &[u8]) -> Outcome
     told(a)
 }
 
+// After n rows: there is none more, or why the page is refused.
+fn ended(r: Refusal, n: usize) -> Answer {
+    if let Refusal::NoRow = r {
+        return Answer::Rows(n);
+    }
+    Answer::Refused(r)
+}
+
 // How many rows a page has, or why it is refused. No page has more than 78 (row-count of page's proofs).
 fn rows_on(page: &[u8]) -> Answer {
     let mut code = [0u8; 64];
@@ -124,8 +125,8 @@ fn rows_on(page: &[u8]) -> Answer {
             Answer::RowOf(_, _) => {
                 n += 1;
             }
-            Answer::NoRow => {
-                return Answer::Rows(n);
+            Answer::Refused(r) => {
+                return ended(r, n);
             }
             _ => {
                 return a;

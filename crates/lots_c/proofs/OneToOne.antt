@@ -15,7 +15,7 @@ use Rattle.page.specs.declared.Place.{Place}
 use Rattle.store.specs.Pages.{S1024}
 use Rattle.store.specs.Tables.{Out, refused, refusedAt, formatted, accepted, new, replaced, found, counted, row, formatTable, checkTable, countTable, lookupTable, putTable, removeTable, rowTable, inspectTable}
 use Rattle.store.specs.Demands.{sized-1024}
-use Rattle.store.proofs.Demands.Said.{Refusal, Placed, Rowed, Counted, Kept, Said, format-said, check-said, count-said, lookup-said, put-said, remove-said, row-said, inspect-said}
+use Rattle.store.proofs.Demands.Said.{RefusedBelow, Placed, Rowed, Counted, Kept, Said, format-said, check-said, count-said, lookup-said, put-said, remove-said, row-said, inspect-said}
 use Rattle.lots_c.specs.Words.{plain, placeWord, refusalWord, word, lengthAfter, Tells, TellsAnd, TellsRow}
 
 -- ---- what a caller reads off a word
@@ -47,7 +47,7 @@ numbered w n e d = rw (e, ne-eqb n 2 d) refl
 paged : (w p : ℕ) → w % 256 ≡ 2 → w / 256 % 2 ^ 32 ≡ p → refusalIn w ≡ refusedAt 2 p
 paged w p e f = rw (e, f) refl
 
-refusal-off : (value : ℕ → Out) (o : Out) {most : ℕ} → most ≤ 2 ^ 32 → Refusal most o → readOff value (word o) ≡ o
+refusal-off : (value : ℕ → Out) (o : Out) {most : ℕ} → most ≤ 2 ^ 32 → RefusedBelow most o → readOff value (word o) ≡ o
 refusal-off value o m (inl (n, (l, d, e))) =
     subst (λ x. readOff value (word x) ≡ x) (sym e) (large value (refusalWord n 0) (omega arith) ∙ numbered (refusalWord n 0) n (omega arith) d)
 refusal-off value o m (inr (p, (l, e))) =

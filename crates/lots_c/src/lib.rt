@@ -8,6 +8,7 @@ ghost use Rattle.store.specs.Tables.{formatTable, checkTable, countTable, looku
 ghost use Rattle.lots_c.specs.Words.{plain, placeWord, refusalWord, word, lengthAfter, Tells, TellsAnd, TellsRow};
 use page::Place;
 use store::Answer;
+use store::Numbers;
 
 // A part of a place as a number.
 fn plain32(x: i32) -> u64
@@ -34,11 +35,10 @@ fn place_word(p: Place) -> u64
     plain32(p.page) + 4294967296 * plain16(p.slot) + 281474976710656 * plain16(p.volume)
 }
 
-fn refusal_word(n: u64, p: usize) -> u64
-    requires { ⌜ n < 256 ⌝ }
-    ensures { λ r. ⌜ r ≡ refusalWord n p ⌝ }
+fn refusal_word(n: Numbers) -> u64
+    ensures { λ r. ⌜ r ≡ refusalWord (n .number) (n .page) ⌝ }
 {
-    9223372036854775808 + n + 256 * (p as u64 % 4294967296)
+    9223372036854775808 + n.number as u64 + 256 * (n.page as u64 % 4294967296)
 }
 
 // The word of an answer.
@@ -46,15 +46,7 @@ fn word_of(a: Answer) -> u64
     ensures { λ r. ⌜ r ≡ word (meaning a) ⌝ }
 {
     match a {
-        Answer::BadLength => refusal_word(1, 0),
-        Answer::BadPage(p) => refusal_word(2, p),
-        Answer::BadCode => refusal_word(3, 0),
-        Answer::BadPlace => refusal_word(4, 0),
-        Answer::NoCode => refusal_word(5, 0),
-        Answer::PrefixFull => refusal_word(6, 0),
-        Answer::PagesFull => refusal_word(7, 0),
-        Answer::ShortOutput => refusal_word(8, 0),
-        Answer::NoRow => refusal_word(9, 0),
+        Answer::Refused(r) => refusal_word(store::numbers_of(r)),
         Answer::Formatted => 0,
         Answer::Accepted => 0,
         Answer::New => 2147483648,
@@ -73,15 +65,7 @@ fn give_length(a: Answer, len: &mut u32)
         Answer::RowOf(n, _) => {
             *len = (n % 4294967296) as u32;
         }
-        Answer::BadLength => {}
-        Answer::BadPage(_) => {}
-        Answer::BadCode => {}
-        Answer::BadPlace => {}
-        Answer::NoCode => {}
-        Answer::PrefixFull => {}
-        Answer::PagesFull => {}
-        Answer::ShortOutput => {}
-        Answer::NoRow => {}
+        Answer::Refused(_) => {}
         Answer::Formatted => {}
         Answer::Accepted => {}
         Answer::New => {}

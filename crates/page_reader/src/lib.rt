@@ -12,6 +12,7 @@ ghost use Rattle.store.specs.Tables.{meaning, inspectTable};
 ghost use Rattle.page_reader.specs.Read.{Reads, Readable, nthTable};
 use page::Place;
 use store::Answer;
+use store::Refusal;
 
 mod slots;
 
@@ -100,13 +101,13 @@ pub fn inspect(page: &[u8], n: usize, out: &mut [u8]) -> Answer
     ensures { λ r. ⌜ Answers (inspectTable S1024 fnv (now (page .entry)) n (now (out .entry))) (meaning r, now (out .exit)) ⌝ }
 {
     if page.len() != 1024 {
-        return Answer::BadLength;
+        return Answer::Refused(Refusal::BadLength);
     }
     if out.len() < 64 {
-        return Answer::ShortOutput;
+        return Answer::Refused(Refusal::ShortOutput);
     }
     if words::all_zero(page) {
-        return Answer::NoRow;
+        return Answer::Refused(Refusal::NoRow);
     }
     nth(page, n, out)
 }

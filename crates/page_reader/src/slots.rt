@@ -10,6 +10,7 @@ ghost use Rattle.store.specs.Tables.{meaning};
 ghost use Rattle.page_reader.specs.Read.{SoundBucket, Reads, Readable, nthTable};
 use page::Place;
 use store::Answer;
+use store::Refusal;
 
 // Whether a page is a bucket page that keeps every rule.
 fn sound(page: &[u8]) -> bool
@@ -89,10 +90,10 @@ pub fn give_at(page: &[u8], slot: usize, out: &mut [u8]) -> Answer
     ensures { λ r. ⌜ Answers (nthTable (now (page .entry)) slot (now (out .entry))) (meaning r, now (out .exit)) ⌝ }
 {
     if page.len() == 0 {
-        return Answer::BadPage(0);
+        return Answer::Refused(Refusal::BadPage(0));
     }
     if left_at(page, slot) == 0 {
-        return Answer::NoRow;
+        return Answer::Refused(Refusal::NoRow);
     }
     let c = code_at(page, slot);
     words::copy_at(out, 0, c);

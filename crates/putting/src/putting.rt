@@ -48,7 +48,7 @@ fn new_bucket(s: &mut [u8], x: u32, key: &[u8], place: &[u8]) -> store::Answer
 {
     let n = s.len() / 1024;
     if free_pages(s, n, 1) < 1 {
-        return store::Answer::PagesFull;
+        return store::Answer::Refused(store::Refusal::PagesFull);
     }
     let p = lowest_free(s);
     let d = words::get32(s, 16) as u32;
@@ -98,20 +98,20 @@ pub fn put(s: &mut [u8], key: &[u8], place: page::Place) -> store::Answer
     ensures { λ r. ⌜ Answers (putTable S1024 fnv (now (s .entry)) (now (key .entry)) place) (meaning r, now (s .exit)) ⌝ }
 {
     if !store_check::good_length(s, partition::S1024) {
-        return store::Answer::BadLength;
+        return store::Answer::Refused(store::Refusal::BadLength);
     }
     if key.len() == 0 {
-        return store::Answer::BadCode;
+        return store::Answer::Refused(store::Refusal::BadCode);
     }
     if 64 < key.len() {
-        return store::Answer::BadCode;
+        return store::Answer::Refused(store::Refusal::BadCode);
     }
     if page::negative(place) {
-        return store::Answer::BadPlace;
+        return store::Answer::Refused(store::Refusal::BadPlace);
     }
     let p = store_check::first_bad(s);
     if p < s.len() / 1024 {
-        return store::Answer::BadPage(p);
+        return store::Answer::Refused(store::Refusal::BadPage(p));
     }
     let mut bytes = [0u8; 8];
     page::store_place(&mut bytes, place);

@@ -81,14 +81,14 @@ pub fn split(s: &mut [u8], p: usize, i: usize, key: &[u8], place: &[u8]) -> stor
     gather(&from, key, &mut hs, &mut ns);
     let x = hash::hash(key);
     if 1016 < load(&from, key, &hs, &ns, 8, partition::top_bits(x, 8)) {
-        return store::Answer::PrefixFull;
+        return store::Answer::Refused(store::Refusal::PrefixFull);
     }
     let n = s.len() / 1024;
     let k = from[1] as u32;
     let v = partition::top_bits(x, k);
     let m = count_below(&from, key, &hs, &ns, k, v);
     if free_pages(s, n, m) + 1 < m {
-        return store::Answer::PagesFull;
+        return store::Answer::Refused(store::Refusal::PagesFull);
     }
     write_below(s, &from, i, key, place, &hs, &ns, k, v, p);
     settle(s, n);

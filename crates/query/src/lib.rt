@@ -13,6 +13,7 @@ ghost use Rattle.store.specs.Tables.{checkTable, countTable, lookedUp, lookupTa
 ghost use Rattle.query.specs.Spots.{OnPage};
 use partition::Shape;
 use store::Answer;
+use store::Refusal;
 
 mod spots;
 
@@ -45,11 +46,11 @@ pub fn check(s: &[u8]) -> Answer
     ensures { λ r. ⌜ Answers (checkTable S1024 fnv (now (s .entry))) (meaning r) ⌝ }
 {
     if !store_check::good_length(s, partition::S1024) {
-        return Answer::BadLength;
+        return Answer::Refused(Refusal::BadLength);
     }
     let p = store_check::first_bad(s);
     if p < s.len() / 1024 {
-        return Answer::BadPage(p);
+        return Answer::Refused(Refusal::BadPage(p));
     }
     Answer::Accepted
 }
@@ -59,12 +60,12 @@ pub fn count(s: &[u8]) -> Answer
     ensures { λ r. ⌜ Answers (countTable S1024 fnv (now (s .entry))) (meaning r) ⌝ }
 {
     if !store_check::good_length(s, partition::S1024) {
-        return Answer::BadLength;
+        return Answer::Refused(Refusal::BadLength);
     }
     let n = s.len() / 1024;
     let p = store_check::first_bad(s);
     if p < n {
-        return Answer::BadPage(p);
+        return Answer::Refused(Refusal::BadPage(p));
     }
     Answer::Rows(spots::count_rows(s, partition::S1024, n))
 }
@@ -81,7 +82,7 @@ pub fn place_of(s: &[u8], z: Shape, key: &[u8]) -> Answer
             let e = a + size;
             Answer::Found(page::read_place(&s[a..e], i))
         }
-        Spot::Nowhere => Answer::NoCode,
+        Spot::Nowhere => Answer::Refused(Refusal::NoCode),
     }
 }
 
@@ -90,17 +91,17 @@ pub fn lookup(s: &[u8], key: &[u8]) -> Answer
     ensures { λ r. ⌜ Answers (lookupTable S1024 fnv (now (s .entry)) (now (key .entry))) (meaning r) ⌝ }
 {
     if !store_check::good_length(s, partition::S1024) {
-        return Answer::BadLength;
+        return Answer::Refused(Refusal::BadLength);
     }
     if key.len() == 0 {
-        return Answer::BadCode;
+        return Answer::Refused(Refusal::BadCode);
     }
     if 64 < key.len() {
-        return Answer::BadCode;
+        return Answer::Refused(Refusal::BadCode);
     }
     let p = store_check::first_bad(s);
     if p < s.len() / 1024 {
-        return Answer::BadPage(p);
+        return Answer::Refused(Refusal::BadPage(p));
     }
     place_of(s, partition::S1024, key)
 }
@@ -123,7 +124,7 @@ pub fn give_row(s: &[u8], n: usize, out: &mut [u8]) -> Answer
 {
     match spots::nth_row(s, partition::S1024, n) {
         Spot::Here(p, i) => read_row(s, p, i, out),
-        Spot::Nowhere => Answer::NoRow,
+        Spot::Nowhere => Answer::Refused(Refusal::NoRow),
     }
 }
 
@@ -132,14 +133,14 @@ pub fn row_at(s: &[u8], n: usize, out: &mut [u8]) -> Answer
     ensures { λ r. ⌜ Answers (rowTable S1024 fnv (now (s .entry)) n (now (out .entry))) (meaning r, now (out .exit)) ⌝ }
 {
     if !store_check::good_length(s, partition::S1024) {
-        return Answer::BadLength;
+        return Answer::Refused(Refusal::BadLength);
     }
     if out.len() < 64 {
-        return Answer::ShortOutput;
+        return Answer::Refused(Refusal::ShortOutput);
     }
     let p = store_check::first_bad(s);
     if p < s.len() / 1024 {
-        return Answer::BadPage(p);
+        return Answer::Refused(Refusal::BadPage(p));
     }
     give_row(s, n, out)
 }

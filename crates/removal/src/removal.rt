@@ -41,7 +41,7 @@ pub fn remove_row(s: &mut [u8], key: &[u8]) -> store::Answer
     ensures { λ r. ⌜ Answers (removeAccepted S1024 fnv (now (s .entry)) (now (key .entry))) (meaning r, now (s .exit)) ⌝ }
 {
     match query::find_row(s, partition::S1024, key) {
-        Spot::Nowhere => store::Answer::NoCode,
+        Spot::Nowhere => store::Answer::Refused(store::Refusal::NoCode),
         Spot::Here(p, i) => {
             let a = p * 1024;
             let e = a + 1024;
@@ -57,17 +57,17 @@ pub fn remove(s: &mut [u8], key: &[u8]) -> store::Answer
     ensures { λ r. ⌜ Answers (removeTable S1024 fnv (now (s .entry)) (now (key .entry))) (meaning r, now (s .exit)) ⌝ }
 {
     if !store_check::good_length(s, partition::S1024) {
-        return store::Answer::BadLength;
+        return store::Answer::Refused(store::Refusal::BadLength);
     }
     if key.len() == 0 {
-        return store::Answer::BadCode;
+        return store::Answer::Refused(store::Refusal::BadCode);
     }
     if 64 < key.len() {
-        return store::Answer::BadCode;
+        return store::Answer::Refused(store::Refusal::BadCode);
     }
     let p = store_check::first_bad(s);
     if p < s.len() / 1024 {
-        return store::Answer::BadPage(p);
+        return store::Answer::Refused(store::Refusal::BadPage(p));
     }
     remove_row(s, key)
 }

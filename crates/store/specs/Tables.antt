@@ -13,8 +13,10 @@ use Rattle.partition.specs.declared.Shape.{Shape}
 use Rattle.partition.specs.Partition.{Row, needs, rowsOf, buckets}
 use Rattle.page.specs.declared.Place.{Place}
 use Rattle.page.specs.Places.{place, stored, Negative}
+use Rattle.store.specs.declared.Refusal.{Refusal}
+use Rattle.store.specs.declared.Refusal.the-variants.{BadLength, BadPage, BadCode, BadPlace, NoCode, PrefixFull, PagesFull, ShortOutput, NoRow}
 use Rattle.store.specs.declared.Answer.{Answer}
-use Rattle.store.specs.declared.Answer.the-variants.{BadLength, BadPage, BadCode, BadPlace, NoCode, PrefixFull, PagesFull, ShortOutput, NoRow, Formatted, Accepted as Passed, New, Replaced, Found, Rows, RowOf}
+use Rattle.store.specs.declared.Answer.the-variants.{Refused, Formatted, Accepted as Passed, New, Replaced, Found, Rows, RowOf}
 use Rattle.ground.specs.Ladder.{Ladder, rung, given, ends, answer, refuse}
 use Rattle.partition.specs.Listing.{listing, placeOf}
 use Rattle.store.specs.Pages.{size, pages, Page, read, contents, rowsOn, rowsHeld}
@@ -30,17 +32,25 @@ pub data Out : Type 0 where
   counted : ℕ → Out
   row : ℕ → Place → Out
 
+-- this paper's number of each refusal
+abbrev pub refusal : Refusal → Out
+refusal BadLength = refused 1
+refusal (BadPage p) = refusedAt 2 p
+refusal BadCode = refused 3
+refusal BadPlace = refused 4
+refusal NoCode = refused 5
+refusal PrefixFull = refused 6
+refusal PagesFull = refused 7
+refusal ShortOutput = refused 8
+refusal NoRow = refused 9
+
+-- n is a refusal's number and p the page number that it carries: 2 carries one, any other none
+abbrev pub Numbered : ℕ → ℕ → Out → Type 0
+Numbered n p o = ((n ≡ 2 → ⊥) × (p ≡ 0) × (o ≡ refused n)) ⊎ ((n ≡ 2) × (o ≡ refusedAt n p))
+
 -- this paper's number and values for each of the enum's cases
 abbrev pub meaning : Answer → Out
-meaning BadLength = refused 1
-meaning (BadPage p) = refusedAt 2 p
-meaning BadCode = refused 3
-meaning BadPlace = refused 4
-meaning NoCode = refused 5
-meaning PrefixFull = refused 6
-meaning PagesFull = refused 7
-meaning ShortOutput = refused 8
-meaning NoRow = refused 9
+meaning (Refused r) = refusal r
 meaning Formatted = formatted
 meaning Passed = accepted
 meaning New = new

@@ -3,19 +3,40 @@ ghost use mathlib.Core.Path.{_≡_};
 ghost use Prim.Native.Nat.{_+_, _*_, _≤_, _<_};
 ghost use lib.ListN.{length};
 ghost use Rattle.store.specs.Pages.{size, page, read, depthOn, contents, deepestIn};
+ghost use Rattle.store.specs.Tables.{refusal, Numbered};
 use page::Place;
 use partition::Shape;
 
-pub enum Answer {
+// Why a call is refused.
+pub enum Refusal {
+    // the store's length, or the page's
     BadLength,
+    // a rule fails on this page
     BadPage(usize),
+    // the code's length
     BadCode,
+    // a negative part of the place
     BadPlace,
+    // the code is not there
     NoCode,
+    // rows sharing its first 8 bits need too much
     PrefixFull,
+    // more buckets than pages less 2
     PagesFull,
+    // output under 64 bytes
     ShortOutput,
+    // n not below the number of rows
     NoRow,
+}
+
+// A refusal in numbers: its own, and the page number that it carries, 0 for none.
+pub struct Numbers {
+    pub number: u32,
+    pub page: usize,
+}
+
+pub enum Answer {
+    Refused(Refusal),
     Formatted,
     Accepted,
     New,
@@ -52,4 +73,21 @@ pub fn deepest(s: &[u8], z: Shape, n: usize) -> usize
         p += 1;
     }
     best
+}
+
+// The numbers of a refusal.
+pub fn numbers_of(r: Refusal) -> Numbers
+    ensures { λ n. ⌜ Numbered (n .number) (n .page) (refusal r) ⌝ }
+{
+    match r {
+        Refusal::BadLength => Numbers { number: 1, page: 0 },
+        Refusal::BadPage(p) => Numbers { number: 2, page: p },
+        Refusal::BadCode => Numbers { number: 3, page: 0 },
+        Refusal::BadPlace => Numbers { number: 4, page: 0 },
+        Refusal::NoCode => Numbers { number: 5, page: 0 },
+        Refusal::PrefixFull => Numbers { number: 6, page: 0 },
+        Refusal::PagesFull => Numbers { number: 7, page: 0 },
+        Refusal::ShortOutput => Numbers { number: 8, page: 0 },
+        Refusal::NoRow => Numbers { number: 9, page: 0 },
+    }
 }

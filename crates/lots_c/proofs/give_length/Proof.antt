@@ -1,7 +1,8 @@
 -- `lots_c::give_length` meets its contract, answer by answer. Assumes nothing.
-use mathlib.Core.Path.{sym, ap}
+use mathlib.Core.Path.{_≡_, refl, sym, ap, _∙_}
 use denote.Ref.{now}
 use Rattle.store.specs.Tables.{meaning}
+use Rattle.store.proofs.Demands.Meaning.{by-refusal}
 use Rattle.lots_c.specs.Words.{lengthAfter}
 use borrow.Author.Needs.{needs}
 use Rattle.lots_c.proofs.give_length.Statement.{statement}
@@ -34,35 +35,13 @@ enum-told-6 c = search needs
 enum-told-7 : tie.Need-enum-told-7
 enum-told-7 c = search needs
 
-enum-told-8 : tie.Need-enum-told-8
-enum-told-8 c = search needs
-
-enum-told-9 : tie.Need-enum-told-9
-enum-told-9 c = search needs
-
-enum-told-10 : tie.Need-enum-told-10
-enum-told-10 c = search needs
-
-enum-told-11 : tie.Need-enum-told-11
-enum-told-11 c = search needs
-
-enum-told-12 : tie.Need-enum-told-12
-enum-told-12 c = search needs
-
-enum-told-13 : tie.Need-enum-told-13
-enum-told-13 c = search needs
-
-enum-told-14 : tie.Need-enum-told-14
-enum-told-14 c = search needs
-
-enum-told-15 : tie.Need-enum-told-15
-enum-told-15 c = search needs
-
 returns : tie.Need-returns
 returns c = sym (ap (λ x. lengthAfter (meaning x) (now (c .before .before .before .args .len))) (c .before .a .given .1))
 
 returns-2 : tie.Need-returns-2
-returns-2 c = search needs
+returns-2 c =
+    let old = now (c .before .before .args .len) in
+    sym (ap (λ x. lengthAfter (meaning x) old) (c .enum-told .given .1) ∙ by-refusal (λ o. lengthAfter o old ≡ old) (λ n. refl) (λ p. refl) (c .enum-told .given .0 .0))
 
 returns-3 : tie.Need-returns-3
 returns-3 c = search needs
@@ -82,30 +61,6 @@ returns-7 c = search needs
 returns-8 : tie.Need-returns-8
 returns-8 c = search needs
 
-returns-9 : tie.Need-returns-9
-returns-9 c = search needs
-
-returns-10 : tie.Need-returns-10
-returns-10 c = search needs
-
-returns-11 : tie.Need-returns-11
-returns-11 c = search needs
-
-returns-12 : tie.Need-returns-12
-returns-12 c = search needs
-
-returns-13 : tie.Need-returns-13
-returns-13 c = search needs
-
-returns-14 : tie.Need-returns-14
-returns-14 c = search needs
-
-returns-15 : tie.Need-returns-15
-returns-15 c = search needs
-
-returns-16 : tie.Need-returns-16
-returns-16 c = search needs
-
 pub give-length-spec : {M : Type 1} → statement M
 give-length-spec =
     tie.close
@@ -119,14 +74,6 @@ give-length-spec =
     enum-told-5
     enum-told-6
     enum-told-7
-    enum-told-8
-    enum-told-9
-    enum-told-10
-    enum-told-11
-    enum-told-12
-    enum-told-13
-    enum-told-14
-    enum-told-15
     returns
     returns-2
     returns-3
@@ -134,12 +81,4 @@ give-length-spec =
     returns-5
     returns-6
     returns-7
-    returns-8
-    returns-9
-    returns-10
-    returns-11
-    returns-12
-    returns-13
-    returns-14
-    returns-15
-    returns-16)
+    returns-8)

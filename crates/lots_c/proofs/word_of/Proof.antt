@@ -1,73 +1,34 @@
 -- `lots_c::word_of` meets its contract, answer by answer. Assumes nothing.
-use mathlib.Core.Path.{sym, ap, _∙_}
-use Rattle.store.specs.Tables.{meaning}
-use Rattle.lots_c.specs.Words.{word}
+use mathlib.Core.Path.{_≡_, sym, ap, _∙_}
+use mathlib.Core.Logic.{inl, inr}
+use Prim.Native.Nat.{ℕ}
+use Rattle.store.specs.Tables.{Out, Numbered, meaning}
+use Rattle.lots_c.specs.Words.{refusalWord, word}
 use borrow.Author.Needs.{needs}
 use Rattle.lots_c.proofs.word_of.Statement.{statement}
 use Rattle.lots_c.proofs.word_of.Tie as tie
 
-enum-told : tie.Need-enum-told
-enum-told c = search needs
-
-refusal-word-requires : tie.Need-refusal-word-requires
-refusal-word-requires c κs = search needs
+numbered-word : (n p : ℕ) (o : Out) → Numbered n p o → refusalWord n p ≡ word o
+numbered-word n p o (inl h) = ap (refusalWord n) (h .1) ∙ sym (ap word (h .2))
+numbered-word n p o (inr h) = sym (ap word (h .1))
 
 enum-known-a : tie.Need-enum-known-a
 enum-known-a c = search needs
 
-refusal-word-requires-2 : tie.Need-refusal-word-requires-2
-refusal-word-requires-2 c κs = search needs
+numbers-of-requires : tie.Need-numbers-of-requires
+numbers-of-requires c κs = search needs
+
+refusal-word-requires : tie.Need-refusal-word-requires
+refusal-word-requires c κs = search needs
+
+enum-told : tie.Need-enum-told
+enum-told c = search needs
 
 enum-told-2 : tie.Need-enum-told-2
 enum-told-2 c = search needs
 
-refusal-word-requires-3 : tie.Need-refusal-word-requires-3
-refusal-word-requires-3 c κs = search needs
-
 enum-told-3 : tie.Need-enum-told-3
 enum-told-3 c = search needs
-
-refusal-word-requires-4 : tie.Need-refusal-word-requires-4
-refusal-word-requires-4 c κs = search needs
-
-enum-told-4 : tie.Need-enum-told-4
-enum-told-4 c = search needs
-
-refusal-word-requires-5 : tie.Need-refusal-word-requires-5
-refusal-word-requires-5 c κs = search needs
-
-enum-told-5 : tie.Need-enum-told-5
-enum-told-5 c = search needs
-
-refusal-word-requires-6 : tie.Need-refusal-word-requires-6
-refusal-word-requires-6 c κs = search needs
-
-enum-told-6 : tie.Need-enum-told-6
-enum-told-6 c = search needs
-
-refusal-word-requires-7 : tie.Need-refusal-word-requires-7
-refusal-word-requires-7 c κs = search needs
-
-enum-told-7 : tie.Need-enum-told-7
-enum-told-7 c = search needs
-
-refusal-word-requires-8 : tie.Need-refusal-word-requires-8
-refusal-word-requires-8 c κs = search needs
-
-enum-told-8 : tie.Need-enum-told-8
-enum-told-8 c = search needs
-
-refusal-word-requires-9 : tie.Need-refusal-word-requires-9
-refusal-word-requires-9 c κs = search needs
-
-enum-told-9 : tie.Need-enum-told-9
-enum-told-9 c = search needs
-
-enum-told-10 : tie.Need-enum-told-10
-enum-told-10 c = search needs
-
-enum-told-11 : tie.Need-enum-told-11
-enum-told-11 c = search needs
 
 enum-known-a-2 : tie.Need-enum-known-a-2
 enum-known-a-2 c = search needs
@@ -91,10 +52,10 @@ place-word-requires-3 : tie.Need-place-word-requires-3
 place-word-requires-3 c κs = search needs
 
 returns : tie.Need-returns
-returns c = search needs
+returns c = c .refusal-word .ensures ∙ numbered-word _ _ _ (c .before .numbers-of .ensures) ∙ sym (ap (λ x. word (meaning x)) (c .before .before .before .a .given .1))
 
 returns-2 : tie.Need-returns-2
-returns-2 c = c .refusal-word2 .ensures ∙ sym (ap (λ x. word (meaning x)) (c .before .before .a .given .1))
+returns-2 c = search needs
 
 returns-3 : tie.Need-returns-3
 returns-3 c = search needs
@@ -103,66 +64,27 @@ returns-4 : tie.Need-returns-4
 returns-4 c = search needs
 
 returns-5 : tie.Need-returns-5
-returns-5 c = search needs
+returns-5 c = c .place-word .ensures ∙ sym (ap (λ x. word (meaning x)) (c .before .before .a2 .given .1))
 
 returns-6 : tie.Need-returns-6
-returns-6 c = search needs
+returns-6 c = c .place-word2 .ensures ∙ sym (ap (λ x. word (meaning x)) (c .before .before .a3 .given .1))
 
 returns-7 : tie.Need-returns-7
 returns-7 c = search needs
 
 returns-8 : tie.Need-returns-8
-returns-8 c = search needs
-
-returns-9 : tie.Need-returns-9
-returns-9 c = search needs
-
-returns-10 : tie.Need-returns-10
-returns-10 c = search needs
-
-returns-11 : tie.Need-returns-11
-returns-11 c = search needs
-
-returns-12 : tie.Need-returns-12
-returns-12 c = search needs
-
-returns-13 : tie.Need-returns-13
-returns-13 c = c .place-word .ensures ∙ sym (ap (λ x. word (meaning x)) (c .before .before .a2 .given .1))
-
-returns-14 : tie.Need-returns-14
-returns-14 c = c .place-word2 .ensures ∙ sym (ap (λ x. word (meaning x)) (c .before .before .a3 .given .1))
-
-returns-15 : tie.Need-returns-15
-returns-15 c = search needs
-
-returns-16 : tie.Need-returns-16
-returns-16 c = c .place-word3 .ensures ∙ sym (ap (λ x. word (meaning x)) (c .before .before .a5 .given .1))
+returns-8 c = c .place-word3 .ensures ∙ sym (ap (λ x. word (meaning x)) (c .before .before .a5 .given .1))
 
 pub word-of-spec : {M : Type 1} → statement M
 word-of-spec =
     tie.close
     (tie.spec
-    enum-told
-    refusal-word-requires
     enum-known-a
-    refusal-word-requires-2
+    numbers-of-requires
+    refusal-word-requires
+    enum-told
     enum-told-2
-    refusal-word-requires-3
     enum-told-3
-    refusal-word-requires-4
-    enum-told-4
-    refusal-word-requires-5
-    enum-told-5
-    refusal-word-requires-6
-    enum-told-6
-    refusal-word-requires-7
-    enum-told-7
-    refusal-word-requires-8
-    enum-told-8
-    refusal-word-requires-9
-    enum-told-9
-    enum-told-10
-    enum-told-11
     enum-known-a-2
     place-word-requires
     enum-known-a-3
@@ -177,12 +99,4 @@ word-of-spec =
     returns-5
     returns-6
     returns-7
-    returns-8
-    returns-9
-    returns-10
-    returns-11
-    returns-12
-    returns-13
-    returns-14
-    returns-15
-    returns-16)
+    returns-8)

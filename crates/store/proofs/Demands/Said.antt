@@ -33,8 +33,8 @@ use Rattle.store.proofs.Showing.Walked.{listed-once}
 use Rattle.store.proofs.Demands.Given.{Good, slot-good, held-good, member}
 
 -- a refusal; most bounds the page number that 2 carries
-abbrev pub Refusal : ℕ → Out → Type 0
-Refusal most o = ((n : ℕ) × ((n < 10) × (n ≡ 2 → ⊥) × (o ≡ refused n))) ⊎ ((p : ℕ) × ((p < most) × (o ≡ refusedAt 2 p)))
+abbrev pub RefusedBelow : ℕ → Out → Type 0
+RefusedBelow most o = ((n : ℕ) × ((n < 10) × (n ≡ 2 → ⊥) × (o ≡ refused n))) ⊎ ((p : ℕ) × ((p < most) × (o ≡ refusedAt 2 p)))
 
 -- a value that carries a place
 abbrev pub Placed : (Place → Out) → Out → Type 0
@@ -54,7 +54,7 @@ Kept o = (o ≡ new) ⊎ Placed replaced o
 
 -- the refusals of a call, and its values
 abbrev pub Said : ℕ → (Out → Type 0) → Out → Type 0
-Said most Values o = Refusal most o ⊎ Values o
+Said most Values o = RefusedBelow most o ⊎ Values o
 
 -- rows of a table that refuse: of a call that only answers, and of one that leaves something
 module _ {most : ℕ} (Values : Out → Type 0) (n : ℕ) (l : n < 10) (d : n ≡ 2 → ⊥) where
