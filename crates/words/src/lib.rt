@@ -1,6 +1,6 @@
 // Bytes of a slice: little-endian numbers, copies and shifts, zeros, and the byte order of codes.
 ghost use mathlib.Core.Path.{_≡_};
-ghost use Prim.Native.Nat.{_+_, _≤_, _<_};
+ghost use Prim.Native.Nat.{_+_, _*_, _^_, _≤_, _<_};
 ghost use lib.ListN.{length};
 ghost use Rattle.ground.specs.Says.{Says};
 ghost use Rattle.words.specs.Le.{le16, le32};
@@ -8,12 +8,26 @@ ghost use Rattle.words.specs.Codes.{Ordered};
 ghost use Rattle.words.specs.Moves.{Put16, Put32, Copied, MovedDown, Cleared, MovedUp};
 ghost use Rattle.words.specs.Zeros.{Zero};
 
+fn wide(x: u8) -> usize
+    ensures { λ r. ⌜ (r ≡ x) × (r < 256) ⌝ }
+{
+    x as usize
+}
+
+// q above the k bits of low. Bytes so nested become one load.
+fn on(q: usize, k: u32, low: usize) -> usize
+    requires { ⌜ (q < 256) × (k ≤ 56) × (low < 2 ^ k) ⌝ }
+    ensures { λ r. ⌜ r ≡ q * 2 ^ k + low ⌝ }
+{
+    q << k | low
+}
+
 // The 16 bits at k.
 pub fn get16(s: &[u8], k: usize) -> usize
     requires { ⌜ k + 2 ≤ length (now s) ⌝ }
     ensures { λ r. ⌜ (r ≡ le16 (now (s .entry)) k) × (r < 65536) ⌝ }
 {
-    (s[k] as usize) + 256 * (s[k + 1] as usize)
+    on(wide(s[k + 1]), 8, wide(s[k]))
 }
 
 // The 32 bits at k.
@@ -21,9 +35,7 @@ pub fn get32(s: &[u8], k: usize) -> usize
     requires { ⌜ k + 4 ≤ length (now s) ⌝ }
     ensures { λ r. ⌜ (r ≡ le32 (now (s .entry)) k) × (r < 4294967296) ⌝ }
 {
-    let lo = get16(s, k);
-    let hi = get16(s, k + 2);
-    lo + 65536 * hi
+    on(wide(s[k + 3]), 24, on(wide(s[k + 2]), 16, get16(s, k)))
 }
 
 // v in the 16 bits at k.
