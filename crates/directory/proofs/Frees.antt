@@ -12,11 +12,11 @@ use lib.Seq.{drop-cons, drop-length}
 use Rattle.ground.specs.Lists.{byte}
 use Rattle.ground.proofs.Sides.{side}
 use Rattle.store.specs.Pages.{S1024, pages, page, Page, free, bucket, read, reading, contents}
-use Rattle.store.specs.Moves.{find, isFree}
+use Rattle.store.specs.Moves.{find, isFree, frees}
 use Rattle.store.proofs.Accepted.Unique.{held}
 use Rattle.store.proofs.Showing.Showing.{pages-held}
 use Rattle.store.proofs.Showing.Shown.{find-least}
-use Rattle.store.proofs.Showing.Rooms.{frees, find-free}
+use Rattle.store.proofs.Showing.Rooms.{find-free}
 use Rattle.store.proofs.Paging.Depths.{kind-byte}
 
 abbrev one : Page → ℕ

@@ -9,7 +9,7 @@ use lib.ListN.{length, set}
 use Rattle.ground.specs.Lists.{byte}
 use Rattle.page.specs.Page.{BucketPage, depth, rows}
 use Rattle.partition.specs.Partition.{Row}
-use Rattle.store.specs.Pages.{S1024, pages, page, bucket, contents, deepestIn}
+use Rattle.store.specs.Pages.{S1024, pages, page, bucket, contents, deepestIn, setPage}
 use Rattle.store.specs.Accepted.{Stands, unused, used as in-use, Accepted}
 use Rattle.store.specs.Tables.{Becomes}
 use Rattle.store.specs.Demands.{Hash, sized-1024}
@@ -17,7 +17,7 @@ use Rattle.store.proofs.Accepted.Rules.{opened}
 use Rattle.store.proofs.Showing.Shows.{Shows}
 use Rattle.store.proofs.Accepted.Unique.{read-used}
 use Rattle.store.proofs.Accepted.Accepting.{accepted-laid, head-kept, laid-becomes}
-use Rattle.store.proofs.Paging.Views.{setPage, set-long, set-same, set-other, set-below, set-contents}
+use Rattle.store.proofs.Paging.Views.{set-long, set-same, set-other, set-below, set-contents}
 use Rattle.directory.specs.Directory.{Directed, SoundPage, free, used, Settling, Rewritten}
 use Rattle.directory.proofs.Laying.{directed-laid}
 

@@ -3,8 +3,7 @@ ghost use mathlib.Core.Path.{_≡_};
 ghost use Prim.Native.Nat.{_+_, _*_, _≤_, _<_, min};
 ghost use lib.ListN.{length};
 ghost use Rattle.store.specs.Pages.{S1024, pages, contents};
-ghost use Rattle.store.specs.Moves.{find, isFree};
-ghost use Rattle.store.proofs.Showing.Rooms.{frees};
+ghost use Rattle.store.specs.Moves.{find, isFree, frees};
 
 // The lowest-numbered free page, where one is free.
 pub fn lowest_free(s: &[u8]) -> usize

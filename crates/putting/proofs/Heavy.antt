@@ -20,7 +20,7 @@ use Rattle.partition.proofs.Bits.{top-lt}
 use Rattle.partition.proofs.Rows.{same-load}
 use Rattle.store.specs.Pages.{S1024, pages, page, dirDepth, Page, contents, asRow, rowsHeld, deepestIn}
 use Rattle.store.specs.Accepted.{Accepted}
-use Rattle.store.specs.Moves.{packed, written, putNew}
+use Rattle.store.specs.Moves.{packed, written, putNew, frees}
 use Rattle.store.specs.Tables.{new, refused, Refusal6, Refusal7, putAccepted}
 use Rattle.store.specs.Demands.{Hash, sized-1024}
 use Rattle.store.proofs.Showing.Shows.{prefixOn, Shows}
@@ -28,7 +28,6 @@ use Rattle.store.proofs.Accepted.Rules.{opened}
 use Rattle.store.proofs.Showing.Shown.{page-row}
 use Rattle.store.proofs.Showing.Showing.{accepted-shows, pages-held}
 use Rattle.store.proofs.Accepted.Unique.{page-long}
-use Rattle.store.proofs.Showing.Rooms.{frees}
 use Rattle.store.proofs.Accepted.Reading.{Naming, place-on}
 use Rattle.store.proofs.Paging.PageTies.{found-not, fits-needs}
 use Rattle.store.proofs.Put.PutCases.{here-six, splits-seven, put-splits-is}
@@ -147,7 +146,7 @@ module _ (h : List ℕ → ℕ) (hash : Hash h) (s c pl : List ℕ) (P : Puttabl
       seven x = omega (arith, seven-is .1 (omega (arith, count, room .many)), pages-held S1024 s)
 
       pub source : Source (page S1024 s p) i c pl
-      source = record { page = slotted; belongs = B; natural = P .natural; some = P .some; short = P .short }
+      source = record { page = slotted; belongs = B; natural = P .natural; good = P .good }
 
       pub writable : Writable h (record { code = c; place = pl } ∷ map asRow (rows (page S1024 s p))) (depth (page S1024 s p)) (top (depth (page S1024 s p)) (h c)) s p
       writable = record {

@@ -7,11 +7,9 @@ use native.Mathlib.Omega.{arith}
 use lib.ListN.{length, set}
 use Rattle.partition.specs.Partition.{Row, needs, rowsOf}
 use Rattle.partition.proofs.Tree.{pfx}
-use Rattle.store.specs.Pages.{S1024, pages, page, Page, bucket, contents}
+use Rattle.store.specs.Pages.{S1024, pages, page, Page, bucket, contents, setPage}
 use Rattle.store.specs.Accepted.{GoodLength}
-use Rattle.store.specs.Moves.{find, isFree, packed, written}
-use Rattle.store.proofs.Showing.Rooms.{frees}
-use Rattle.store.proofs.Paging.Views.{setPage}
+use Rattle.store.specs.Moves.{find, isFree, packed, written, frees}
 use Rattle.putting.specs.Split.{below, Bucketed, first, left, Room, pagesBelow, Writable, BucketsWritten}
 use Rattle.directory.proofs.Settles.{rewritten-set, set-holds}
 use Rattle.putting.proofs.Weighs.{below-none, below-one, below-deep, below-two, double}

@@ -100,10 +100,7 @@ pub fn put(s: &mut [u8], key: &[u8], place: page::Place) -> store::Answer
     if !store_check::good_length(s, partition::S1024) {
         return store::Answer::Refused(store::Refusal::BadLength);
     }
-    if key.len() == 0 {
-        return store::Answer::Refused(store::Refusal::BadCode);
-    }
-    if 64 < key.len() {
+    if !store::good_code(key) {
         return store::Answer::Refused(store::Refusal::BadCode);
     }
     if page::negative(place) {

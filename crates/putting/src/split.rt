@@ -10,7 +10,7 @@ ghost use Rattle.partition.specs.Bits.{top};
 ghost use Rattle.store.specs.Pages.{S1024, pages, page, dirDepth, contents, asRow};
 ghost use Rattle.store.specs.Tables.{putAccepted, meaning};
 ghost use Rattle.store.proofs.Accepted.Reading.{Naming};
-ghost use Rattle.store.proofs.Showing.Rooms.{frees};
+ghost use Rattle.store.specs.Moves.{frees};
 ghost use Rattle.putting.specs.Put.{Puttable};
 ghost use Rattle.putting.specs.Split.{Source, weight, Told, first, Writable, BucketsWritten};
 use super::bucket::write_bucket;

@@ -10,10 +10,10 @@ use lib.Seq.{drop-cons, drop-length}
 use Rattle.ground.specs.Lists.{tab}
 use Rattle.ground.proofs.Sides.{side}
 use Rattle.ground.proofs.Tables.{tab-same, tab-map}
-use Rattle.store.specs.Pages.{S1024, pages, Page, free, page, read, contents}
+use Rattle.store.specs.Pages.{S1024, pages, Page, free, page, read, contents, setPage}
 use Rattle.store.specs.Moves.{pick, find, within}
 use Rattle.store.proofs.Paging.PageTies.{zeros, read-cleared}
-use Rattle.store.proofs.Paging.Views.{setPage, set-long, set-same, set-other, set-below}
+use Rattle.store.proofs.Paging.Views.{set-long, set-same, set-other, set-below}
 use Rattle.directory.specs.Directory.{SoundPage, free as unused, Settling}
 use Rattle.removal.specs.Join.{Emptied}
 use Rattle.removal.proofs.Prefixes.{many, page-at, listed}

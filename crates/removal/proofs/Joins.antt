@@ -14,10 +14,10 @@ use Rattle.partition.specs.Partition.{Row, needs, Reordered}
 use Rattle.partition.specs.Listing.{inOrder}
 use Rattle.partition.proofs.Reorders.{needs-same}
 use Rattle.partition.proofs.Sorted.{order-same}
-use Rattle.store.specs.Pages.{S1024, pages, Page, bucket, page, read, contents, asRow}
+use Rattle.store.specs.Pages.{S1024, pages, Page, bucket, page, read, contents, asRow, setPage}
 use Rattle.store.specs.Moves.{find, within, packFrom}
 use Rattle.store.proofs.Paging.PageTies.{page-needs, page-once, page-order, packed-rows, read-slotted}
-use Rattle.store.proofs.Paging.Views.{setPage, set-long, set-same, set-other, set-below, set-contents}
+use Rattle.store.proofs.Paging.Views.{set-long, set-same, set-other, set-below, set-contents}
 use Rattle.directory.specs.Directory.{SoundPage, used, Settling}
 use Rattle.removal.specs.Join.{Housed, Taking, Gathered, rowsAt, othersIn, Emptied, Joinable, Rejoined}
 use Rattle.removal.proofs.Prefixes.{listed}

@@ -24,7 +24,7 @@ use Rattle.partition.proofs.Reorders.{needs-same, rows-same}
 use Rattle.partition.proofs.Rising.{tab-in, tab-member, without-member, without-map}
 use Rattle.partition.proofs.Rows.{load, load-mono, rows-on, some-need}
 use Rattle.partition.proofs.Sorted.{by-code, order-same, some-none, some-once}
-use Rattle.store.specs.Pages.{S1024, pages, Page, free, bucket, page, contents, asRow, rowsHeld, deepestIn}
+use Rattle.store.specs.Pages.{S1024, pages, Page, free, bucket, page, contents, asRow, rowsHeld, deepestIn, setPage}
 use Rattle.store.specs.Accepted.{Bucket, Stands, unused, used}
 use Rattle.store.specs.Moves.{pick, find, holds, within, packFrom, packed, clearedOn, removed}
 use Rattle.store.specs.Tables.{Becomes}
@@ -42,7 +42,7 @@ use Rattle.store.proofs.Remove.RemoveCases as Cases
 use Rattle.store.proofs.Showing.Within.{one-depth, rows-within}
 use Rattle.store.proofs.Accepted.Accepting.{Laid, accepted-laid, laid-becomes}
 use Rattle.store.proofs.Paging.PageTies.{row-in, zeros, read-cleared, page-once, found-at, removed-rows}
-use Rattle.store.proofs.Paging.Views.{setPage, set-long, set-same, set-other, set-below, set-contents}
+use Rattle.store.proofs.Paging.Views.{set-long, set-same, set-other, set-below, set-contents}
 use Rattle.directory.specs.Directory.{Directed, SoundPage, free as vacant, Rewritten}
 use Rattle.removal.specs.Prefix.{Climbed}
 use Rattle.removal.specs.Join.{othersIn, Joinable, Rejoined}

@@ -59,10 +59,7 @@ pub fn remove(s: &mut [u8], key: &[u8]) -> store::Answer
     if !store_check::good_length(s, partition::S1024) {
         return store::Answer::Refused(store::Refusal::BadLength);
     }
-    if key.len() == 0 {
-        return store::Answer::Refused(store::Refusal::BadCode);
-    }
-    if 64 < key.len() {
+    if !store::good_code(key) {
         return store::Answer::Refused(store::Refusal::BadCode);
     }
     let p = store_check::first_bad(s);

@@ -1,7 +1,7 @@
 -- `directory::free_pages` meets its contract: those counted and those left are all. Assumes nothing.
 use Rattle.directory.proofs.Frees.{free-more, used-more, frees-end}
 use Rattle.store.proofs.Showing.Showing.{pages-held}
-use Rattle.store.proofs.Showing.Rooms.{frees}
+use Rattle.store.specs.Moves.{frees}
 use Rattle.store.specs.Pages.{S1024, contents}
 use lib.ListN.{drop}
 use native.Mathlib.Omega.{arith}

@@ -4,10 +4,9 @@ use Rattle.directory.proofs.Settles.{settling}
 use Rattle.directory.proofs.OnePage.{lent, back}
 use Rattle.putting.specs.Put.{Unset, Vacant}
 use Rattle.directory.specs.Directory.{Settling}
-use Rattle.store.proofs.Paging.Views.{setPage}
 use Rattle.store.proofs.Accepted.Rules.{opened}
-use Rattle.store.proofs.Showing.Rooms.{frees}
-use Rattle.store.specs.Pages.{S1024, pages, page, dirDepth, contents}
+use Rattle.store.specs.Moves.{frees}
+use Rattle.store.specs.Pages.{S1024, pages, page, dirDepth, contents, setPage}
 use Rattle.page.specs.Packed.{Started}
 use Rattle.partition.specs.Bits.{top}
 use Rattle.hash.specs.Fnv.{fnv, fnv-lt}

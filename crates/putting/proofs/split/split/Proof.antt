@@ -161,7 +161,7 @@ gather-requires : tie.Need-gather-requires
 gather-requires c κs =
     let b = c .before .before .before .before in
     let S = slotted b in
-    (S, z b .pre .0 .short, omega (arith, row-room (from b) S, long b), search Needs.needs, search Needs.needs)
+    (S, z b .pre .0 .good .most, omega (arith, row-room (from b) S, long b), search Needs.needs, search Needs.needs)
 
 hash-requires : tie.Need-hash-requires
 hash-requires c κs = search Needs.needs
@@ -182,7 +182,7 @@ load-requires : tie.Need-load-requires
 load-requires c κs =
     let g = c .before .before .before .before .before .before .before in
     let b = b0 g in
-    (omega arith, slotted b, z b .pre .0 .short, g .gather .ensures .0, g .gather .ensures .1)
+    (omega arith, slotted b, z b .pre .0 .good .most, g .gather .ensures .0, g .gather .ensures .1)
 
 same-length : tie.Need-same-length
 same-length c = search Needs.needs
@@ -216,7 +216,7 @@ count-below-requires c κs =
     let t = c .before .before .before in
     let g = g2 t in
     let b = b0 g in
-    (low b, subst (λ v. v < 2 ^ depth (from b)) (sym (prefix t)) (top-lt (fnv (key b)) (depth (from b)) (fnv-lt (key b))), slotted b, z b .pre .0 .short, g .gather .ensures .0, g .gather .ensures .1)
+    (low b, subst (λ v. v < 2 ^ depth (from b)) (sym (prefix t)) (top-lt (fnv (key b)) (depth (from b)) (fnv-lt (key b))), slotted b, z b .pre .0 .good .most, g .gather .ensures .0, g .gather .ensures .1)
 
 free-pages-requires : tie.Need-free-pages-requires
 free-pages-requires c κs =

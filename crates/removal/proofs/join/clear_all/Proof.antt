@@ -6,9 +6,8 @@ use native.Mathlib.Omega.{arith}
 use lib.ListN.{drop, replicate}
 use denote.Ref.{now}
 use Rattle.hash.specs.Fnv.{fnv}
-use Rattle.store.proofs.Paging.Views.{setPage}
 use Rattle.store.specs.Moves.{pick, find, within}
-use Rattle.store.specs.Pages.{S1024, page, read, contents}
+use Rattle.store.specs.Pages.{S1024, page, read, contents, setPage}
 use Rattle.removal.specs.Join.{Emptied}
 use Rattle.directory.specs.Directory.{SoundPage}
 use Rattle.removal.proofs.Empties.{lowest, emptied-none, lowest-none, emptied-next, lowest-next, still}

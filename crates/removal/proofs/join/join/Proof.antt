@@ -5,9 +5,9 @@ use Prim.Native.Nat.{_+_, _-_, _*_, _<_}
 use native.Mathlib.Omega.{arith}
 use denote.Ref.{now}
 use Rattle.hash.specs.Fnv.{fnv}
-use Rattle.store.proofs.Paging.Views.{setPage, page-back}
+use Rattle.store.proofs.Paging.Views.{page-back}
 use Rattle.store.specs.Moves.{find, within}
-use Rattle.store.specs.Pages.{S1024, contents}
+use Rattle.store.specs.Pages.{S1024, contents, setPage}
 use Rattle.removal.specs.Join.{Rejoined, othersIn}
 use Rattle.removal.proofs.Joins.{fresh-taking, low-within, rejoined}
 use Rattle.removal.proofs.join.join.Statement.{statement}

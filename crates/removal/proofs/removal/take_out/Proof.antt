@@ -14,10 +14,9 @@ use Rattle.page.specs.Page.{depth, count}
 use Rattle.partition.specs.Bits.{top}
 use Rattle.partition.specs.Partition.{IsBucket}
 use Rattle.store.proofs.Accepted.Unique.{page-long}
-use Rattle.store.proofs.Paging.Views.{setPage}
 use Rattle.store.specs.Tables.{Becomes}
 use Rattle.store.specs.Moves.{removed}
-use Rattle.store.specs.Pages.{S1024, Page, page, contents, rowsHeld, deepestIn}
+use Rattle.store.specs.Pages.{S1024, Page, page, contents, rowsHeld, deepestIn, setPage}
 use Rattle.removal.specs.Remove.{Fits}
 use Rattle.removal.specs.Join.{Joinable, Rejoined}
 use Rattle.removal.specs.Prefix.{Climbed}
