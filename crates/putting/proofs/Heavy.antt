@@ -153,7 +153,7 @@ module _ (h : List ℕ → ℕ) (hash : Hash h) (s c pl : List ℕ) (P : Puttabl
         deep = shallow;
         prefix = top-lt (h c) (depth g) (hash c);
         long = A .long;
-        sound = unwritten h hash s A;
+        sound = unwritten S1024 sized-1024 h hash s A;
         from = λ _. U .from;
         to = U .to;
         room = λ m l f. subst (λ j. 0 < frees (written gs j (take m ns))) (sym (first-given gs p (U .from))) (room .step m (f (omega (arith, U .from))) l);
@@ -165,7 +165,7 @@ module _ (h : List ℕ → ℕ) (hash : Hash h) (s c pl : List ℕ) (P : Puttabl
             W .held ∙ (λ x. written gs (first-given gs p (U .from) x) (news x))
             ∙ sym (put-splits-is S1024 h hash (rowsHeld S1024 s) gs shows r (p - 2) (depth g) (rows g) (U .holding) starts heavy)
 
-        pub heavy-new : (u : List ℕ) → Directed h t (deepestIn (contents S1024 t)) (length s / 1024) u → ((k : ℕ) → byte u k < 256)
+        pub heavy-new : (u : List ℕ) → Directed S1024 h t (deepestIn (contents S1024 t)) (length s / 1024) u → ((k : ℕ) → byte u k < 256)
             → Answers (putAccepted S1024 h s (record { code = c; place = pl })) (new, u)
         heavy-new u D b =
             inr (
@@ -174,7 +174,7 @@ module _ (h : List ℕ → ℕ) (hash : Hash h) (s c pl : List ℕ) (P : Puttabl
                 (λ _. six),
                 inr (
                   (λ _. seven),
-                  (refl, rw (← holds) (settled h hash s A t (W .pages) u D (r ∷ rowsHeld S1024 s) (rw holds (put-shown S1024 h sized-1024 hash s r A absent six seven)) b)),
+                  (refl, rw (← holds) (settled S1024 sized-1024 h hash s A t (W .pages) u D (r ∷ rowsHeld S1024 s) (rw holds (put-shown S1024 h sized-1024 hash s r A absent six seven)) b)),
                 ),
               ),
             )

@@ -110,16 +110,16 @@ module _ (h : List ℕ → ℕ) (hash : Hash h) (s c pl : List ℕ) (P : Puttabl
     is : putNew S1024 h gs r ≡ set gs (find isFree gs) (bucket k (record-at 8 r ∷ []))
     is = put-unheld-is S1024 h hash (rowsHeld S1024 s) gs shows r (off S1024 h sized-1024 hash s A c unnamed) small k bare above
 
-    pub wrote : Rewritten s (setPage S1024 s f q)
-    wrote = rewritten-set s s (unwritten h hash s A) f (omega arith) to q (Q .page) (Q .long ∙ page-long S1024 s f to) (omega (arith, Q .deep, K .low, d-8))
+    pub wrote : Rewritten S1024 s (setPage S1024 s f q)
+    wrote = rewritten-set S1024 s s (unwritten S1024 sized-1024 h hash s A) f (omega arith) to q (Q .page) (Q .long ∙ page-long S1024 s f to) (omega (arith, Q .deep, K .low, d-8))
 
     holds : contents S1024 (setPage S1024 s f q) ≡ putNew S1024 h gs r
     holds =
         let i : f - 2 ≡ find isFree gs = omega arith in
-        set-holds s s (unwritten h hash s A) f (omega arith) to q (Q .page) (Q .long ∙ page-long S1024 s f to) (omega (arith, Q .deep, K .low, d-8))
+        set-holds S1024 s s (unwritten S1024 sized-1024 h hash s A) f (omega arith) to q (Q .page) (Q .long ∙ page-long S1024 s f to) (omega (arith, Q .deep, K .low, d-8))
         ∙ (λ x. set gs (i x) (bucket (Q .deep x) (Q .rowsOf x))) ∙ sym is
 
-    pub unheld-new : (u : List ℕ) → Directed h (setPage S1024 s f q) (deepestIn (contents S1024 (setPage S1024 s f q))) (length s / 1024) u → ((i : ℕ) → byte u i < 256)
+    pub unheld-new : (u : List ℕ) → Directed S1024 h (setPage S1024 s f q) (deepestIn (contents S1024 (setPage S1024 s f q))) (length s / 1024) u → ((i : ℕ) → byte u i < 256)
         → Answers (putAccepted S1024 h s (record { code = c; place = pl })) (new, u)
     unheld-new u D b =
         inr (
@@ -128,7 +128,7 @@ module _ (h : List ℕ → ℕ) (hash : Hash h) (s c pl : List ℕ) (P : Puttabl
             (λ _. six),
             inr (
               (λ _. room),
-              (refl, rw (← holds) (settled h hash s A (setPage S1024 s f q) wrote u D (r ∷ rowsHeld S1024 s) (rw holds (put-shown S1024 h sized-1024 hash s r A absent six room)) b)),
+              (refl, rw (← holds) (settled S1024 sized-1024 h hash s A (setPage S1024 s f q) wrote u D (r ∷ rowsHeld S1024 s) (rw holds (put-shown S1024 h sized-1024 hash s r A absent six room)) b)),
             ),
           ),
         )

@@ -92,13 +92,13 @@ pub record Writable (h : List ℕ → ℕ) (rs : List Row) (k v : ℕ) (s : List
   pub deep : k ≤ 8
   pub prefix : v < 2 ^ k
   pub long : GoodLength S1024 s
-  pub sound : Rewritten s s
+  pub sound : Rewritten S1024 s s
   pub from : 0 < at → 2 ≤ at
   pub to : at < pages S1024 s
   pub room : Room (contents S1024 s) at (pagesBelow h rs k v)
 
 -- and t is s with them, the first in page at unless that is 0, each next in the lowest free page; p is what is left of page at
 pub record BucketsWritten (h : List ℕ → ℕ) (rs : List Row) (k v : ℕ) (s : List ℕ) (at : ℕ) (t : List ℕ) (p : ℕ) : Type 0 where
-  pub pages : Rewritten s t
+  pub pages : Rewritten S1024 s t
   pub held : contents S1024 t ≡ written (contents S1024 s) (first (contents S1024 s) at) (pagesBelow h rs k v)
   pub then : p ≡ left at (pagesBelow h rs k v)

@@ -70,5 +70,5 @@ pub record Joinable (h : List ℕ → ℕ) (s : List ℕ) (j v : ℕ) (c : List 
 pub record Rejoined (h : List ℕ → ℕ) (s : List ℕ) (n j v : ℕ) (c t : List ℕ) : Type 0 where
   pub long : length t ≡ length s
   pub low : (k : ℕ) → k < 2048 → byte t k ≡ byte s k
-  pub sound : (p : ℕ) → 2 ≤ p → p < n → SoundPage (page S1024 t p)
+  pub sound : (p : ℕ) → 2 ≤ p → p < n → SoundPage S1024 (page S1024 t p)
   pub holds : contents S1024 t ≡ set (map (λ g. pick (within h j v g) free g) (contents S1024 s)) (find (within h j v) (contents S1024 s)) (bucket j (packFrom 8 (inOrder (othersIn h j v c (contents S1024 s)))))

@@ -24,12 +24,12 @@ fn take_out(s: &mut [u8], p: usize, i: usize, key: &[u8])
     let j = climb(s, x, k, 12 + key.len());
     if j < k {
         join(s, n, j, partition::top_bits(x, j), key);
-        settle(s, n);
+        settle(s, partition::S1024, n);
         return;
     }
     if words::get16(&s[a..e], 2) == 1 {
         page::clear_page(&mut s[a..e]);
-        settle(s, n);
+        settle(s, partition::S1024, n);
         return;
     }
     page::remove_slot(&mut s[a..e], i);

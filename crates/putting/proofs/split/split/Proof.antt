@@ -5,6 +5,7 @@ use Rattle.directory.proofs.OnePage.{lent}
 use Rattle.putting.specs.Split.{keyed, below, pagesBelow, Source, Writable, BucketsWritten}
 use Rattle.store.proofs.Put.EveryStep.{Roomy, every-step, packed-used}
 use Rattle.store.proofs.Accepted.Unique.{page-long}
+use Rattle.store.specs.Demands.{sized-1024}
 use Rattle.store.specs.Pages.{S1024, page, contents, asRow}
 use Rattle.partition.specs.Partition.{Row, needs, rowsOf}
 use Rattle.partition.proofs.Bits.{top-lt}
@@ -267,7 +268,7 @@ settle-requires : tie.Need-settle-requires
 settle-requires c κs =
     let y = c .before .before .before in
     let b = b4 (y .before .before .before .before .before) in
-    settling fnv fnv-lt (s b) (z b .pre .0 .accepted) (y .write-below .last .0) (y .write-below .ensures .pages)
+    (sized-1024, settling S1024 sized-1024 fnv fnv-lt (s b) (z b .pre .0 .accepted) (y .write-below .last .0) (y .write-below .ensures .pages))
 
 same-length-3 : tie.Need-same-length-3
 same-length-3 c = search Needs.needs

@@ -49,7 +49,7 @@ part-pack-into-start : tie.Need-part-pack-into-start
 part-pack-into-start c = search needs
 
 part-pack-into-end : tie.Need-part-pack-into-end
-part-pack-into-end c = let z = c .before .before .before .before .before .before .before .before .before .before .before .before .before in omega (arith, bound z, c .before .before .clear-all .ensures .1, c .before .before .clear-all .ensures .0 .long, z .pre .0 .size)
+part-pack-into-end c = let z = c .before .before .before .before .before .before .before .before .before .before .before .before .before in omega (arith, bound z, c .before .before .clear-all .ensures .1, c .before .before .clear-all .ensures .0 .long, z .pre .0 .long)
 
 slice-aggregate-pack-into : tie.Need-slice-aggregate-pack-into
 slice-aggregate-pack-into c = search needs
