@@ -38,59 +38,40 @@ fn four(h: u32, code: &[u8], i: usize) -> u32
     two(a, code, i + 2)
 }
 
-// Eight bytes from i on, taken in.
-fn eight(h: u32, code: &[u8], i: usize) -> u32
-    requires { ⌜ i + 8 ≤ length (now code) ⌝ }
-    ensures { λ r. ⌜ each r (drop (i + 8) (now (code .entry))) ≡ each h (drop i (now (code .entry))) ⌝ }
+// The last r bytes, from i on: none or one.
+fn last_one(h: u32, code: &[u8], i: usize, r: usize) -> u32
+    requires { ⌜ (i + r ≡ length (now code)) × (r < 2) ⌝ }
+    ensures { λ x. ⌜ x ≡ each h (drop i (now (code .entry))) ⌝ }
 {
-    let a = four(h, code, i);
-    four(a, code, i + 4)
-}
-
-// The last byte, where one is left from i on.
-fn last_one(h: u32, code: &[u8], i: usize) -> u32
-    requires { ⌜ (i ≤ length (now code)) × (length (now code) < i + 2) ⌝ }
-    ensures { λ r. ⌜ r ≡ each h (drop i (now (code .entry))) ⌝ }
-{
-    if i < code.len() {
-        return step(h, code[i]);
+    if r == 0 {
+        return h;
     }
-    h
+    step(h, code[i])
 }
 
-// The last bytes from i on, fewer than four.
-fn last_three(h: u32, code: &[u8], i: usize) -> u32
-    requires { ⌜ (i ≤ length (now code)) × (length (now code) < i + 4) ⌝ }
-    ensures { λ r. ⌜ r ≡ each h (drop i (now (code .entry))) ⌝ }
+// The last r bytes, from i on, fewer than four.
+fn last_three(h: u32, code: &[u8], i: usize, r: usize) -> u32
+    requires { ⌜ (i + r ≡ length (now code)) × (r < 4) ⌝ }
+    ensures { λ x. ⌜ x ≡ each h (drop i (now (code .entry))) ⌝ }
 {
-    if i + 2 <= code.len() {
-        let a = two(h, code, i);
-        return last_one(a, code, i + 2);
+    if r < 2 {
+        return last_one(h, code, i, r);
     }
-    last_one(h, code, i)
+    let a = two(h, code, i);
+    last_one(a, code, i + 2, r - 2)
 }
 
-// The last bytes from i on, fewer than eight.
-fn last_seven(h: u32, code: &[u8], i: usize) -> u32
-    requires { ⌜ (i ≤ length (now code)) × (length (now code) < i + 8) ⌝ }
-    ensures { λ r. ⌜ r ≡ each h (drop i (now (code .entry))) ⌝ }
-{
-    if i + 4 <= code.len() {
-        let a = four(h, code, i);
-        return last_three(a, code, i + 4);
-    }
-    last_three(h, code, i)
-}
-
-// The hash of any bytes, of any length: eight at a time, since a turn of a loop costs as much as a byte.
+// The hash of any bytes, of any length: four at a time, since a turn of a loop costs as much as a byte.
 pub fn hash(code: &[u8]) -> u32
     ensures { λ r. ⌜ r ≡ fnv (now (code .entry)) ⌝ }
 {
+    let r = code.len() % 4;
+    let n = code.len() - r;
     let mut h: u32 = 2166136261;
     let mut i = 0;
-    while i + 8 <= code.len() {
-        h = eight(h, code, i);
-        i += 8;
+    while i < n {
+        h = four(h, code, i);
+        i += 4;
     }
-    last_seven(h, code, i)
+    last_three(h, code, i, r)
 }
