@@ -1,4 +1,4 @@
--- Free pages, found and counted by the pages' first bytes. Assumes nothing.
+-- Free pages, found and counted by the pages' first bytes. Over any page size. Assumes nothing.
 use mathlib.Core.Path.{_≡_, refl, sym, ap, _∙_}
 use mathlib.Core.Bool.{true, false, true≢false}
 use mathlib.Core.List.{List, _∷_}
@@ -11,12 +11,13 @@ use lib.ListN.{length, getD, drop}
 use lib.Seq.{drop-cons, drop-length}
 use Rattle.ground.specs.Lists.{byte}
 use Rattle.ground.proofs.Sides.{side}
-use Rattle.store.specs.Pages.{S1024, pages, page, Page, free, bucket, read, reading, contents}
-use Rattle.store.specs.Moves.{find, isFree}
-use Rattle.store.proofs.Accepted.Unique.{held}
+use Rattle.partition.specs.declared.Shape.{Shape}
+use Rattle.store.specs.Pages.{size, pages, page, Page, free, bucket, read, reading, contents}
+use Rattle.store.specs.Moves.{find, isFree, frees}
+use Rattle.store.proofs.Accepted.Unique.{held, within as page-fits}
 use Rattle.store.proofs.Showing.Showing.{pages-held}
 use Rattle.store.proofs.Showing.Shown.{find-least}
-use Rattle.store.proofs.Showing.Rooms.{frees, find-free}
+use Rattle.store.proofs.Showing.Rooms.{find-free}
 use Rattle.store.proofs.Paging.Depths.{kind-byte}
 
 abbrev one : Page → ℕ
@@ -33,56 +34,60 @@ frees-step gs i l = ap frees (drop-cons gs i free l) ∙ frees-cons (getD gs i f
 pub frees-end : (gs : List Page) (i : ℕ) → i ≡ length gs → frees (drop i gs) ≡ 0
 frees-end gs i e = ap (λ n. frees (drop n gs)) e ∙ ap frees (drop-length gs)
 
-module _ (s : List ℕ) (p : ℕ) (two : 2 ≤ p) (to : p < pages S1024 s) where
-  reads : getD (contents S1024 s) (p - 2) free ≡ reading (byte s (p * 1024)) (page S1024 s p)
+module _ (S : Shape) (s : List ℕ) (p : ℕ) (two : 2 ≤ p) (to : p < pages S s) where
+  reads : getD (contents S s) (p - 2) free ≡ reading (byte s (p * size S)) (page S s p)
   unfolding read
-  reads = held S1024 s p two to ∙ ap (λ b. reading b (page S1024 s p)) (kind-byte S1024 s p)
+  reads = held S s p two to ∙ ap (λ b. reading b (page S s p)) (kind-byte S s p)
 
-  pub free-page : byte s (p * 1024) ≡ 0 → getD (contents S1024 s) (p - 2) free ≡ free
-  free-page e = reads ∙ ap (λ b. reading b (page S1024 s p)) e
+  pub free-page : byte s (p * size S) ≡ 0 → getD (contents S s) (p - 2) free ≡ free
+  free-page e = reads ∙ ap (λ b. reading b (page S s p)) e
 
-  pub used-page : (byte s (p * 1024) ≡ 0 → ⊥) → isFree (getD (contents S1024 s) (p - 2) free) ≡ false
-  used-page n = ap isFree reads ∙ go (byte s (p * 1024)) n
+  pub used-page : (byte s (p * size S) ≡ 0 → ⊥) → isFree (getD (contents S s) (p - 2) free) ≡ false
+  used-page n = ap isFree reads ∙ go (byte s (p * size S)) n
     where
-      go : (b : ℕ) → (b ≡ 0 → ⊥) → isFree (reading b (page S1024 s p)) ≡ false
+      go : (b : ℕ) → (b ≡ 0 → ⊥) → isFree (reading b (page S s p)) ≡ false
       go zero e = absurd (e refl)
       go (suc b) e = refl
 
-  there : p - 2 < length (contents S1024 s)
-  there = omega (arith, pages-held S1024 s)
+  there : p - 2 < length (contents S s)
+  there = omega (arith, pages-held S s)
 
   next : p - 2 + 1 ≡ p + 1 - 2
   next = omega arith
 
-  pub free-more : byte s (p * 1024) ≡ 0 → frees (drop (p - 2) (contents S1024 s)) ≡ 1 + frees (drop (p + 1 - 2) (contents S1024 s))
-  free-more e = frees-step (contents S1024 s) (p - 2) there ∙ (λ i. one (free-page e i) + frees (drop (next i) (contents S1024 s)))
+  pub free-more : byte s (p * size S) ≡ 0 → frees (drop (p - 2) (contents S s)) ≡ 1 + frees (drop (p + 1 - 2) (contents S s))
+  free-more e = frees-step (contents S s) (p - 2) there ∙ (λ i. one (free-page e i) + frees (drop (next i) (contents S s)))
 
-  pub used-more : (byte s (p * 1024) ≡ 0 → ⊥) → frees (drop (p - 2) (contents S1024 s)) ≡ frees (drop (p + 1 - 2) (contents S1024 s))
+  pub used-more : (byte s (p * size S) ≡ 0 → ⊥) → frees (drop (p - 2) (contents S s)) ≡ frees (drop (p + 1 - 2) (contents S s))
   used-more n =
-      frees-step (contents S1024 s) (p - 2) there ∙ ap (λ k. k + frees (drop (p - 2 + 1) (contents S1024 s))) (go (getD (contents S1024 s) (p - 2) free) (used-page n))
-      ∙ zero-add (frees (drop (p - 2 + 1) (contents S1024 s))) ∙ ap (λ k. frees (drop k (contents S1024 s))) next
+      frees-step (contents S s) (p - 2) there ∙ ap (λ k. k + frees (drop (p - 2 + 1) (contents S s))) (go (getD (contents S s) (p - 2) free) (used-page n))
+      ∙ zero-add (frees (drop (p - 2 + 1) (contents S s))) ∙ ap (λ k. frees (drop k (contents S s))) next
     where
       go : (g : Page) → isFree g ≡ false → one g ≡ 0
       go free e = let z : _≡_ {A = ℕ} 0 1 = cc in absurd (omega arith)
       go (bucket k rs) e = refl
 
 -- a search from page 2 upward for the lowest free page, where one is free
-module _ (s : List ℕ) (some : 0 < frees (contents S1024 s)) where
+module _ (S : Shape) (s : List ℕ) (some : 0 < frees (contents S s)) where
   -- it stays among the pages
-  pub found-there : 2 + find isFree (contents S1024 s) < pages S1024 s
-  found-there = omega (arith, find-free (contents S1024 s) some .0, pages-held S1024 s)
+  pub found-there : 2 + find isFree (contents S s) < pages S s
+  found-there = omega (arith, find-free (contents S s) some .0, pages-held S s)
 
-  module _ (p : ℕ) (two : 2 ≤ p) (to : p ≤ 2 + find isFree (contents S1024 s)) where
-    within : p < pages S1024 s
+  module _ (p : ℕ) (two : 2 ≤ p) (to : p ≤ 2 + find isFree (contents S s)) where
+    within : p < pages S s
     within = omega (arith, found-there)
 
+    -- and lies in the store
+    pub page-there : p * size S + size S ≤ length s
+    page-there = page-fits S s p within
+
     -- a page in use is passed
-    pub passed : (byte s (p * 1024) ≡ 0 → ⊥) → p + 1 ≤ 2 + find isFree (contents S1024 s)
-    passed n = ⊎-elim (λ l. omega arith) (λ l. absurd (here (omega arith))) (side p (2 + find isFree (contents S1024 s)))
+    pub passed : (byte s (p * size S) ≡ 0 → ⊥) → p + 1 ≤ 2 + find isFree (contents S s)
+    passed n = ⊎-elim (λ l. omega arith) (λ l. absurd (here (omega arith))) (side p (2 + find isFree (contents S s)))
       where
-        here : p - 2 ≡ find isFree (contents S1024 s) → ⊥
-        here e = let z : true ≡ false = sym (ap isFree (find-free (contents S1024 s) some .1)) ∙ ap (λ i. isFree (getD (contents S1024 s) i free)) (sym e) ∙ used-page s p two within n in true≢false z
+        here : p - 2 ≡ find isFree (contents S s) → ⊥
+        here e = let z : true ≡ false = sym (ap isFree (find-free (contents S s) some .1)) ∙ ap (λ i. isFree (getD (contents S s) i free)) (sym e) ∙ used-page S s p two within n in true≢false z
 
     -- a free page is the lowest
-    pub lowest : byte s (p * 1024) ≡ 0 → p ≡ 2 + find isFree (contents S1024 s)
-    lowest e = omega (arith, find-least isFree (contents S1024 s) (p - 2) (omega (arith, within, pages-held S1024 s)) (ap isFree (free-page s p two within e)))
+    pub lowest : byte s (p * size S) ≡ 0 → p ≡ 2 + find isFree (contents S s)
+    lowest e = omega (arith, find-least isFree (contents S s) (p - 2) (omega (arith, within, pages-held S s)) (ap isFree (free-page S s p two within e)))

@@ -10,7 +10,7 @@ use lib.ListN.{length, take, drop, set}
 use Rattle.ground.specs.Lists.{byte}
 use Rattle.page.specs.Page.{Record, BucketPage, depth, rows}
 use Rattle.partition.specs.declared.Shape.{Shape}
-use Rattle.store.specs.Pages.{S1024, size, pages, page, dirDepth, entryAt, Page, bucket, read, depthOn, deepestIn}
+use Rattle.store.specs.Pages.{S1024, size, pages, page, dirDepth, entryAt, Page, bucket, read, depthOn, deepestIn, setPage}
 use Rattle.store.specs.Accepted.{Calls}
 use Rattle.store.specs.Demands.{Sized}
 use Rattle.store.proofs.Showing.Shows.{prefixOn, Holding}
@@ -19,7 +19,7 @@ use Rattle.store.proofs.Showing.Rooms.{bucket-one, held-set, set-holds, set-oth
 use Rattle.store.proofs.Accepted.Unique.{read-used}
 use Rattle.store.proofs.Accepted.Named.{Entry, nothing, names}
 use Rattle.store.proofs.Accepted.Accepting.{Whole, Laid, head-kept}
-use Rattle.store.proofs.Paging.Views.{setPage, page-lent, page-back, set-long, set-pages, set-same, set-other, set-below, set-depth, set-entry, set-contents}
+use Rattle.store.proofs.Paging.Views.{page-lent, page-back, set-long, set-pages, set-same, set-other, set-below, set-depth, set-entry, set-contents}
 
 -- a page of the same depth leaves the largest depth
 pub deepest-set : (gs : List Page) (i k : ℕ) (rs qs : List Record) → Holding gs i k rs → deepestIn (set gs i (bucket k qs)) ≡ deepestIn gs

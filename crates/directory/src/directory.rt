@@ -1,56 +1,58 @@
-// Depth and directory, written from the pages.
-ghost use Prim.Native.Nat.{_+_, _*_, _≤_, _<_};
-ghost use lib.ListN.{length};
+// Depth and directory, written from the pages. Over any page shape.
 ghost use Rattle.hash.specs.Fnv.{fnv};
-ghost use Rattle.store.specs.Pages.{S1024, page, contents, deepestIn};
-ghost use Rattle.directory.specs.Directory.{RunSet, PageNamed, Nameable, Directable, Directed, Settling};
+ghost use Rattle.store.specs.Pages.{contents, deepestIn};
+ghost use Rattle.store.specs.Demands.{Sized};
+ghost use Rattle.directory.specs.Directory.{RunSet, Runnable, PageNamed, PageOf, Directable, Directed, Settling};
+use partition::Shape;
 
 // The entries from a up to b name page p.
-fn set_run(s: &mut [u8], a: usize, b: usize, p: usize)
-    requires { ⌜ (2048 ≤ length (now s)) × (a ≤ b) × (b ≤ 256) × (p < 4294967296) ⌝ }
-    ensures { λ _. ⌜ RunSet (now (s .entry)) a b p (now (s .exit)) ⌝ }
+fn set_run(s: &mut [u8], z: Shape, a: usize, b: usize, p: usize)
+    requires { ⌜ Sized z × Runnable z (now s) a b p ⌝ }
+    ensures { λ _. ⌜ RunSet z (now (s .entry)) a b p (now (s .exit)) ⌝ }
 {
     let mut i = a;
     while i < b {
-        words::put32(s, 1024 + 4 * i, p);
+        words::put32(s, 8 + z.capacity + 4 * i, p);
         i += 1;
     }
 }
 
 // The entries that page p calls for name it.
-fn name_page(s: &mut [u8], p: usize, d: u32)
-    requires { ⌜ (2 ≤ p) × (p < 258) × (p * 1024 + 1024 ≤ length (now s)) × (d ≤ 8) × Nameable d (page S1024 (now s) p) ⌝ }
-    ensures { λ _. ⌜ PageNamed fnv (now (s .entry)) d p (now (s .exit)) ⌝ }
+fn name_page(s: &mut [u8], z: Shape, p: usize, d: u32)
+    requires { ⌜ Sized z × PageOf z (now s) d p ⌝ }
+    ensures { λ _. ⌜ PageNamed z fnv (now (s .entry)) d p (now (s .exit)) ⌝ }
 {
-    let a = p * 1024;
-    let e = a + 1024;
+    let size = 8 + z.capacity;
+    let a = p * size;
+    let e = a + size;
     if s[a] == 1 {
         let k = s[a + 1] as u32;
         let x = page_check::hash_slot(&s[a..e], 0);
         let r = partition::run_of(x, k, d);
-        set_run(s, r.from, r.to, p);
+        set_run(s, z, r.from, r.to, p);
     }
 }
 
 // Depth d, and the directory of the n pages.
-fn write_directory(s: &mut [u8], n: usize, d: u32)
-    requires { ⌜ Directable (now s) n d ⌝ }
-    ensures { λ _. ⌜ Directed fnv (now (s .entry)) d n (now (s .exit)) ⌝ }
+fn write_directory(s: &mut [u8], z: Shape, n: usize, d: u32)
+    requires { ⌜ Sized z × Directable z (now s) n d ⌝ }
+    ensures { λ _. ⌜ Directed z fnv (now (s .entry)) d n (now (s .exit)) ⌝ }
 {
     words::put32(s, 16, d as usize);
-    words::clear(s, 1024, 2048);
+    let size = 8 + z.capacity;
+    words::clear(s, size, 2 * size);
     let mut p = 2;
     while p < n {
-        name_page(s, p, d);
+        name_page(s, z, p, d);
         p += 1;
     }
 }
 
 // Directory and depth are then as defined: those of the pages.
-pub fn settle(s: &mut [u8], n: usize)
-    requires { ⌜ Settling (now s) n ⌝ }
-    ensures { λ _. ⌜ Directed fnv (now (s .entry)) (deepestIn (contents S1024 (now (s .entry)))) n (now (s .exit)) ⌝ }
+pub fn settle(s: &mut [u8], z: Shape, n: usize)
+    requires { ⌜ Sized z × Settling z (now s) n ⌝ }
+    ensures { λ _. ⌜ Directed z fnv (now (s .entry)) (deepestIn (contents z (now (s .entry)))) n (now (s .exit)) ⌝ }
 {
-    let d = store::deepest(s, partition::S1024, n);
-    write_directory(s, n, d as u32);
+    let d = store::deepest(s, z, n);
+    write_directory(s, z, n, d as u32);
 }

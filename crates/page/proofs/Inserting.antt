@@ -89,11 +89,11 @@ module _ (p : List ℕ) (s : ℕ) (c pl q : List ℕ) (I : Insertable p s c pl) 
 
   new-len : len q s ≡ 8 + length c
   unfolding len
-  new-len = omega (arith, P .new, I .room, I .page .most, I .most)
+  new-len = omega (arith, P .new, I .room, I .page .most, I .good .most)
 
   new-kind : kind q s ≡ 1
   unfolding kind
-  new-kind = omega (arith, P .new, I .room, I .page .most, I .most)
+  new-kind = omega (arith, P .new, I .room, I .page .most, I .good .most)
 
   new-place : place q s ≡ pl
   unfolding place
@@ -116,8 +116,8 @@ module _ (p : List ℕ) (s : ℕ) (c pl q : List ℕ) (I : Insertable p s c pl) 
   fine-new : SlotNumbers (frontier q) (off q s) (len q s) (kind q s) (place q s)
   fine-new = record {
     kind-one = new-kind;
-    short = omega (arith, new-len, I .some);
-    long = omega (arith, new-len, I .most);
+    short = omega (arith, new-len, I .good .least);
+    long = omega (arith, new-len, I .good .most);
     after = omega (arith, new-off, I .page .start);
     inside = omega (arith, new-off, new-len, P .fronted);
     natural = rw new-place (I .natural);

@@ -15,7 +15,7 @@ use Rattle.page.specs.Steps.{Headed, Insertable, Inserted}
 use Rattle.page.proofs.Slots.{Lies, lies}
 use Rattle.ground.proofs.Tables.{total-same}
 use Rattle.page.specs.Packed.{Fresh, PackedRow, PackedTo, Packed, Fitting, Startable, Started}
-use Rattle.page.proofs.Sums.{total-more, total-none, total-le, total-need, len-of-code, count-more, row-lo, row-at}
+use Rattle.page.proofs.Sums.{total-more, total-none, total-le, total-need, len-of-code, slot-code, count-more, row-lo, row-at}
 
 -- a page cleared from end to end
 pub blank : {p q : List ℕ} → Cleared p 0 (length p) q → q ≡ replicate (length p) 0
@@ -98,8 +98,7 @@ module _ (p : List ℕ) (i : ℕ) (q : List ℕ) (P : Slotted p) (K : PackedTo p
       right = λ j m n. absurd (omega (arith, K .counted));
     };
     natural = P .places i h;
-    some = omega (arith, len-of-code p i P h);
-    most = omega (arith, len-of-code p i P h);
+    good = slot-code p i P h;
     fits = omega (arith, len-of-code p i P h, needs-fit p i P h, needs-are p i q K, K .page .unused, K .long);
     room = omega (arith, len-of-code p i P h, needs-fit p i P h, frontier-is p i q K, total-need p i, K .long, K .counted, P .least);
   }
@@ -148,8 +147,7 @@ once-packed {p} {c} {pl} {q} {s} F K = record {
     right = λ j m n. let l : j < count p = omega (arith, K .counted) in rw (K .each j l .coded) (F .belongs .right j m l);
   };
   natural = F .natural;
-  some = F .some;
-  most = F .most;
+  good = F .good;
   fits = omega (arith, F .fits, F .page .unused, K .page .unused, K .long, needs-are p (count p) q K);
   room = omega (arith, F .fits, F .page .unused, F .page .least, K .long, K .counted, frontier-is p (count p) q K, total-need p (count p));
 }
@@ -159,8 +157,7 @@ first {p} {c} {pl} {q} {d} S F = record {
   page = F .page;
   belongs = record { within = omega arith; left = λ i h. absurd (omega arith); right = λ i h m. absurd (omega (arith, F .none)) };
   natural = S .natural;
-  some = S .some;
-  most = S .short;
+  good = S .good;
   fits = let u : free q + total (need q) 0 ≡ length q - 8 = rw (F .none) at (F .page .unused) in omega (arith, u, total-none (need q), F .long, S .room);
   room = omega (arith, F .page .empty (F .none), F .none, F .long, S .room);
 }

@@ -8,6 +8,7 @@ use lib.ListN.{length, getD, take, drop, length-append, length-take, length-drop
 use lib.Seq.{getD-take, getD-append-seam, length-take-le}
 use Rattle.ground.specs.Lists.{part, total, insertAt}
 use Rattle.ground.proofs.Parts.{length-part}
+use Rattle.words.specs.Codes.{GoodCode}
 use Rattle.page.specs.Page.{Slotted, BucketPage, Record, rows, rowAt, count, frontier, off, len, code, place, need}
 use Rattle.page.specs.Steps.{Inserted}
 use Rattle.page.proofs.Slots.{Lies, lies}
@@ -57,6 +58,9 @@ row-count p b l = (b .some, omega (arith, row-room p (b .rules)))
 pub len-of-code : (p : List ℕ) (i : ℕ) → Slotted p → i < count p → len p i ≡ 8 + length (code p i)
 unfolding code
 len-of-code p i b h = let l : Lies p i = lies i b h in omega (arith, length-part p (off p i + 8) (len p i - 8) (omega arith))
+
+pub slot-code : (p : List ℕ) (i : ℕ) → Slotted p → i < count p → GoodCode (code p i)
+slot-code p i b h = let l : Lies p i = lies i b h in record { least = omega (arith, len-of-code p i b h); most = omega (arith, len-of-code p i b h) }
 
 module _ (p : List ℕ) (s : ℕ) (c pl q : List ℕ) (I : Inserted p s c pl q) (h : s ≤ count p) where
   pub count-more : count q ≡ count p + 1

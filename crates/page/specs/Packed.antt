@@ -4,6 +4,7 @@ use mathlib.Core.Path.{_≡_}
 use mathlib.Core.List.{List, [], _∷_}
 use lib.ListN.{length}
 use Rattle.ground.specs.Lists.{total}
+use Rattle.words.specs.Codes.{GoodCode}
 use Rattle.page.specs.Page.{Slotted, BucketPage, Belongs, Natural, rows, depth, count, frontier, free, off, len, place, code}
 use Rattle.page.specs.Steps.{Inserted}
 
@@ -37,8 +38,7 @@ pub record Fitting (p : List ℕ) (s : ℕ) (c pl : List ℕ) : Type 0 where
   pub page : Slotted p
   pub belongs : Belongs p s c
   pub natural : Natural pl
-  pub some : 1 ≤ length c
-  pub most : length c ≤ 64
+  pub good : GoodCode c
   pub fits : 12 + length c ≤ free p
 
 -- If the room between frontier and slots is at least the need, the record goes at the frontier. Else the page is packed first, then the same.
@@ -52,8 +52,7 @@ pub record Startable (p : List ℕ) (c pl : List ℕ) : Type 0 where
   pub least : 16 ≤ length p
   pub most : length p ≤ 16384
   pub natural : Natural pl
-  pub some : 1 ≤ length c
-  pub short : length c ≤ 64
+  pub good : GoodCode c
   pub room : 20 + length c ≤ length p
 
 -- a page of one row

@@ -4,6 +4,7 @@ use mathlib.Core.Path.{_≡_}
 use mathlib.Core.List.{List}
 use lib.ListN.{length, set}
 use Rattle.ground.specs.Lists.{byte, part, insertAt, removeAt}
+use Rattle.words.specs.Codes.{GoodCode}
 use Rattle.words.specs.Moves.{Frame}
 use Rattle.page.specs.Page.{Slotted, Belongs, Natural, rows, count, frontier, free, depth, slotAt, word, off, len, code}
 
@@ -31,8 +32,7 @@ pub record Insertable (p : List ℕ) (s : ℕ) (c pl : List ℕ) : Type 0 where
   pub page : Slotted p
   pub belongs : Belongs p s c
   pub natural : Natural pl
-  pub some : 1 ≤ length c
-  pub most : length c ≤ 64
+  pub good : GoodCode c
   pub fits : 12 + length c ≤ free p
   pub room : frontier p + 8 + length c + 4 * (count p + 1) ≤ length p
 

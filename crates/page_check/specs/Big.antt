@@ -1,9 +1,21 @@
 -- Bytes as one number, the first the highest. Assumes nothing.
-use Prim.Native.Nat.{ℕ, zero, suc, _+_, _*_}
+use Prim.Native.Nat.{ℕ, zero, suc, _+_, _*_, _≤_}
+use mathlib.Core.Path.{_≡_}
+use mathlib.Core.Logic.{_⊎_}
 use mathlib.Core.List.{List}
+use lib.ListN.{length}
 use Rattle.ground.specs.Lists.{byte}
 
 -- the n bytes of s from k
 unfoldable pub big : ℕ → List ℕ → ℕ → ℕ
 big zero s k = zero
 big (suc n) s k = 256 * big n s k + byte s (k + n)
+
+-- bytes a up to b of p
+pub record Stretch (p : List ℕ) (a b : ℕ) : Type 0 where
+  pub order : a ≤ b
+  pub within : b ≤ length p
+
+-- the first eight of the bytes a up to b as one number; where there are fewer, the greatest number of 64 bits
+abbrev pub Lead : List ℕ → ℕ → ℕ → ℕ → Type 0
+Lead p a b n = ((a + 8 ≤ b) × (n ≡ big 8 p a)) ⊎ (n ≡ 18446744073709551615)

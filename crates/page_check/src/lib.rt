@@ -12,7 +12,7 @@ ghost use Rattle.partition.specs.Bits.{top};
 ghost use Rattle.page.specs.Page.{BucketPage, depth, count, frontier, code};
 ghost use Rattle.page_check.specs.Rules.{HeadOk, NaturalAt, WordOk, SlotsOk, offOf, lenOf};
 ghost use Rattle.page_check.specs.Table.{Table, Inside, Laid, NextOk};
-ghost use Rattle.page_check.specs.Big.{big};
+ghost use Rattle.page_check.specs.Big.{big, Stretch, Lead};
 ghost use Rattle.page_check.specs.Shared.{Alike, Share, Keeps};
 use words::Order;
 
@@ -57,17 +57,16 @@ fn word_ok(page: &[u8], f: usize, w: usize) -> bool
     requires { ⌜ f ≤ length (now page) ⌝ }
     ensures { λ r. ⌜ Says r (WordOk (now (page .entry)) f w) ⌝ }
 {
-    if w / 268435456 != 1 {
+    // 1 above a length of 9 to 72, in one look
+    let t = w / 16384;
+    if t < 16393 {
+        return false;
+    }
+    if 16456 < t {
         return false;
     }
     let o = w % 16384;
-    let l = w / 16384 % 16384;
-    if l < 9 {
-        return false;
-    }
-    if 72 < l {
-        return false;
-    }
+    let l = t - 16384;
     if o < 8 {
         return false;
     }
@@ -77,72 +76,70 @@ fn word_ok(page: &[u8], f: usize, w: usize) -> bool
     natural_at(page, o)
 }
 
-fn wide(x: u8) -> u64
-    ensures { λ r. ⌜ (r ≡ x) × (r < 256) ⌝ }
-{
-    x as u64
-}
-
-// q above the k bits of low.
-fn on(q: u64, k: u32, low: u64) -> u64
-    requires { ⌜ (q < 256) × (k ≤ 56) × (low < 2 ^ k) ⌝ }
-    ensures { λ r. ⌜ r ≡ q * 2 ^ k + low ⌝ }
-{
-    q << k | low
-}
-
 // Four bytes as one number, and eight: nested so that they become one load.
-fn join4(a: u64, b: u64, c: u64, d: u64) -> u64
+fn join4(a: usize, b: usize, c: usize, d: usize) -> usize
     requires { ⌜ (a < 256) × (b < 256) × (c < 256) × (d < 256) ⌝ }
     ensures { λ r. ⌜ (r ≡ a * 16777216 + (b * 65536 + (c * 256 + d))) × (r < 4294967296) ⌝ }
 {
-    on(a, 24, on(b, 16, on(c, 8, d)))
+    words::on(a, 24, words::on(b, 16, words::on(c, 8, d)))
 }
 
-fn join8(a: u64, b: u64, c: u64, d: u64, e: u64, f: u64, g: u64, h: u64) -> u64
+fn join8(a: usize, b: usize, c: usize, d: usize, e: usize, f: usize, g: usize, h: usize) -> usize
     requires { ⌜ (a < 256) × (b < 256) × (c < 256) × (d < 256) × (e < 256) × (f < 256) × (g < 256) × (h < 256) ⌝ }
     ensures { λ r. ⌜ r ≡ (a * 16777216 + (b * 65536 + (c * 256 + d))) * 4294967296 + (e * 16777216 + (f * 65536 + (g * 256 + h))) ⌝ }
 {
-    on(a, 56, on(b, 48, on(c, 40, on(d, 32, join4(e, f, g, h)))))
+    words::on(
+        a,
+        56,
+        words::on(b, 48, words::on(c, 40, words::on(d, 32, join4(e, f, g, h)))),
+    )
 }
 
 // The eight bytes at k as one number, the first the highest.
-fn be64(s: &[u8], k: usize) -> u64
+fn be64(s: &[u8], k: usize) -> usize
     requires { ⌜ k + 8 ≤ length (now s) ⌝ }
     ensures { λ r. ⌜ r ≡ big 8 (now (s .entry)) k ⌝ }
 {
     join8(
-        wide(s[k]),
-        wide(s[k + 1]),
-        wide(s[k + 2]),
-        wide(s[k + 3]),
-        wide(s[k + 4]),
-        wide(s[k + 5]),
-        wide(s[k + 6]),
-        wide(s[k + 7]),
+        words::wide(s[k]),
+        words::wide(s[k + 1]),
+        words::wide(s[k + 2]),
+        words::wide(s[k + 3]),
+        words::wide(s[k + 4]),
+        words::wide(s[k + 5]),
+        words::wide(s[k + 6]),
+        words::wide(s[k + 7]),
     )
 }
 
-// Whether the first eight bytes alone show that the code from a up to b comes before the one from x up to y.
-fn leads(page: &[u8], a: usize, b: usize, x: usize, y: usize) -> bool
-    requires { ⌜ (a ≤ b) × (b ≤ length (now page)) × (x ≤ y) × (y ≤ length (now page)) ⌝ }
-    ensures { λ r. ⌜ (r ≡ true → Before (part (now (page .entry)) a (b - a)) (part (now (page .entry)) x (y - x))) ⌝ }
+// The first eight bytes of the code from x up to y as one number; where it has fewer, the greatest number.
+fn lead_of(page: &[u8], x: usize, y: usize) -> usize
+    requires { ⌜ Stretch (now page) x y ⌝ }
+    ensures { λ r. ⌜ Lead (now (page .entry)) x y r ⌝ }
 {
-    if b - a < 8 {
-        return false;
+    if y - x < 8 {
+        return usize::MAX;
     }
+    be64(page, x)
+}
+
+// Whether the first eight bytes alone show that a code of that lead comes before the one from x up to y.
+fn leads(page: &[u8], lead: usize, x: usize, y: usize) -> bool
+    requires { ⌜ Stretch (now page) x y ⌝ }
+    ensures { λ r. ⌜ (r ≡ true → (x + 8 ≤ y) × (lead < big 8 (now (page .entry)) x) × (lead < 18446744073709551615)) ⌝ }
+{
     if y - x < 8 {
         return false;
     }
-    be64(page, a) < be64(page, x)
+    lead < be64(page, x)
 }
 
-// Whether the code from a up to b comes before the one from x up to y.
-fn rises(page: &[u8], a: usize, b: usize, x: usize, y: usize) -> bool
-    requires { ⌜ (a ≤ b) × (b ≤ length (now page)) × (x ≤ y) × (y ≤ length (now page)) ⌝ }
+// Whether the code from a up to b, which has that lead, comes before the one from x up to y.
+fn rises(page: &[u8], a: usize, b: usize, lead: usize, x: usize, y: usize) -> bool
+    requires { ⌜ Stretch (now page) a b × Lead (now page) a b lead × Stretch (now page) x y ⌝ }
     ensures { λ r. ⌜ Says r (Before (part (now (page .entry)) a (b - a)) (part (now (page .entry)) x (y - x))) ⌝ }
 {
-    if leads(page, a, b, x, y) {
+    if leads(page, lead, x, y) {
         return true;
     }
     match words::compare(&page[a..b], &page[x..y]) {
@@ -152,9 +149,9 @@ fn rises(page: &[u8], a: usize, b: usize, x: usize, y: usize) -> bool
     }
 }
 
-// A slot's word after a code from a up to b: its rules, code order, and its length entered at its start, where none was.
-fn next_ok(page: &[u8], tab: &mut [u8], f: usize, a: usize, b: usize, w: usize) -> bool
-    requires { ⌜ (f ≤ length (now page)) × (a ≤ b) × (b ≤ length (now page)) × (length (now tab) ≡ length (now page)) ⌝ }
+// A slot's word after a code from a up to b, which has that lead: its rules, code order, and its length entered at its start, where none was.
+fn next_ok(page: &[u8], tab: &mut [u8], f: usize, a: usize, b: usize, lead: usize, w: usize) -> bool
+    requires { ⌜ (f ≤ length (now page)) × Stretch (now page) a b × Lead (now page) a b lead × (length (now tab) ≡ length (now page)) ⌝ }
     ensures says { λ r. ⌜ Says r (NextOk (now (page .entry)) (now (tab .entry)) f a b w) ⌝ }
     ensures entered { λ r. ⌜ (r ≡ true → now (tab .exit) ≡ set (now (tab .entry)) (offOf w) (lenOf w)) ⌝ }
     ensures kept { λ r. ⌜ (r ≡ false → now (tab .exit) ≡ now (tab .entry)) ⌝ }
@@ -164,7 +161,7 @@ fn next_ok(page: &[u8], tab: &mut [u8], f: usize, a: usize, b: usize, w: usize) 
     }
     let o = w % 16384;
     let l = w / 16384 % 16384;
-    if !rises(page, a, b, o + 8, o + l) {
+    if !rises(page, a, b, lead, o + 8, o + l) {
         return false;
     }
     if tab[o] != 0 {
@@ -184,15 +181,17 @@ fn slots_ok(page: &[u8], tab: &mut [u8], n: usize, f: usize) -> bool
     let mut i = 0;
     let mut a = 8;
     let mut b = 8;
+    let mut lead = usize::MAX;
     let mut needs = 0;
     while i < n {
         let w = words::get32(page, page.len() - 4 * (i + 1));
-        if !next_ok(page, tab, f, a, b, w) {
+        if !next_ok(page, tab, f, a, b, lead, w) {
             return false;
         }
         let l = w / 16384 % 16384;
         a = w % 16384 + 8;
         b = w % 16384 + l;
+        lead = lead_of(page, a, b);
         needs = needs + 4 + l;
         i += 1;
     }

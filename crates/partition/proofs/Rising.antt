@@ -8,8 +8,8 @@ use native.Mathlib.Omega.{arith}
 use Rattle.ground.specs.Lists.{insertAt, removeAt, tab}
 use Rattle.words.specs.Codes.{order, Before}
 use Rattle.words.proofs.Orders.{order-refl, order-eq, after-order, is-after, is-before, gt-or, not-gt, irrefl, before-trans}
-use Rattle.partition.specs.Listing.{by, insert, without}
-use Rattle.partition.proofs.Strict.{Strict, strict-ext}
+use Rattle.partition.specs.Listing.{by, insert, without, Rising}
+use Rattle.partition.proofs.Strict.{strict-ext}
 
 by-gt : {A : Type 0} (o : Ordering) (a b c : A) → o ≡ Ordering·gt → by o a b c ≡ c
 by-gt o a b c e = ap (λ p. by p a b c) e
@@ -55,11 +55,7 @@ module _ {A : Type 0} (code : A → List ℕ) where
   abbrev pub Ahead : A → List A → Type 0
   Ahead a l = (b : A) → List·Memᴰ b l → Before (code a) (code b)
 
-  -- in code order, strictly ascending
-  abbrev pub Rising : List A → Type 0
-  Rising l = Strict (λ a b. Before (code a) (code b)) l
-
-  pub rising-tab : (f : ℕ → A) (n : ℕ) → ((i j : ℕ) → i < j → j < n → Before (code (f i)) (code (f j))) → Rising (tab f n)
+  pub rising-tab : (f : ℕ → A) (n : ℕ) → ((i j : ℕ) → i < j → j < n → Before (code (f i)) (code (f j))) → Rising code (tab f n)
   unfolding tab
   rising-tab f zero u = tt
   rising-tab f (suc n) u = (
@@ -68,7 +64,7 @@ module _ {A : Type 0} (code : A → List ℕ) where
   )
 
   -- two lists in order with the same members are equal
-  pub rising-ext : (s t : List A) → Rising s → Rising t → ((a : A) → List·Memᴰ a s → List·Memᴰ a t) → ((a : A) → List·Memᴰ a t → List·Memᴰ a s) → s ≡ t
+  pub rising-ext : (s t : List A) → Rising code s → Rising code t → ((a : A) → List·Memᴰ a s → List·Memᴰ a t) → ((a : A) → List·Memᴰ a t → List·Memᴰ a s) → s ≡ t
   rising-ext = strict-ext (λ a b. Before (code a) (code b)) (λ a b x y. irrefl (code a) (before-trans x y))
 
   -- ---- insertion
@@ -108,17 +104,17 @@ module _ {A : Type 0} (code : A → List ℕ) where
       go Ordering·gt t f = past (List·Memᴰ·cases-cons t) f
 
   -- a new code put in keeps the order
-  pub insert-rising : (r : A) (l : List A) → ((b : A) → List·Memᴰ b l → order (code r) (code b) ≡ Ordering·eq → ⊥) → Rising l → Rising (insert code r l)
-  insert-rising r [] new u = subst Rising (sym (insert-nil r)) ((λ b m. absurd (List·Memᴰ·not-nil m)), tt)
+  pub insert-rising : (r : A) (l : List A) → ((b : A) → List·Memᴰ b l → order (code r) (code b) ≡ Ordering·eq → ⊥) → Rising code l → Rising code (insert code r l)
+  insert-rising r [] new u = subst (Rising code) (sym (insert-nil r)) ((λ b m. absurd (List·Memᴰ·not-nil m)), tt)
   insert-rising r (x ∷ l) new u = go (gt-or (code r) (code x)) (insert-rising r l (λ b m. new b (List·Memᴰ·tail m)) (u .1))
     where
-      go : (order (code r) (code x) ≡ Ordering·gt) ⊎ (order (code r) (code x) ≡ Ordering·gt → ⊥) → Rising (insert code r l) → Rising (insert code r (x ∷ l))
-      go (inl g) i = subst Rising (sym (insert-gt r x l g)) ((λ b m. ahead b (insert-member r l b m)), i)
+      go : (order (code r) (code x) ≡ Ordering·gt) ⊎ (order (code r) (code x) ≡ Ordering·gt → ⊥) → Rising code (insert code r l) → Rising code (insert code r (x ∷ l))
+      go (inl g) i = subst (Rising code) (sym (insert-gt r x l g)) ((λ b m. ahead b (insert-member r l b m)), i)
         where
           ahead : (b : A) → (b ≡ r) ⊎ List·Memᴰ b l → Before (code x) (code b)
           ahead b (inl e) = subst (λ y. Before (code x) (code y)) (sym e) (is-after (code r) (code x) g)
           ahead b (inr t) = u .0 b t
-      go (inr n) i = subst Rising (sym (insert-le r x l n)) ((λ b m. ahead b (List·Memᴰ·cases-cons m)), u)
+      go (inr n) i = subst (Rising code) (sym (insert-le r x l n)) ((λ b m. ahead b (List·Memᴰ·cases-cons m)), u)
         where
           first : Before (code r) (code x)
           first = is-before (code r) (code x) n (new x (List·Memᴰ·head refl))
@@ -163,12 +159,12 @@ module _ {A : Type 0} (code : A → List ℕ) where
       go Ordering·gt t f = step (List·Memᴰ·cases-cons t) f
 
   -- keeps the order
-  pub without-rising : (c : List ℕ) (l : List A) → Rising l → Rising (without code c l)
+  pub without-rising : (c : List ℕ) (l : List A) → Rising code l → Rising code (without code c l)
   unfolding without
   without-rising c [] u = tt
   without-rising c (x ∷ l) u = go (order c (code x)) (λ b m. u .0 b (without-member c l b m)) (without-rising c l (u .1))
     where
-      go : (o : Ordering) → Ahead x (without code c l) → Rising (without code c l) → Rising (by o (x ∷ without code c l) (without code c l) (x ∷ without code c l))
+      go : (o : Ordering) → Ahead x (without code c l) → Rising code (without code c l) → Rising code (by o (x ∷ without code c l) (without code c l) (x ∷ without code c l))
       go Ordering·lt a i = (a, i)
       go Ordering·eq a i = i
       go Ordering·gt a i = (a, i)

@@ -11,12 +11,12 @@ use Rattle.words.proofs.Orders.{order-refl, order-eq, irrefl}
 use Rattle.partition.specs.Bits.{top}
 use Rattle.partition.specs.declared.Shape.{Shape}
 use Rattle.partition.specs.Partition.{Row, Prefix, Reordered, empty, front, swap, chain, keep, rowsOf, buckets}
-use Rattle.partition.specs.Listing.{by, insert, inOrder, listing, placeOf, Once}
+use Rattle.partition.specs.Listing.{by, insert, inOrder, listing, placeOf, Once, Rising}
 use Rattle.partition.proofs.Laws.{reordered}
 use Rattle.partition.proofs.Sum.{prefix-row}
 use Rattle.partition.proofs.Reorders.{rows-same, same-order, turned, mem-reordered}
 use Rattle.partition.proofs.Maps.{passed, cut, cut-same, absent, missing}
-use Rattle.partition.proofs.Rising.{by-ne, Ahead, Rising, rising-ext, insert-ahead, insert-rising, without-rising}
+use Rattle.partition.proofs.Rising.{by-ne, Ahead, rising-ext, insert-ahead, insert-rising, without-rising}
 
 crossed : (o p : Ordering) (m : Option (List ℕ)) (a b : List ℕ) → (o ≡ Ordering·eq → p ≡ Ordering·eq → ⊥)
     → by o (by p m (some b) m) (some a) (by p m (some b) m) ≡ by p (by o m (some a) m) (some b) (by o m (some a) m)

@@ -2,14 +2,11 @@
 use mathlib.Core.Path.{_≡_, refl, sym, ap₂, subst, _∙_}
 use mathlib.Core.Logic.{_⊎_, inl, inr}
 use mathlib.Core.List.{List, [], _∷_, List·Memᴰ, List·Memᴰ·head, List·Memᴰ·tail, List·Memᴰ·not-nil, List·Memᴰ·cases-cons}
+use Rattle.partition.specs.Listing.{Strict}
 
 module _ {A : Type 0} (lt : A → A → Type 0) where
-  abbrev pub Strict : List A → Type 0
-  Strict [] = Unit {0}
-  Strict (a ∷ l) = ((b : A) → List·Memᴰ b l → lt a b) × Strict l
-
   module _ (one-way : (a b : A) → lt a b → lt b a → ⊥) where
-    pub strict-ext : (s t : List A) → Strict s → Strict t → ((a : A) → List·Memᴰ a s → List·Memᴰ a t) → ((a : A) → List·Memᴰ a t → List·Memᴰ a s) → s ≡ t
+    pub strict-ext : (s t : List A) → Strict lt s → Strict lt t → ((a : A) → List·Memᴰ a s → List·Memᴰ a t) → ((a : A) → List·Memᴰ a t → List·Memᴰ a s) → s ≡ t
     strict-ext [] [] u v f g = refl
     strict-ext [] (q ∷ t) u v f g = absurd (List·Memᴰ·not-nil (g q (List·Memᴰ·head refl)))
     strict-ext (p ∷ s) [] u v f g = absurd (List·Memᴰ·not-nil (f p (List·Memᴰ·head refl)))

@@ -1,9 +1,9 @@
 -- Rows in code order, the listing, and the map from code to place. Assumes nothing.
 use mathlib.Core.Path.{_≡_}
-use mathlib.Core.List.{List, [], _∷_, flatMap}
+use mathlib.Core.List.{List, [], _∷_, flatMap, List·Memᴰ}
 use mathlib.Core.Option.{Option, some, none}
 use Prim.Native.Nat.{ℕ, Ordering, Ordering·lt, Ordering·eq, Ordering·gt}
-use Rattle.words.specs.Codes.{order}
+use Rattle.words.specs.Codes.{order, Before}
 use Rattle.partition.specs.declared.Shape.{Shape}
 use Rattle.partition.specs.Partition.{Row, Prefix, rowsOf, buckets}
 
@@ -12,6 +12,11 @@ abbrev pub by {ℓ} : {A : Type ℓ} → Ordering → A → A → A → A
 by Ordering·lt a b c = a
 by Ordering·eq a b c = b
 by Ordering·gt a b c = c
+
+-- each before all that follow
+abbrev pub Strict : {A : Type 0} → (A → A → Type 0) → List A → Type 0
+Strict lt [] = Unit {0}
+Strict lt (a ∷ l) = ((b : _) → List·Memᴰ b l → lt a b) × Strict lt l
 
 module _ {A : Type 0} (code : A → List ℕ) where
   -- r put in before the first of a greater code
@@ -25,6 +30,10 @@ module _ {A : Type 0} (code : A → List ℕ) where
   unfolding order
   without c [] = []
   without c (q ∷ qs) = by (order c (code q)) (q ∷ without c qs) (without c qs) (q ∷ without c qs)
+
+  -- in code order, no code twice
+  abbrev pub Rising : List A → Type 0
+  Rising l = Strict (λ a b. Before (code a) (code b)) l
 
 -- the rows in code order
 unfoldable pub inOrder : List Row → List Row

@@ -8,14 +8,14 @@ use lib.ListN.{length, getD, take, drop, length-map, length-drop}
 use lib.Seq.{take-all, take-add, drop-drop, drop-cons}
 use Rattle.ground.specs.Lists.{tab, insertAt}
 use Rattle.ground.proofs.Tables.{length-tab, getD-tab}
-use Rattle.words.specs.Codes.{Before}
+use Rattle.words.specs.Codes.{GoodCode, Before}
 use Rattle.page.specs.Page.{Slotted, Natural, count, code, rows, rowAt}
 use Rattle.page.specs.Steps.{Insertable, Inserted}
 use Rattle.page.specs.Packed.{Fresh}
 use Rattle.partition.specs.Bits.{top}
 use Rattle.partition.specs.Partition.{Row, need, needs, rowsOf}
-use Rattle.partition.specs.Listing.{insert, inOrder, Once}
-use Rattle.partition.proofs.Rising.{Rising, insert-tab}
+use Rattle.partition.specs.Listing.{insert, inOrder, Once, Rising}
+use Rattle.partition.proofs.Rising.{insert-tab}
 use Rattle.partition.proofs.Rows.{rows-on, rows-off, some-need}
 use Rattle.partition.proofs.Pages.{rows-append}
 use Rattle.partition.proofs.Reorders.{needs-same, needs-append, length-same}
@@ -83,11 +83,11 @@ module _ (p : List ℕ) where
 
   -- one row
   module _ (c pl : List ℕ) (B : Behind p (record { code = c; place = pl } ∷ [])) where
-    pub ready : Natural pl → 1 ≤ length c → length c ≤ 64 → Insertable p (count p) c pl
+    pub ready : Natural pl → GoodCode c → Insertable p (count p) c pl
     unfolding needs need
-    ready n a b = append-fits p rs c pl (B .page) (B .packed)
+    ready n good = append-fits p rs c pl (B .page) (B .packed)
         (λ i l. rising-before rs (record { code = c; place = pl }) [] (B .rising) (asRow (rowAt p i)) (row-in p i l))
-        n a b (omega (arith, B .fits, B .size, needs-append rs (record { code = c; place = pl } ∷ [])))
+        n good (omega (arith, B .fits, B .size, needs-append rs (record { code = c; place = pl } ∷ [])))
 
     pub done : (q : List ℕ) → Inserted p (count p) c pl q → Appended p (record { code = c; place = pl } ∷ []) q
     done q I = record { page = I .page; size = I .long; deep = I .deep; rowsOf = appended-rows p rs c pl (B .page) (B .packed) q I }

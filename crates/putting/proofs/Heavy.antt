@@ -20,7 +20,7 @@ use Rattle.partition.proofs.Bits.{top-lt}
 use Rattle.partition.proofs.Rows.{same-load}
 use Rattle.store.specs.Pages.{S1024, pages, page, dirDepth, Page, contents, asRow, rowsHeld, deepestIn}
 use Rattle.store.specs.Accepted.{Accepted}
-use Rattle.store.specs.Moves.{packed, written, putNew}
+use Rattle.store.specs.Moves.{packed, written, putNew, frees}
 use Rattle.store.specs.Tables.{new, refused, Refusal6, Refusal7, putAccepted}
 use Rattle.store.specs.Demands.{Hash, sized-1024}
 use Rattle.store.proofs.Showing.Shows.{prefixOn, Shows}
@@ -28,7 +28,6 @@ use Rattle.store.proofs.Accepted.Rules.{opened}
 use Rattle.store.proofs.Showing.Shown.{page-row}
 use Rattle.store.proofs.Showing.Showing.{accepted-shows, pages-held}
 use Rattle.store.proofs.Accepted.Unique.{page-long}
-use Rattle.store.proofs.Showing.Rooms.{frees}
 use Rattle.store.proofs.Accepted.Reading.{Naming, place-on}
 use Rattle.store.proofs.Paging.PageTies.{found-not, fits-needs}
 use Rattle.store.proofs.Put.PutCases.{here-six, splits-seven, put-splits-is}
@@ -147,14 +146,14 @@ module _ (h : List ℕ → ℕ) (hash : Hash h) (s c pl : List ℕ) (P : Puttabl
       seven x = omega (arith, seven-is .1 (omega (arith, count, room .many)), pages-held S1024 s)
 
       pub source : Source (page S1024 s p) i c pl
-      source = record { page = slotted; belongs = B; natural = P .natural; some = P .some; short = P .short }
+      source = record { page = slotted; belongs = B; natural = P .natural; good = P .good }
 
       pub writable : Writable h (record { code = c; place = pl } ∷ map asRow (rows (page S1024 s p))) (depth (page S1024 s p)) (top (depth (page S1024 s p)) (h c)) s p
       writable = record {
         deep = shallow;
         prefix = top-lt (h c) (depth g) (hash c);
         long = A .long;
-        sound = unwritten h hash s A;
+        sound = unwritten S1024 sized-1024 h hash s A;
         from = λ _. U .from;
         to = U .to;
         room = λ m l f. subst (λ j. 0 < frees (written gs j (take m ns))) (sym (first-given gs p (U .from))) (room .step m (f (omega (arith, U .from))) l);
@@ -166,7 +165,7 @@ module _ (h : List ℕ → ℕ) (hash : Hash h) (s c pl : List ℕ) (P : Puttabl
             W .held ∙ (λ x. written gs (first-given gs p (U .from) x) (news x))
             ∙ sym (put-splits-is S1024 h hash (rowsHeld S1024 s) gs shows r (p - 2) (depth g) (rows g) (U .holding) starts heavy)
 
-        pub heavy-new : (u : List ℕ) → Directed h t (deepestIn (contents S1024 t)) (length s / 1024) u → ((k : ℕ) → byte u k < 256)
+        pub heavy-new : (u : List ℕ) → Directed S1024 h t (deepestIn (contents S1024 t)) (length s / 1024) u → ((k : ℕ) → byte u k < 256)
             → Answers (putAccepted S1024 h s (record { code = c; place = pl })) (new, u)
         heavy-new u D b =
             inr (
@@ -175,7 +174,7 @@ module _ (h : List ℕ → ℕ) (hash : Hash h) (s c pl : List ℕ) (P : Puttabl
                 (λ _. six),
                 inr (
                   (λ _. seven),
-                  (refl, rw (← holds) (settled h hash s A t (W .pages) u D (r ∷ rowsHeld S1024 s) (rw holds (put-shown S1024 h sized-1024 hash s r A absent six seven)) b)),
+                  (refl, rw (← holds) (settled S1024 sized-1024 h hash s A t (W .pages) u D (r ∷ rowsHeld S1024 s) (rw holds (put-shown S1024 h sized-1024 hash s r A absent six seven)) b)),
                 ),
               ),
             )

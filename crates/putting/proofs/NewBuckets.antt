@@ -19,20 +19,18 @@ use Rattle.partition.specs.Listing.{placeOf}
 use Rattle.partition.proofs.Bits.{top-step}
 use Rattle.partition.proofs.Path.{path-le}
 use Rattle.partition.proofs.Rows.{load, load-mono}
-use Rattle.store.specs.Pages.{S1024, pages, page, dirDepth, entryAt, Page, bucket, contents, rowsHeld, deepestIn}
+use Rattle.store.specs.Pages.{S1024, pages, page, dirDepth, entryAt, Page, bucket, contents, rowsHeld, deepestIn, setPage}
 use Rattle.store.specs.Accepted.{Accepted}
-use Rattle.store.specs.Moves.{find, isFree, record-at, putNew}
+use Rattle.store.specs.Moves.{find, isFree, record-at, putNew, frees}
 use Rattle.store.specs.Tables.{new, refused, Refusal6, Refusal7, putAccepted}
 use Rattle.store.specs.Demands.{Hash, sized-1024}
 use Rattle.store.proofs.Accepted.Rules.{opened}
 use Rattle.store.proofs.Showing.Shows.{Shows}
 use Rattle.store.proofs.Showing.Showing.{accepted-shows, pages-held}
 use Rattle.store.proofs.Accepted.Unique.{page-long}
-use Rattle.store.proofs.Showing.Rooms.{frees}
 use Rattle.store.proofs.Accepted.Reading.{entryOf, lookup-none}
 use Rattle.store.proofs.Put.PutCases.{unheld-six, unheld-seven, put-unheld-is}
 use Rattle.store.proofs.Put.PutRows.{put-shown}
-use Rattle.store.proofs.Paging.Views.{setPage}
 use Rattle.directory.specs.Directory.{Directed, Rewritten}
 use Rattle.putting.specs.Put.{Puttable, Unset, Vacant}
 use Rattle.directory.proofs.Vacancy.{off, set-entry, some-row}
@@ -76,11 +74,11 @@ module _ (h : List ℕ → ℕ) (hash : Hash h) (s c pl : List ℕ) (P : Puttabl
 
   small : need r ≤ 1016
   unfolding need
-  small = omega (arith, P .short)
+  small = omega (arith, P .good .most)
 
   six : Refusal6 S1024 h (rowsHeld S1024 s) r → ⊥
   unfolding need
-  six x = omega (arith, unheld-six S1024 h hash (rowsHeld S1024 s) gs shows r (off S1024 h sized-1024 hash s A c unnamed), P .short)
+  six x = omega (arith, unheld-six S1024 h hash (rowsHeld S1024 s) gs shows r (off S1024 h sized-1024 hash s A c unnamed), P .good .most)
 
   seven : (length (buckets S1024 h (r ∷ rowsHeld S1024 s)) ≤ length gs) ↔ (0 < frees gs)
   seven = unheld-seven S1024 h hash (rowsHeld S1024 s) gs shows r (off S1024 h sized-1024 hash s A c unnamed) small
@@ -112,16 +110,16 @@ module _ (h : List ℕ → ℕ) (hash : Hash h) (s c pl : List ℕ) (P : Puttabl
     is : putNew S1024 h gs r ≡ set gs (find isFree gs) (bucket k (record-at 8 r ∷ []))
     is = put-unheld-is S1024 h hash (rowsHeld S1024 s) gs shows r (off S1024 h sized-1024 hash s A c unnamed) small k bare above
 
-    pub wrote : Rewritten s (setPage S1024 s f q)
-    wrote = rewritten-set s s (unwritten h hash s A) f (omega arith) to q (Q .page) (Q .long ∙ page-long S1024 s f to) (omega (arith, Q .deep, K .low, d-8))
+    pub wrote : Rewritten S1024 s (setPage S1024 s f q)
+    wrote = rewritten-set S1024 s s (unwritten S1024 sized-1024 h hash s A) f (omega arith) to q (Q .page) (Q .long ∙ page-long S1024 s f to) (omega (arith, Q .deep, K .low, d-8))
 
     holds : contents S1024 (setPage S1024 s f q) ≡ putNew S1024 h gs r
     holds =
         let i : f - 2 ≡ find isFree gs = omega arith in
-        set-holds s s (unwritten h hash s A) f (omega arith) to q (Q .page) (Q .long ∙ page-long S1024 s f to) (omega (arith, Q .deep, K .low, d-8))
+        set-holds S1024 s s (unwritten S1024 sized-1024 h hash s A) f (omega arith) to q (Q .page) (Q .long ∙ page-long S1024 s f to) (omega (arith, Q .deep, K .low, d-8))
         ∙ (λ x. set gs (i x) (bucket (Q .deep x) (Q .rowsOf x))) ∙ sym is
 
-    pub unheld-new : (u : List ℕ) → Directed h (setPage S1024 s f q) (deepestIn (contents S1024 (setPage S1024 s f q))) (length s / 1024) u → ((i : ℕ) → byte u i < 256)
+    pub unheld-new : (u : List ℕ) → Directed S1024 h (setPage S1024 s f q) (deepestIn (contents S1024 (setPage S1024 s f q))) (length s / 1024) u → ((i : ℕ) → byte u i < 256)
         → Answers (putAccepted S1024 h s (record { code = c; place = pl })) (new, u)
     unheld-new u D b =
         inr (
@@ -130,7 +128,7 @@ module _ (h : List ℕ → ℕ) (hash : Hash h) (s c pl : List ℕ) (P : Puttabl
             (λ _. six),
             inr (
               (λ _. room),
-              (refl, rw (← holds) (settled h hash s A (setPage S1024 s f q) wrote u D (r ∷ rowsHeld S1024 s) (rw holds (put-shown S1024 h sized-1024 hash s r A absent six room)) b)),
+              (refl, rw (← holds) (settled S1024 sized-1024 h hash s A (setPage S1024 s f q) wrote u D (r ∷ rowsHeld S1024 s) (rw holds (put-shown S1024 h sized-1024 hash s r A absent six room)) b)),
             ),
           ),
         )

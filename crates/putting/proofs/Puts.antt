@@ -23,7 +23,7 @@ use Rattle.partition.proofs.Tree.{pfx}
 use Rattle.partition.proofs.Sorted.{by-code, in-order-reordered, order-put}
 use Rattle.partition.proofs.Reorders.{turned, mem-reordered}
 use Rattle.partition.proofs.Directory.{holds-top}
-use Rattle.store.specs.Pages.{size, page, dirDepth, Page, free, bucket, contents, asRow, rowsHeld}
+use Rattle.store.specs.Pages.{size, page, dirDepth, Page, free, bucket, contents, asRow, rowsHeld, setPage}
 use Rattle.store.specs.Accepted.{Accepted}
 use Rattle.store.specs.Moves.{find, holds, added, placeOn, overwriteOn, overwritten, putNew}
 use Rattle.store.specs.Tables.{replaced, new, Refusal6, Refusal7, putAccepted}
@@ -41,7 +41,7 @@ use Rattle.store.proofs.Showing.Rooms.{set-holds}
 use Rattle.store.proofs.Put.PutCases.{fits-six, fits-seven, put-fits-is}
 use Rattle.store.proofs.Put.PutRows.{put-shown}
 use Rattle.store.proofs.Accepted.Accepting.{Laid, accepted-laid, laid-becomes}
-use Rattle.store.proofs.Paging.Views.{setPage, set-long}
+use Rattle.store.proofs.Paging.Views.{set-long}
 use Rattle.directory.proofs.OnePage.{laid-set}
 
 module _ (S : Shape) (h : List ℕ → ℕ) (sized : Sized S) (hash : Hash h) (s : List ℕ) (A : Accepted S h s) (c : List ℕ) (p : ℕ) (U : Naming S h s (top (dirDepth s) (h c)) p) where

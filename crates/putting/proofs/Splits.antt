@@ -7,11 +7,9 @@ use native.Mathlib.Omega.{arith}
 use lib.ListN.{length, set}
 use Rattle.partition.specs.Partition.{Row, needs, rowsOf}
 use Rattle.partition.proofs.Tree.{pfx}
-use Rattle.store.specs.Pages.{S1024, pages, page, Page, bucket, contents}
+use Rattle.store.specs.Pages.{S1024, pages, page, Page, bucket, contents, setPage}
 use Rattle.store.specs.Accepted.{GoodLength}
-use Rattle.store.specs.Moves.{find, isFree, packed, written}
-use Rattle.store.proofs.Showing.Rooms.{frees}
-use Rattle.store.proofs.Paging.Views.{setPage}
+use Rattle.store.specs.Moves.{find, isFree, packed, written, frees}
 use Rattle.putting.specs.Split.{below, Bucketed, first, left, Room, pagesBelow, Writable, BucketsWritten}
 use Rattle.directory.proofs.Settles.{rewritten-set, set-holds}
 use Rattle.putting.proofs.Weighs.{below-none, below-one, below-deep, below-two, double}
@@ -62,14 +60,14 @@ room-right gs at (n ∷ ms) ns r =
 
 -- ---- stores written one after another
 
-pub rewritten-then : (s t u : List ℕ) → Rewritten s t → Rewritten t u → Rewritten s u
+pub rewritten-then : (s t u : List ℕ) → Rewritten S1024 s t → Rewritten S1024 t u → Rewritten S1024 s u
 rewritten-then s t u A B = record {
   long = B .long ∙ A .long;
   low = λ k l. B .low k l ∙ A .low k l;
   sound = λ p a b. B .sound p a (subst (λ n. p < n / 1024) (sym (A .long)) b);
 }
 
-pub rewritten-self : (s t : List ℕ) → Rewritten s t → Rewritten t t
+pub rewritten-self : (s t : List ℕ) → Rewritten S1024 s t → Rewritten S1024 t t
 rewritten-self s t A = record { long = refl; low = λ k l. refl; sound = λ p a b. A .sound p a (subst (λ n. p < n / 1024) (A .long) b) }
 
 long-then : (s t : List ℕ) → length t ≡ length s → GoodLength S1024 s → GoodLength S1024 t
@@ -113,13 +111,13 @@ module _ (h : List ℕ → ℕ) (rs : List Row) (k v : ℕ) (s : List ℕ) (at :
       unfolding packed
       holds =
           let i : n - 2 ≡ first gs at = omega arith in
-          set-holds s s (W .sound) n (omega arith) to q (Q .page) (Q .size) (omega (arith, Q .deep, W .deep))
+          set-holds S1024 s s (W .sound) n (omega arith) to q (Q .page) (Q .size) (omega (arith, Q .deep, W .deep))
           ∙ (λ x. set gs (i x) (bucket (Q .deep x) (Q .rowsOf x)))
 
       pub one-wrote : BucketsWritten h rs k v s at (setPage S1024 s n q) 0
       unfolding written
       one-wrote = record {
-        pages = rewritten-set s s (W .sound) n (omega arith) to q (Q .page) (Q .size) (omega (arith, Q .deep, W .deep));
+        pages = rewritten-set S1024 s s (W .sound) n (omega arith) to q (Q .page) (Q .size) (omega (arith, Q .deep, W .deep));
         held = holds ∙ sym (ap (λ x. written gs (first gs at) (map (packed h rs) x)) one);
         then = sym (ap (λ x. left at (map (packed h rs) x)) one);
       }

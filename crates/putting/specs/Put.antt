@@ -3,6 +3,7 @@ use mathlib.Core.Path.{_≡_}
 use mathlib.Core.List.{List}
 use Prim.Native.Nat.{ℕ, suc, _≤_}
 use lib.ListN.{length}
+use Rattle.words.specs.Codes.{GoodCode}
 use Rattle.page.specs.Page.{Natural}
 use Rattle.partition.specs.Bits.{top}
 use Rattle.store.specs.Pages.{S1024, entryAt}
@@ -11,8 +12,7 @@ use Rattle.store.specs.Accepted.{Calls, Accepted}
 -- a row that can be put on the accepted store s: a code of 1 to 64 bytes, and a place of which no part is negative
 pub record Puttable (h : List ℕ → ℕ) (s c pl : List ℕ) : Type 0 where
   pub accepted : Accepted S1024 h s
-  pub some : 1 ≤ length c
-  pub short : length c ≤ 64
+  pub good : GoodCode c
   pub natural : Natural pl
 
 -- of the entries that the prefix v of k bits calls for, in a directory of depth d, none names a page

@@ -4,14 +4,13 @@ use mathlib.Core.List.{List, [], _∷_, _++_, map}
 use Prim.Native.Nat.{ℕ, zero, suc, _+_, _-_, _^_, _≤_, _<_}
 use lib.ListN.{length, getD, take, drop}
 use Rattle.ground.specs.Lists.{byte}
+use Rattle.words.specs.Codes.{GoodCode}
 use Rattle.page.specs.Page.{Slotted, BucketPage, Belongs, Natural, depth, count, code, rows}
 use Rattle.partition.specs.Partition.{Row, Prefix, needs, rowsOf, grade, walk}
-use Rattle.partition.specs.Listing.{inOrder}
-use Rattle.partition.proofs.Rising.{Rising}
+use Rattle.partition.specs.Listing.{inOrder, Rising}
 use Rattle.store.specs.Pages.{S1024, pages, page, Page, contents, asRow}
 use Rattle.store.specs.Accepted.{GoodLength}
-use Rattle.store.specs.Moves.{find, isFree, packFrom, packed, written}
-use Rattle.store.proofs.Showing.Rooms.{frees}
+use Rattle.store.specs.Moves.{find, isFree, frees, packFrom, packed, written}
 use Rattle.directory.specs.Directory.{Rewritten}
 
 -- a row of the code, its place left aside
@@ -61,8 +60,7 @@ pub record Source (g : List ℕ) (i : ℕ) (c pl : List ℕ) : Type 0 where
   pub page : Slotted g
   pub belongs : Belongs g i c
   pub natural : Natural pl
-  pub some : 1 ≤ length c
-  pub short : length c ≤ 64
+  pub good : GoodCode c
 
 -- q is a bucket written packed: of the rows rs those whose hashes begin with the k bits of v, in code order
 pub record Bucketed (h : List ℕ → ℕ) (rs : List Row) (k v : ℕ) (q : List ℕ) : Type 0 where
@@ -94,13 +92,13 @@ pub record Writable (h : List ℕ → ℕ) (rs : List Row) (k v : ℕ) (s : List
   pub deep : k ≤ 8
   pub prefix : v < 2 ^ k
   pub long : GoodLength S1024 s
-  pub sound : Rewritten s s
+  pub sound : Rewritten S1024 s s
   pub from : 0 < at → 2 ≤ at
   pub to : at < pages S1024 s
   pub room : Room (contents S1024 s) at (pagesBelow h rs k v)
 
 -- and t is s with them, the first in page at unless that is 0, each next in the lowest free page; p is what is left of page at
 pub record BucketsWritten (h : List ℕ → ℕ) (rs : List Row) (k v : ℕ) (s : List ℕ) (at : ℕ) (t : List ℕ) (p : ℕ) : Type 0 where
-  pub pages : Rewritten s t
+  pub pages : Rewritten S1024 s t
   pub held : contents S1024 t ≡ written (contents S1024 s) (first (contents S1024 s) at) (pagesBelow h rs k v)
   pub then : p ≡ left at (pagesBelow h rs k v)

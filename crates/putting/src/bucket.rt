@@ -4,6 +4,7 @@ ghost use mathlib.Core.List.{[], _∷_, map};
 ghost use Prim.Native.Nat.{_≤_, _<_};
 ghost use lib.ListN.{length};
 ghost use Rattle.hash.specs.Fnv.{fnv};
+ghost use Rattle.words.specs.Codes.{GoodCode};
 ghost use Rattle.page.specs.Page.{Slotted, Natural, count, code, rows, rowAt};
 ghost use Rattle.partition.specs.Partition.{needs, rowsOf};
 ghost use Rattle.store.specs.Pages.{asRow};
@@ -11,7 +12,7 @@ ghost use Rattle.putting.specs.Split.{slots, Behind, Appended, Source, E
 
 // The row goes behind those of a packed page.
 fn append(page: &mut [u8], key: &[u8], place: &[u8])
-    requires { ⌜ Behind (now page) (record { code = now key; place = now place } ∷ []) × Natural (now place) × (1 ≤ length (now key)) × (length (now key) ≤ 64) ⌝ }
+    requires { ⌜ Behind (now page) (record { code = now key; place = now place } ∷ []) × Natural (now place) × GoodCode (now key) ⌝ }
     ensures { λ _. ⌜ Appended (now (page .entry)) (record { code = now (key .entry); place = now (place .entry) } ∷ []) (now (page .exit)) ⌝ }
 {
     let n = words::get16(page, 2);
@@ -20,7 +21,7 @@ fn append(page: &mut [u8], key: &[u8], place: &[u8])
 
 // The row goes behind those of a packed page, if its hash x begins with the k bits of v.
 fn append_if(page: &mut [u8], key: &[u8], place: &[u8], x: u32, k: u32, v: u64)
-    requires { ⌜ Behind (now page) (rowsOf fnv (record { code = now key; place = now place } ∷ []) k v) × (x ≡ fnv (now key)) × (k ≤ 8) × Natural (now place) × (1 ≤ length (now key)) × (length (now key) ≤ 64) ⌝ }
+    requires { ⌜ Behind (now page) (rowsOf fnv (record { code = now key; place = now place } ∷ []) k v) × (x ≡ fnv (now key)) × (k ≤ 8) × Natural (now place) × GoodCode (now key) ⌝ }
     ensures { λ _. ⌜ Appended (now (page .entry)) (rowsOf fnv (record { code = now (key .entry); place = now (place .entry) } ∷ []) k v) (now (page .exit)) ⌝ }
 {
     if partition::top_bits(x, k) == v {

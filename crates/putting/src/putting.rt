@@ -47,16 +47,16 @@ fn new_bucket(s: &mut [u8], x: u32, key: &[u8], place: &[u8]) -> store::Answer
     ensures { λ r. ⌜ Answers (putAccepted S1024 fnv (now (s .entry)) (record { code = now (key .entry); place = now (place .entry) })) (meaning r, now (s .exit)) ⌝ }
 {
     let n = s.len() / 1024;
-    if free_pages(s, n, 1) < 1 {
+    if free_pages(s, partition::S1024, n, 1) < 1 {
         return store::Answer::Refused(store::Refusal::PagesFull);
     }
-    let p = lowest_free(s);
+    let p = lowest_free(s, partition::S1024);
     let d = words::get32(s, 16) as u32;
     let k = vacant_depth(s, x, d);
     let a = p * 1024;
     let e = a + 1024;
     page::start_page(&mut s[a..e], k as u8, key, place);
-    settle(s, n);
+    settle(s, partition::S1024, n);
     store::Answer::New
 }
 
@@ -100,10 +100,7 @@ pub fn put(s: &mut [u8], key: &[u8], place: page::Place) -> store::Answer
     if !store_check::good_length(s, partition::S1024) {
         return store::Answer::Refused(store::Refusal::BadLength);
     }
-    if key.len() == 0 {
-        return store::Answer::Refused(store::Refusal::BadCode);
-    }
-    if 64 < key.len() {
+    if !store::good_code(key) {
         return store::Answer::Refused(store::Refusal::BadCode);
     }
     if page::negative(place) {

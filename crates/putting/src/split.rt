@@ -10,7 +10,7 @@ ghost use Rattle.partition.specs.Bits.{top};
 ghost use Rattle.store.specs.Pages.{S1024, pages, page, dirDepth, contents, asRow};
 ghost use Rattle.store.specs.Tables.{putAccepted, meaning};
 ghost use Rattle.store.proofs.Accepted.Reading.{Naming};
-ghost use Rattle.store.proofs.Showing.Rooms.{frees};
+ghost use Rattle.store.specs.Moves.{frees};
 ghost use Rattle.putting.specs.Put.{Puttable};
 ghost use Rattle.putting.specs.Split.{Source, weight, Told, first, Writable, BucketsWritten};
 use super::bucket::write_bucket;
@@ -27,7 +27,7 @@ fn next_page(s: &[u8], at: usize) -> usize
     ensures { λ r. ⌜ (r ≡ 2 + first (contents S1024 (now (s .entry))) at) × (r < pages S1024 (now (s .entry))) ⌝ }
 {
     if at == 0 {
-        return lowest_free(s);
+        return lowest_free(s, partition::S1024);
     }
     at
 }
@@ -87,10 +87,10 @@ pub fn split(s: &mut [u8], p: usize, i: usize, key: &[u8], place: &[u8]) -> stor
     let k = from[1] as u32;
     let v = partition::top_bits(x, k);
     let m = count_below(&from, key, &hs, &ns, k, v);
-    if free_pages(s, n, m) + 1 < m {
+    if free_pages(s, partition::S1024, n, m) + 1 < m {
         return store::Answer::Refused(store::Refusal::PagesFull);
     }
     write_below(s, &from, i, key, place, &hs, &ns, k, v, p);
-    settle(s, n);
+    settle(s, partition::S1024, n);
     store::Answer::New
 }

@@ -93,10 +93,7 @@ pub fn lookup(s: &[u8], key: &[u8]) -> Answer
     if !store_check::good_length(s, partition::S1024) {
         return Answer::Refused(Refusal::BadLength);
     }
-    if key.len() == 0 {
-        return Answer::Refused(Refusal::BadCode);
-    }
-    if 64 < key.len() {
+    if !store::good_code(key) {
         return Answer::Refused(Refusal::BadCode);
     }
     let p = store_check::first_bad(s);

@@ -10,10 +10,10 @@ use lib.Seq.{drop-cons, drop-length}
 use Rattle.ground.specs.Lists.{tab}
 use Rattle.ground.proofs.Sides.{side}
 use Rattle.ground.proofs.Tables.{tab-same, tab-map}
-use Rattle.store.specs.Pages.{S1024, pages, Page, free, page, read, contents}
+use Rattle.store.specs.Pages.{S1024, pages, Page, free, page, read, contents, setPage}
 use Rattle.store.specs.Moves.{pick, find, within}
 use Rattle.store.proofs.Paging.PageTies.{zeros, read-cleared}
-use Rattle.store.proofs.Paging.Views.{setPage, set-long, set-same, set-other, set-below}
+use Rattle.store.proofs.Paging.Views.{set-long, set-same, set-other, set-below}
 use Rattle.directory.specs.Directory.{SoundPage, free as unused, Settling}
 use Rattle.removal.specs.Join.{Emptied}
 use Rattle.removal.proofs.Prefixes.{many, page-at, listed}
@@ -34,7 +34,7 @@ lower : (b : Bool) (p q low x : ℕ) → q ≡ suc p → low ≡ q + x → pick 
 lower true p q low x e l = omega arith
 lower false p q low x e l = omega arith
 
-module _ (h : List ℕ → ℕ) (s : List ℕ) (n j v : ℕ) (P : Settling s n) where
+module _ (h : List ℕ → ℕ) (s : List ℕ) (n j v : ℕ) (P : Settling S1024 s n) where
   abbrev gs : List Page
   gs = contents S1024 s
 
@@ -56,7 +56,7 @@ module _ (h : List ℕ → ℕ) (s : List ℕ) (n j v : ℕ) (P : Settling s n) 
     still = E .below p two (omega arith)
 
     there : p < pages S1024 t
-    there = omega (arith, E .long, P .size)
+    there = omega (arith, E .long, P .long)
 
     pub emptied-next : Emptied h s n j v p (pick b (setPage S1024 t p blank) t)
     emptied-next = go b refl
@@ -92,10 +92,10 @@ module _ (h : List ℕ → ℕ) (s : List ℕ) (n j v : ℕ) (P : Settling s n) 
 
   -- all pages of the prefix cleared
   module _ (t : List ℕ) (E : Emptied h s n j v 2 t) where
-    pub emptied-sound : (p : ℕ) → 2 ≤ p → p < n → SoundPage (page S1024 t p)
-    emptied-sound p a l = subst SoundPage (sym (E .from p a l)) (go (within h j v (read (page S1024 s p))))
+    pub emptied-sound : (p : ℕ) → 2 ≤ p → p < n → SoundPage S1024 (page S1024 t p)
+    emptied-sound p a l = subst (SoundPage S1024) (sym (E .from p a l)) (go (within h j v (read (page S1024 s p))))
       where
-        go : (x : Bool) → SoundPage (pick x blank (page S1024 s p))
+        go : (x : Bool) → SoundPage S1024 (pick x blank (page S1024 s p))
         go true = unused (zeros 1024)
         go false = P .pages p a l
 

@@ -14,7 +14,7 @@ use Rattle.words.specs.Codes.{order}
 use Rattle.words.proofs.Orders.{order-refl, order-eq}
 use Rattle.page.specs.Page.{Record, Slotted, BucketPage, Belongs, rows, rowAt, count, code, place, frontier, depth, free as spare}
 use Rattle.page.specs.Steps.{Insertable, Inserted}
-use Rattle.page.proofs.Sums.{count-more, len-of-code}
+use Rattle.page.proofs.Sums.{count-more, slot-code}
 use Rattle.partition.specs.Partition.{Row, need, needs, Reordered, chain}
 use Rattle.partition.specs.Listing.{by, insert, without, inOrder, placeOf, Once}
 use Rattle.partition.proofs.Reorders.{same-order, turned, append-same, needs-same, needs-append, to-front}
@@ -134,8 +134,7 @@ module _ (p c pl : List ℕ) (K : Storable c pl) (T : Taking p (rowOf c pl ∷ [
     page = P;
     belongs = b;
     natural = K .natural;
-    some = K .some;
-    most = K .most;
+    good = K .good;
     fits = fits;
     room = omega (arith, fits, T .tight .full, T .tight .long);
   }
@@ -174,8 +173,7 @@ rowIn g i = rowOf (code g i) (place g i)
 
 pub slot-storable : (g : List ℕ) (i : ℕ) → Slotted g → i < count g → Storable (code g i) (place g i)
 slot-storable g i P l = record {
-  some = omega (arith, len-of-code g i P l, P .short i l);
-  most = omega (arith, len-of-code g i P l, P .long i l);
+  good = slot-code g i P l;
   natural = P .places i l;
 }
 

@@ -14,10 +14,10 @@ use Rattle.partition.specs.Partition.{Row, needs, Reordered}
 use Rattle.partition.specs.Listing.{inOrder}
 use Rattle.partition.proofs.Reorders.{needs-same}
 use Rattle.partition.proofs.Sorted.{order-same}
-use Rattle.store.specs.Pages.{S1024, pages, Page, bucket, page, read, contents, asRow}
+use Rattle.store.specs.Pages.{S1024, pages, Page, bucket, page, read, contents, asRow, setPage}
 use Rattle.store.specs.Moves.{find, within, packFrom}
 use Rattle.store.proofs.Paging.PageTies.{page-needs, page-once, page-order, packed-rows, read-slotted}
-use Rattle.store.proofs.Paging.Views.{setPage, set-long, set-same, set-other, set-below, set-contents}
+use Rattle.store.proofs.Paging.Views.{set-long, set-same, set-other, set-below, set-contents}
 use Rattle.directory.specs.Directory.{SoundPage, used, Settling}
 use Rattle.removal.specs.Join.{Housed, Taking, Gathered, rowsAt, othersIn, Emptied, Joinable, Rejoined}
 use Rattle.removal.proofs.Prefixes.{listed}
@@ -39,7 +39,7 @@ fresh-taking {p} {d} {q} rs l F h = record {
   all = subst (λ x. Housed (x ++ rs)) (sym (no-rows q (F .none))) h;
 }
 
-module _ (h : List ℕ → ℕ) (s : List ℕ) (n j v : ℕ) (c : List ℕ) (P : Settling s n) (shallow : j ≤ 8) (J : Joinable h s j v c) where
+module _ (h : List ℕ → ℕ) (s : List ℕ) (n j v : ℕ) (c : List ℕ) (P : Settling S1024 s n) (shallow : j ≤ 8) (J : Joinable h s j v c) where
   abbrev gs : List Page
   gs = contents S1024 s
 
@@ -76,7 +76,7 @@ module _ (h : List ℕ → ℕ) (s : List ℕ) (n j v : ℕ) (c : List ℕ) (P :
     long = K .long ∙ G .tight .long
 
     there : low < pages S1024 u
-    there = omega (arith, low-within, E .long, P .size)
+    there = omega (arith, low-within, E .long, P .long)
 
     pub rejoined : Rejoined h s n j v c (setPage S1024 u low k)
     rejoined = record {
@@ -86,9 +86,9 @@ module _ (h : List ℕ → ℕ) (s : List ℕ) (n j v : ℕ) (c : List ℕ) (P :
       holds = set-contents S1024 u low k there long (omega arith) ∙ (λ i. set (emptied-holds h s n j v P u E i) (at i) (now-reads i));
     }
       where
-        go : (x : ℕ) → 2 ≤ x → x < n → Dec (x ≡ low) → SoundPage (page S1024 (setPage S1024 u low k) x)
-        go x a b (yes e) = subst SoundPage (sym (ap (page S1024 (setPage S1024 u low k)) e ∙ set-same S1024 u low k there long)) (used its (omega (arith, deep)))
-        go x a b (no ne) = subst SoundPage (sym (set-other S1024 u low k there long x ne)) (emptied-sound h s n j v P u E x a b)
+        go : (x : ℕ) → 2 ≤ x → x < n → Dec (x ≡ low) → SoundPage S1024 (page S1024 (setPage S1024 u low k) x)
+        go x a b (yes e) = subst (SoundPage S1024) (sym (ap (page S1024 (setPage S1024 u low k)) e ∙ set-same S1024 u low k there long)) (used its (omega (arith, deep)))
+        go x a b (no ne) = subst (SoundPage S1024) (sym (set-other S1024 u low k there long x ne)) (emptied-sound h s n j v P u E x a b)
 
         at : low - 2 ≡ find (within h j v) gs
         at = omega arith

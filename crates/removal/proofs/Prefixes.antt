@@ -22,7 +22,7 @@ pub read-free : (g : List ℕ) → byte g 0 ≡ 0 → read g ≡ free
 unfolding read
 read-free g e = ap (λ b. reading b g) e
 
-pub used-page : {g : List ℕ} → SoundPage g → (byte g 0 ≡ 0 → ⊥) → BucketPage g
+pub used-page : {g : List ℕ} → SoundPage S1024 g → (byte g 0 ≡ 0 → ⊥) → BucketPage g
 used-page (unused z) n = absurd (n (z 0))
 used-page (used b d) n = b
 
@@ -35,7 +35,7 @@ within-tab h j v k f (suc n) l = refl
 pub within-used : (h : List ℕ → ℕ) (j v : ℕ) (g : List ℕ) → BucketPage g → within h j v (read g) ≡ eqb (top j (h (code g 0))) v
 within-used h j v g b = ap (within h j v) (read-used g b) ∙ within-tab h j v (depth g) (rowAt g) (count g) (b .some)
 
-pub within-page : (h : List ℕ → ℕ) (j v : ℕ) (g : List ℕ) → SoundPage g → within h j v (read g) ≡ true → BucketPage g
+pub within-page : (h : List ℕ → ℕ) (j v : ℕ) (g : List ℕ) → SoundPage S1024 g → within h j v (read g) ≡ true → BucketPage g
 within-page h j v g (unused z) e = untrue (sym (ap (within h j v) (read-free g (z 0))) ∙ e)
 within-page h j v g (used b d) e = b
 
@@ -46,9 +46,9 @@ lent-whole s p l = (page-lent S1024 s p, length-part s (p * 1024) 1024 l)
 
 -- ---- page after page
 
-module _ (s : List ℕ) (n : ℕ) (P : Settling s n) where
+module _ (s : List ℕ) (n : ℕ) (P : Settling S1024 s n) where
   pub many : pages S1024 s ≡ n
-  many = omega (arith, P .size)
+  many = omega (arith, P .long)
 
   pub page-at : (p : ℕ) → 2 ≤ p → p < n → getD (contents S1024 s) (p - 2) free ≡ read (page S1024 s p)
   page-at p a b = held S1024 s p a (omega (arith, many))
@@ -56,5 +56,5 @@ module _ (s : List ℕ) (n : ℕ) (P : Settling s n) where
   pub listed : length (contents S1024 s) ≡ n - 2
   listed = pages-held S1024 s ∙ ap (λ m. m - 2) many
 
-  pub lent-sound : (p : ℕ) → 2 ≤ p → p < n → (take (p * 1024 + 1024 - p * 1024) (drop (p * 1024) s) ≡ page S1024 s p) × SoundPage (page S1024 s p) × (length (page S1024 s p) ≡ 1024)
-  lent-sound p a b = let w = lent-whole s p (omega (arith, P .size)) in (w .0, P .pages p a b, w .1)
+  pub lent-sound : (p : ℕ) → 2 ≤ p → p < n → (take (p * 1024 + 1024 - p * 1024) (drop (p * 1024) s) ≡ page S1024 s p) × SoundPage S1024 (page S1024 s p) × (length (page S1024 s p) ≡ 1024)
+  lent-sound p a b = let w = lent-whole s p (omega (arith, P .long)) in (w .0, P .pages p a b, w .1)

@@ -24,7 +24,7 @@ use Rattle.partition.proofs.Reorders.{needs-same, rows-same}
 use Rattle.partition.proofs.Rising.{tab-in, tab-member, without-member, without-map}
 use Rattle.partition.proofs.Rows.{load, load-mono, rows-on, some-need}
 use Rattle.partition.proofs.Sorted.{by-code, order-same, some-none, some-once}
-use Rattle.store.specs.Pages.{S1024, pages, Page, free, bucket, page, contents, asRow, rowsHeld, deepestIn}
+use Rattle.store.specs.Pages.{S1024, pages, Page, free, bucket, page, contents, asRow, rowsHeld, deepestIn, setPage}
 use Rattle.store.specs.Accepted.{Bucket, Stands, unused, used}
 use Rattle.store.specs.Moves.{pick, find, holds, within, packFrom, packed, clearedOn, removed}
 use Rattle.store.specs.Tables.{Becomes}
@@ -42,7 +42,7 @@ use Rattle.store.proofs.Remove.RemoveCases as Cases
 use Rattle.store.proofs.Showing.Within.{one-depth, rows-within}
 use Rattle.store.proofs.Accepted.Accepting.{Laid, accepted-laid, laid-becomes}
 use Rattle.store.proofs.Paging.PageTies.{row-in, zeros, read-cleared, page-once, found-at, removed-rows}
-use Rattle.store.proofs.Paging.Views.{setPage, set-long, set-same, set-other, set-below, set-contents}
+use Rattle.store.proofs.Paging.Views.{set-long, set-same, set-other, set-below, set-contents}
 use Rattle.directory.specs.Directory.{Directed, SoundPage, free as vacant, Rewritten}
 use Rattle.removal.specs.Prefix.{Climbed}
 use Rattle.removal.specs.Join.{othersIn, Joinable, Rejoined}
@@ -192,11 +192,11 @@ module _ (h : List ℕ → ℕ) (hash : Hash h) (s : List ℕ) (p i : ℕ) (c : 
           after s (set-long S1024 s p q (L .to) (R .long ∙ long)) small
 
     -- pages written anew and settled
-    module _ (n : ℕ) (pages-are : n ≡ length s / 1024) {t u : List ℕ} (W : Rewritten s t) (holds-then : contents S1024 t ≡ removed S1024 h gs c) (D : Directed h t (deepestIn (contents S1024 t)) n u) where
+    module _ (n : ℕ) (pages-are : n ≡ length s / 1024) {t u : List ℕ} (W : Rewritten S1024 s t) (holds-then : contents S1024 t ≡ removed S1024 h gs c) (D : Directed S1024 h t (deepestIn (contents S1024 t)) n u) where
       pub settles : ((m : ℕ) → byte u m < 256) → Becomes S1024 h s (removed S1024 h gs c) u
       settles small =
           subst (λ l. Becomes S1024 h s l u) holds-then
-          (settled h hash s (L .accepted) t W u (subst (λ m. Directed h t (deepestIn (contents S1024 t)) m u) pages-are D) (left s c) (subst (Shows S1024 h (left s c)) (sym holds-then) after) small)
+          (settled S1024 sized-1024 h hash s (L .accepted) t W u (subst (λ m. Directed S1024 h t (deepestIn (contents S1024 t)) m u) pages-are D) (left s c) (subst (Shows S1024 h (left s c)) (sym holds-then) after) small)
 
     -- ---- nothing left on the page: it is cleared
 
@@ -207,18 +207,18 @@ module _ (h : List ℕ → ℕ) (hash : Hash h) (s : List ℕ) (p i : ℕ) (c : 
       zero-long : length (replicate {A = ℕ} 1024 0) ≡ 1024
       zero-long = length-replicate {A = ℕ} 1024 0
 
-      pub clear-written : Rewritten s t
+      pub clear-written : Rewritten S1024 s t
       clear-written =
-          let before = unwritten h hash s (L .accepted) in
+          let before = unwritten S1024 sized-1024 h hash s (L .accepted) in
           record {
             long = set-long S1024 s p (replicate 1024 0) (L .to) zero-long;
             low = λ m l. set-below S1024 s p (replicate 1024 0) (L .to) zero-long m (omega (arith, L .from));
             sound = λ y a b. go y a b (before .sound y a b) (ℕ-discrete y p);
           }
         where
-          go : (y : ℕ) → 2 ≤ y → y < pages S1024 s → SoundPage (page S1024 s y) → Dec (y ≡ p) → SoundPage (page S1024 t y)
-          go y a b w (yes e) = subst SoundPage (sym (ap (page S1024 t) e ∙ set-same S1024 s p (replicate 1024 0) (L .to) zero-long)) (vacant (zeros 1024))
-          go y a b w (no n) = subst SoundPage (sym (set-other S1024 s p (replicate 1024 0) (L .to) zero-long y n)) w
+          go : (y : ℕ) → 2 ≤ y → y < pages S1024 s → SoundPage S1024 (page S1024 s y) → Dec (y ≡ p) → SoundPage S1024 (page S1024 t y)
+          go y a b w (yes e) = subst (SoundPage S1024) (sym (ap (page S1024 t) e ∙ set-same S1024 s p (replicate 1024 0) (L .to) zero-long)) (vacant (zeros 1024))
+          go y a b w (no n) = subst (SoundPage S1024) (sym (set-other S1024 s p (replicate 1024 0) (L .to) zero-long y n)) w
 
       pub clear-holds : contents S1024 t ≡ removed S1024 h gs c
       clear-holds =
@@ -274,7 +274,7 @@ module _ (h : List ℕ → ℕ) (hash : Hash h) (s : List ℕ) (p i : ℕ) (c : 
           inside = within-pages gs (p - 2) k (rows g) holding
 
       module _ {n : ℕ} {t : List ℕ} (pages-are : n ≡ pages S1024 s) (R : Rejoined h s n j v c t) where
-        pub join-written : Rewritten s t
+        pub join-written : Rewritten S1024 s t
         join-written = record { long = R .long; low = R .low; sound = λ y a b. R .sound y a (omega (arith, pages-are)) }
 
         pub join-holds : contents S1024 t ≡ removed S1024 h gs c

@@ -4,6 +4,7 @@ use mathlib.Core.List.{List, _++_, map}
 use Prim.Native.Nat.{ℕ, _+_, _*_, _≤_, _<_}
 use lib.ListN.{length, set, replicate}
 use Rattle.ground.specs.Lists.{byte}
+use Rattle.words.specs.Codes.{GoodCode}
 use Rattle.page.specs.Page.{Slotted, Natural, rows, depth, count, frontier, free as spare}
 use Rattle.partition.specs.Partition.{Row, needs, Reordered}
 use Rattle.partition.specs.Listing.{without, inOrder, Once}
@@ -38,8 +39,7 @@ pub record Gathered (p : List ℕ) (rs : List Row) (q : List ℕ) : Type 0 where
 
 -- a code of 1 to 64 bytes, and a place of which no part is negative
 pub record Storable (c pl : List ℕ) : Type 0 where
-  pub some : 1 ≤ length c
-  pub most : length c ≤ 64
+  pub good : GoodCode c
   pub natural : Natural pl
 
 abbrev pub rowOf : List ℕ → List ℕ → Row
@@ -70,5 +70,5 @@ pub record Joinable (h : List ℕ → ℕ) (s : List ℕ) (j v : ℕ) (c : List 
 pub record Rejoined (h : List ℕ → ℕ) (s : List ℕ) (n j v : ℕ) (c t : List ℕ) : Type 0 where
   pub long : length t ≡ length s
   pub low : (k : ℕ) → k < 2048 → byte t k ≡ byte s k
-  pub sound : (p : ℕ) → 2 ≤ p → p < n → SoundPage (page S1024 t p)
+  pub sound : (p : ℕ) → 2 ≤ p → p < n → SoundPage S1024 (page S1024 t p)
   pub holds : contents S1024 t ≡ set (map (λ g. pick (within h j v g) free g) (contents S1024 s)) (find (within h j v) (contents S1024 s)) (bucket j (packFrom 8 (inOrder (othersIn h j v c (contents S1024 s)))))

@@ -7,9 +7,8 @@ ghost use Rattle.ground.specs.Says.{Says};
 ghost use Rattle.hash.specs.Fnv.{fnv};
 ghost use Rattle.page.specs.Page.{Slotted, count, code, place};
 ghost use Rattle.partition.specs.Listing.{without};
-ghost use Rattle.store.specs.Pages.{S1024, page as pageOf, contents, read};
+ghost use Rattle.store.specs.Pages.{S1024, page as pageOf, contents, read, setPage};
 ghost use Rattle.store.specs.Moves.{pick, find, within};
-ghost use Rattle.store.proofs.Paging.Views.{setPage};
 ghost use Rattle.directory.specs.Directory.{SoundPage, Settling};
 ghost use Rattle.removal.specs.Join.{Taking, Gathered, Storable, rowOf, rowsAt, othersOn, othersIn, Emptied, Joinable, Rejoined};
 use super::prefix::is_within;
@@ -66,7 +65,7 @@ fn add_rows(to: &mut [u8], from: &[u8], key: &[u8])
 
 // A page's rows of another code go to another page, if the page is of the prefix.
 fn add_page(to: &mut [u8], from: &[u8], j: u32, v: u64, key: &[u8])
-    requires { ⌜ SoundPage (now from) × (length (now from) ≡ 1024) × (j ≤ 8) × Taking (now to) (othersOn fnv j v (now key) (read (now from))) ⌝ }
+    requires { ⌜ SoundPage S1024 (now from) × (length (now from) ≡ 1024) × (j ≤ 8) × Taking (now to) (othersOn fnv j v (now key) (read (now from))) ⌝ }
     ensures { λ _. ⌜ Gathered (now (to .entry)) (othersOn fnv j v (now (key .entry)) (read (now (from .entry)))) (now (to .exit)) ⌝ }
 {
     if is_within(from, j, v) {
@@ -76,7 +75,7 @@ fn add_page(to: &mut [u8], from: &[u8], j: u32, v: u64, key: &[u8])
 
 // The rows of another code on all pages of the prefix go to another page.
 fn gather(to: &mut [u8], s: &[u8], n: usize, j: u32, v: u64, key: &[u8])
-    requires { ⌜ Settling (now s) n × (j ≤ 8) × Taking (now to) (othersIn fnv j v (now key) (contents S1024 (now s))) ⌝ }
+    requires { ⌜ Settling S1024 (now s) n × (j ≤ 8) × Taking (now to) (othersIn fnv j v (now key) (contents S1024 (now s))) ⌝ }
     ensures { λ _. ⌜ Gathered (now (to .entry)) (othersIn fnv j v (now (key .entry)) (contents S1024 (now (s .entry)))) (now (to .exit)) ⌝ }
 {
     let mut p = 2;
@@ -90,7 +89,7 @@ fn gather(to: &mut [u8], s: &[u8], n: usize, j: u32, v: u64, key: &[u8])
 
 // Page p is cleared if it is of the prefix; the lowest-numbered page so far.
 fn clear_if(s: &mut [u8], p: usize, j: u32, v: u64, low: usize) -> usize
-    requires { ⌜ (p < 258) × (p * 1024 + 1024 ≤ length (now s)) × SoundPage (pageOf S1024 (now s) p) × (j ≤ 8) ⌝ }
+    requires { ⌜ (p < 258) × (p * 1024 + 1024 ≤ length (now s)) × SoundPage S1024 (pageOf S1024 (now s) p) × (j ≤ 8) ⌝ }
     ensures wrote { λ r. ⌜ now (s .exit) ≡ pick (within fnv j v (read (pageOf S1024 (now (s .entry)) p))) (setPage S1024 (now (s .entry)) p (replicate 1024 0)) (now (s .entry)) ⌝ }
     ensures lowest { λ r. ⌜ r ≡ pick (within fnv j v (read (pageOf S1024 (now (s .entry)) p))) p low ⌝ }
 {
@@ -105,7 +104,7 @@ fn clear_if(s: &mut [u8], p: usize, j: u32, v: u64, low: usize) -> usize
 
 // The pages of the prefix are cleared; the lowest-numbered of them.
 fn clear_all(s: &mut [u8], n: usize, j: u32, v: u64) -> usize
-    requires { ⌜ Settling (now s) n × (j ≤ 8) ⌝ }
+    requires { ⌜ Settling S1024 (now s) n × (j ≤ 8) ⌝ }
     ensures wrote { λ r. ⌜ Emptied fnv (now (s .entry)) n j v 2 (now (s .exit)) ⌝ }
     ensures lowest { λ r. ⌜ r ≡ 2 + find (within fnv j v) (contents S1024 (now (s .entry))) ⌝ }
 {
@@ -120,7 +119,7 @@ fn clear_all(s: &mut [u8], n: usize, j: u32, v: u64) -> usize
 
 // The rows of the prefix of another code go packed into the lowest-numbered of its pages, and the others are cleared.
 pub fn join(s: &mut [u8], n: usize, j: u32, v: u64, key: &[u8])
-    requires { ⌜ Settling (now s) n × (j ≤ 8) × Joinable fnv (now s) j v (now key) ⌝ }
+    requires { ⌜ Settling S1024 (now s) n × (j ≤ 8) × Joinable fnv (now s) j v (now key) ⌝ }
     ensures { λ _. ⌜ Rejoined fnv (now (s .entry)) n j v (now (key .entry)) (now (s .exit)) ⌝ }
 {
     let mut scratch = [0u8; 1024];

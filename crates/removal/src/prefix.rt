@@ -14,7 +14,7 @@ ghost use Rattle.removal.specs.Prefix.{Above, Climbed};
 
 // Whether a page is a bucket whose hashes begin with the j bits of v.
 pub fn is_within(page: &[u8], j: u32, v: u64) -> bool
-    requires { ⌜ SoundPage (now page) × (length (now page) ≡ 1024) × (j ≤ 8) ⌝ }
+    requires { ⌜ SoundPage S1024 (now page) × (length (now page) ≡ 1024) × (j ≤ 8) ⌝ }
     ensures { λ r. ⌜ r ≡ within fnv j v (read (now (page .entry))) ⌝ }
 {
     if page[0] == 0 {

@@ -24,12 +24,12 @@ fn take_out(s: &mut [u8], p: usize, i: usize, key: &[u8])
     let j = climb(s, x, k, 12 + key.len());
     if j < k {
         join(s, n, j, partition::top_bits(x, j), key);
-        settle(s, n);
+        settle(s, partition::S1024, n);
         return;
     }
     if words::get16(&s[a..e], 2) == 1 {
         page::clear_page(&mut s[a..e]);
-        settle(s, n);
+        settle(s, partition::S1024, n);
         return;
     }
     page::remove_slot(&mut s[a..e], i);
@@ -59,10 +59,7 @@ pub fn remove(s: &mut [u8], key: &[u8]) -> store::Answer
     if !store_check::good_length(s, partition::S1024) {
         return store::Answer::Refused(store::Refusal::BadLength);
     }
-    if key.len() == 0 {
-        return store::Answer::Refused(store::Refusal::BadCode);
-    }
-    if 64 < key.len() {
+    if !store::good_code(key) {
         return store::Answer::Refused(store::Refusal::BadCode);
     }
     let p = store_check::first_bad(s);

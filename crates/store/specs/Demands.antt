@@ -14,6 +14,7 @@ pub use Rattle.partition.specs.Sizes.{Sized}
 use Rattle.partition.specs.Partition.{Row, Prefix, Reordered, rowsOf, buckets, depthOf, entry}
 use Rattle.page.specs.declared.Place.{Place}
 use Rattle.ground.specs.Ladder.{Answers}
+pub use Rattle.words.specs.Codes.{GoodCode}
 use Rattle.words.specs.Codes.{order}
 use Rattle.partition.specs.Listing.{by, without, inOrder, listing, placeOf, Once}
 use Rattle.store.specs.Pages.{S1024, size, pages, page, Page, free, bucket, read, asRow, rowsHeld, dirDepth, entryAt}
@@ -59,11 +60,6 @@ ok (counted n) = true
 ok (row n p) = true
 
 -- ---- demand 1: any bytes may come; what is wrong with them has its number, and a refused call keeps every byte of store and output
-
--- A code is 1 to 64 bytes.
-pub record GoodCode (c : List ℕ) : Type 0 where
-  pub least : 1 ≤ length c
-  pub most : length c ≤ 64
 
 -- a store is whole pages, 3 at least, at most the entries and 2
 abbrev pub WholePages : Shape → List ℕ → Type 0

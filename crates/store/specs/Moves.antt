@@ -26,6 +26,12 @@ abbrev pub isFree : Page → Bool
 isFree free = true
 isFree (bucket k rs) = false
 
+-- how many of the pages are free
+abbrev pub frees : List Page → ℕ
+frees [] = 0
+frees (free ∷ gs) = suc (frees gs)
+frees (bucket k rs ∷ gs) = frees gs
+
 module _ (h : List ℕ → ℕ) where
   -- a bucket whose rows' hashes begin with the k bits of v
   abbrev pub within : ℕ → ℕ → Page → Bool

@@ -2,9 +2,8 @@
 use mathlib.Core.List.{List, [], _∷_, map, flatMap}
 use Prim.Native.Nat.{ℕ, zero, suc, _+_, _-_, _*_, _/_, max}
 use lib.ListN.{length}
-use Rattle.ground.specs.Lists.{byte, part}
+use Rattle.ground.specs.Lists.{byte, part, splice, tab}
 use Rattle.words.specs.Le.{le32}
-use Rattle.ground.specs.Lists.{tab}
 use Rattle.page.specs.Page.{Record, depth, rows}
 use Rattle.partition.specs.declared.Shape.{Shape}
 use Rattle.partition.specs.Partition.{Row}
@@ -17,6 +16,10 @@ pages S s = length s / size S
 
 unfoldable pub page : Shape → List ℕ → ℕ → List ℕ
 page S s p = part s (p * size S) (size S)
+
+-- the store with ys for page p
+unfoldable pub setPage : Shape → List ℕ → ℕ → List ℕ → List ℕ
+setPage S s p ys = splice s (p * size S) (size S) ys
 
 -- page 0: at 16 the depth
 abbrev pub dirDepth : List ℕ → ℕ

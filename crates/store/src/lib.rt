@@ -1,7 +1,9 @@
-// The answers of the calls, and the largest depth of a store's pages.
+// The answers of the calls, the door for a given code, and the largest depth of a store's pages.
 ghost use mathlib.Core.Path.{_≡_};
 ghost use Prim.Native.Nat.{_+_, _*_, _≤_, _<_};
 ghost use lib.ListN.{length};
+ghost use Rattle.ground.specs.Says.{Says};
+ghost use Rattle.words.specs.Codes.{GoodCode};
 ghost use Rattle.store.specs.Pages.{size, page, read, depthOn, contents, deepestIn};
 ghost use Rattle.store.specs.Tables.{refusal, Numbered};
 use page::Place;
@@ -44,6 +46,19 @@ pub enum Answer {
     Found(Place),
     Rows(usize),
     RowOf(usize, Place),
+}
+
+// The one door for a given code: whether it is one.
+pub fn good_code(key: &[u8]) -> bool
+    ensures { λ r. ⌜ Says r (GoodCode (now (key .entry))) ⌝ }
+{
+    if key.len() == 0 {
+        return false;
+    }
+    if 64 < key.len() {
+        return false;
+    }
+    true
 }
 
 // The local depth of page p, 0 for a free page.

@@ -1,9 +1,15 @@
--- The byte order of codes. Assumes nothing.
+-- Codes: how long one is, and their byte order. Assumes nothing.
 use mathlib.Core.Path.{_≡_}
 use mathlib.Core.List.{List, [], _∷_}
-use Prim.Native.Nat.{ℕ, compare, Ordering, Ordering·lt, Ordering·eq, Ordering·gt}
+use Prim.Native.Nat.{ℕ, _≤_, compare, Ordering, Ordering·lt, Ordering·eq, Ordering·gt}
+use lib.ListN.{length}
 use Rattle.words.specs.declared.Order.{Order}
 use Rattle.words.specs.declared.Order.the-variants.{Less, Equal, Greater}
+
+-- A code is 1 to 64 bytes.
+pub record GoodCode (c : List ℕ) : Type 0 where
+  pub least : 1 ≤ length c
+  pub most : length c ≤ 64
 
 -- the first difference decides
 abbrev pub then : Ordering → Ordering → Ordering

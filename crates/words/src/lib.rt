@@ -8,14 +8,15 @@ ghost use Rattle.words.specs.Codes.{Ordered};
 ghost use Rattle.words.specs.Moves.{Put16, Put32, Copied, MovedDown, Cleared, MovedUp};
 ghost use Rattle.words.specs.Zeros.{Zero};
 
-fn wide(x: u8) -> usize
+// A byte as a number of the width that the others have.
+pub fn wide(x: u8) -> usize
     ensures { λ r. ⌜ (r ≡ x) × (r < 256) ⌝ }
 {
     x as usize
 }
 
 // q above the k bits of low. Bytes so nested become one load.
-fn on(q: usize, k: u32, low: usize) -> usize
+pub fn on(q: usize, k: u32, low: usize) -> usize
     requires { ⌜ (q < 256) × (k ≤ 56) × (low < 2 ^ k) ⌝ }
     ensures { λ r. ⌜ r ≡ q * 2 ^ k + low ⌝ }
 {

@@ -1,38 +1,27 @@
 -- `hash::hash` meets its contract: what is left of the code, taken in from h on, gives the hash of the whole. Assumes nothing.
-use Prim.Native.Nat.{ℕ, _+_, _*_, _%_, _^_, _-_, _≤_, _<_}
+use Prim.Native.Nat.{_-_, _%_, _≤_}
 use mathlib.Core.Path.{_≡_, sym, _∙_}
-use mathlib.Core.List.{List}
-use native.Mathlib.Numerals.{add-one}
 use native.Mathlib.Omega.{arith}
-use borrow.Author.Needs.{needs}
-use lib.Bits.{bitXor}
-use lib.ListN.{length, getD, drop, drop-of-length-le}
-use lib.Seq.{drop-cons}
+use lib.ListN.{drop}
 use Rattle.fnv.specs.Fnv.{fnv, each}
-use Rattle.fnv.specs.Fnv.Laws.{starts, ends, goes-on}
+use Rattle.fnv.specs.Fnv.Laws.{starts}
 use Rattle.hash.proofs.hash.Statement.{statement}
 use Rattle.hash.proofs.hash.Tie as tie
 
--- one byte more
-more : (code : List ℕ) (h i r : ℕ) → i < length code → r ≡ bitXor h (getD code i 0) * 16777619 % 2 ^ 32
-    → each h (drop i code) ≡ fnv code → each r (drop (i + 1) code) ≡ fnv code
-more code h i r l e all =
-    rw (add-one, e, ← goes-on, ← drop-cons code i 0 l) all
-
 abbrev Inv-loop : tie.InvT-loop
-Inv-loop code h₀ i₀ h i = (i ≤ length code) × (each h (drop i code) ≡ fnv code)
+Inv-loop code r n h₀ i₀ h i = (i % 4 ≡ 0) × (i ≤ n) × (each h (drop i code) ≡ fnv code)
 
 abbrev μ-loop : tie.MeasureT-loop
-μ-loop code h₀ i₀ h i = length code - i
+μ-loop code r n h₀ i₀ h i = n - i
+
+sub-n : tie.Need-sub-n Inv-loop μ-loop
+sub-n c = omega arith
 
 loop-holds : tie.Need-loop-holds Inv-loop μ-loop
-loop-holds c = (omega arith, sym (starts _))
+loop-holds c = (omega arith, omega arith, sym (starts _))
 
-shared-slice-read-step : tie.Need-shared-slice-read-step Inv-loop μ-loop
-shared-slice-read-step c = omega arith
-
-step-requires : tie.Need-step-requires Inv-loop μ-loop
-step-requires c κs = search needs
+four-requires : tie.Need-four-requires Inv-loop μ-loop
+four-requires c κs = omega arith
 
 add-i : tie.Need-add-i Inv-loop μ-loop
 add-i c = omega arith
@@ -41,15 +30,13 @@ loop-less : tie.Need-loop-less Inv-loop μ-loop
 loop-less c = omega arith
 
 loop-again : tie.Need-loop-again Inv-loop μ-loop
-loop-again c =
-    let l = c .before .before .before .loop in
-    (omega arith, more _ (l .h) (l .i) (c .step .result) (omega arith) (c .step .ensures) (l .inv .1))
+loop-again c = (omega arith, omega arith, c .four .ensures ∙ c .before .before .loop .inv .2)
+
+last-three-requires : tie.Need-last-three-requires Inv-loop μ-loop
+last-three-requires c κs = omega arith
 
 returns : tie.Need-returns Inv-loop μ-loop
-returns c =
-    let l = c .before .loop in
-    let end : length (c .before .before .before .args .code .now) ≤ l .i = omega arith in
-    sym (ends _) ∙ (rw (drop-of-length-le _ end) at (l .inv .1))
+returns c = c .last-three .ensures ∙ c .before .before .loop .inv .2
 
 pub hash-spec : {M : Type 1} → statement M
 hash-spec =
@@ -57,10 +44,11 @@ hash-spec =
     (tie.spec
     Inv-loop
     μ-loop
+    sub-n
     loop-holds
-    shared-slice-read-step
-    step-requires
+    four-requires
     add-i
     loop-less
     loop-again
+    last-three-requires
     returns)

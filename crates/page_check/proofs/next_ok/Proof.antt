@@ -38,7 +38,10 @@ climbs : (c : tie.After-rises) → Says (c .rises .result) (Before (part (c .bef
 climbs c = rw (step (c .before .before .before .before .before .args .w) (sound (c .before))) at (c .rises .ensures)
 
 rises-requires : tie.Need-rises-requires
-rises-requires c κs = let w = sound c in omega (arith, w)
+rises-requires c κs =
+    let w = sound c in
+    let p = c .before .before .before .before .pre in
+    (p .1, p .2, record { order = omega (arith, w); within = omega (arith, w) })
 
 returns-2 : tie.Need-returns-2
 returns-2 c = ((λ n. says-false (c .before .rises .result) (not-true _ (c .if2 .taken)) (climbs (c .before)) (n .rises)), ((λ e. untrue e), (λ _. refl)))

@@ -1,11 +1,14 @@
 -- `page_check::rises` meets its contract. Assumes nothing.
 use Prim.Native.Nat.{_-_}
 use mathlib.Core.Path.{_≡_, subst}
+use mathlib.Core.Logic.{⊎-elim}
+use native.Mathlib.Omega.{arith}
 use borrow.Author.Needs.{needs}
 use Rattle.ground.specs.Lists.{part}
 use Rattle.words.specs.Codes.{Before, Ordered}
 use Rattle.words.proofs.Orders.{irrefl, before-trans}
 use Rattle.words.specs.declared.Order.{Order}
+use Rattle.page_check.proofs.Firsts.{leads-before}
 use Rattle.page_check.proofs.rises.Statement.{statement}
 use Rattle.page_check.proofs.rises.Tie as tie
 
@@ -13,7 +16,13 @@ leads-requires : tie.Need-leads-requires
 leads-requires c κs = search needs
 
 returns : tie.Need-returns
-returns c = c .before .leads .ensures (c .if1 .taken)
+returns c =
+    let z = c .before .before .before in
+    let w = c .before .leads .ensures (c .if1 .taken) in
+    ⊎-elim
+    (λ d. leads-before (z .args .page .now) (λ k. omega (arith, c .before .before .shared-slice-known .given k)) 8 _ _ _ _ (omega arith) (omega arith) (omega arith) (omega arith) (omega (arith, d .1, w .1)))
+    (λ d. absurd (omega (arith, w .2)))
+    (z .pre .1)
 
 sub-compare : tie.Need-sub-compare
 sub-compare c = search needs

@@ -13,12 +13,12 @@ use lib.Seq.{take-length, drop-length}
 use Rattle.ground.specs.Lists.{tab, total, insertAt, removeAt}
 use Rattle.ground.proofs.Sides.{side}
 use Rattle.ground.proofs.Tables.{length-tab, tab-same, tab-set, tab-map, total-same}
-use Rattle.words.specs.Codes.{order, Before}
+use Rattle.words.specs.Codes.{GoodCode, order, Before}
 use Rattle.words.proofs.Orders.{order-refl, irrefl}
 use Rattle.partition.specs.declared.Shape.{Shape}
 use Rattle.partition.specs.Partition.{Row, need, needs}
-use Rattle.partition.specs.Listing.{by, insert, without, inOrder, placeOf, Once}
-use Rattle.partition.proofs.Rising.{by-ne, unlike, unlike-after, tab-in, tab-member, Rising, rising-tab, insert-tab, without-tab}
+use Rattle.partition.specs.Listing.{by, insert, without, inOrder, placeOf, Once, Rising}
+use Rattle.partition.proofs.Rising.{by-ne, unlike, unlike-after, tab-in, tab-member, rising-tab, insert-tab, without-tab}
 use Rattle.partition.proofs.Sorted.{by-code, rising-once, order-own}
 use Rattle.partition.proofs.Maps.{placed, missing}
 use Rattle.page.specs.Page.{Slotted, Belongs, Natural, Record, rows, rowAt, count, frontier, free, depth, off, len, place, code}
@@ -208,13 +208,12 @@ module _ (q : List ℕ) (rs : List Row) (c pl : List ℕ) (Q : Slotted q) (K : r
   reach = omega (arith, page-frontier q Q, ap frontierOf K, Q .start, pack-top rs 8 (omega arith))
 
   -- there is room at its frontier for a row that fits
-  pub append-fits : ((i : ℕ) → i < count q → Before (code q i) c) → Natural pl → 1 ≤ length c → length c ≤ 64 → needs rs + (12 + length c) ≤ length q - 8 → Insertable q (count q) c pl
-  append-fits lo n a b h = record {
+  pub append-fits : ((i : ℕ) → i < count q → Before (code q i) c) → Natural pl → GoodCode c → needs rs + (12 + length c) ≤ length q - 8 → Insertable q (count q) c pl
+  append-fits lo n good h = record {
     page = Q;
     belongs = record { within = omega arith; left = lo; right = λ i l m. absurd (omega arith) };
     natural = n;
-    some = a;
-    most = b;
+    good = good;
     fits = omega (arith, page-needs q Q, ap needs (ap (map asRow) K ∙ pack-rows rs 8));
     room = omega (arith, reach, many, needs-span rs, Q .least);
   }

@@ -13,12 +13,8 @@ use Rattle.ground.proofs.Tables.{tab-set}
 use Rattle.words.specs.Le.{le32}
 use Rattle.words.proofs.Bytes.{le32-same}
 use Rattle.partition.specs.declared.Shape.{Shape}
-use Rattle.store.specs.Pages.{size, pages, page, dirDepth, entryAt, read, contents}
+use Rattle.store.specs.Pages.{size, pages, page, setPage, dirDepth, entryAt, read, contents}
 use Rattle.store.proofs.Accepted.Unique.{within}
-
--- the store with ys for page p
-unfoldable pub setPage : Shape → List ℕ → ℕ → List ℕ → List ℕ
-setPage S s p ys = splice s (p * size S) (size S) ys
 
 -- the part s[a..e] that is lent is page p, and what comes back is the store with page p set
 pub lent-page : (S : Shape) (s : List ℕ) (p a e : ℕ) → a ≡ p * size S → e ≡ a + size S → take (e - a) (drop a s) ≡ page S s p

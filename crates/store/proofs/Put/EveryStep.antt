@@ -8,10 +8,10 @@ use lib.ListN.{length, getD, set, take}
 use Rattle.page.specs.Page.{Record}
 use Rattle.partition.specs.Partition.{Row, Prefix}
 use Rattle.store.specs.Pages.{Page, free, bucket}
-use Rattle.store.specs.Moves.{find, isFree, packed, written}
+use Rattle.store.specs.Moves.{find, isFree, packed, written, frees}
 use Rattle.store.proofs.Showing.Shows.{Holding}
 use Rattle.store.proofs.Showing.Shown.{free-not}
-use Rattle.store.proofs.Showing.Rooms.{frees, find-free}
+use Rattle.store.proofs.Showing.Rooms.{find-free}
 
 -- a bucket on a free page leaves one free page less
 fill-frees : (gs : List Page) (i l : ℕ) (qs : List Record) → i < length gs → getD gs i free ≡ free → suc (frees (set gs i (bucket l qs))) ≡ frees gs

@@ -20,12 +20,12 @@ use Rattle.partition.proofs.Laws.{Shallowest, reordered, add-appears, left-join
 use Rattle.partition.proofs.Store.{fine-add, home, not-deeper, put-unheld, count-fits, count-new, count-splits}
 use Rattle.partition.proofs.Below.{load-same}
 use Rattle.store.specs.Pages.{Page, free, bucket, asRow, rowsIn}
-use Rattle.store.specs.Moves.{pick, find, isFree, holds, bucketOf, record-at, packFrom, packed, added, written, newBucket, putOn, putNew}
+use Rattle.store.specs.Moves.{pick, find, isFree, holds, bucketOf, record-at, packFrom, packed, added, written, newBucket, putOn, putNew, frees}
 use Rattle.store.proofs.Showing.Shows.{prefixOn, Holding, Shows}
 use Rattle.store.proofs.Showing.Shown.{paged, find-held, find-only, bucket-found}
 use Rattle.store.proofs.Showing.Holder.{its-bucket, its-rows, its-needs}
 use Rattle.store.proofs.Paging.Records.{fits-true, fits-false}
-use Rattle.store.proofs.Showing.Rooms.{frees, rooms}
+use Rattle.store.proofs.Showing.Rooms.{rooms}
 use Rattle.store.proofs.Put.EveryStep.{Roomy, every-step, packed-used}
 
 module _ (S : Shape) (h : List ℕ → ℕ) (small : (c : List ℕ) → h c < 2 ^ 32) (rows : List Row) (gs : List Page) (s : Shows S h rows gs) (r : Row) where

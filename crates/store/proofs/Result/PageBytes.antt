@@ -15,7 +15,8 @@ use Rattle.partition.specs.declared.Shape.{Shape}
 use Rattle.partition.specs.Partition.{Row, need, needs, rowsOf}
 use Rattle.partition.proofs.Members.{in-order-reordered}
 use Rattle.partition.proofs.Reorders.{needs-same}
-use Rattle.partition.proofs.Rising.{Rising, tab-in}
+use Rattle.partition.proofs.Rising.{tab-in}
+use Rattle.partition.specs.Listing.{Rising}
 use Rattle.partition.proofs.Sorted.{by-code, order-rising, some-once}
 use Rattle.partition.proofs.Store.{not-deeper}
 use Rattle.page.specs.Page.{Record}

@@ -18,7 +18,7 @@ use Rattle.partition.proofs.Laws.{in-order}
 use Rattle.partition.proofs.Store.{not-deeper}
 use Rattle.partition.proofs.Members.{Distinct, no-longer, distinct-append, asc-distinct}
 use Rattle.store.specs.Pages.{Page, free, bucket}
-use Rattle.store.specs.Moves.{find, isFree}
+use Rattle.store.specs.Moves.{find, isFree, frees}
 use Rattle.store.proofs.Showing.Shows.{prefixOn, OnPage, Holding, Shows}
 use Rattle.store.proofs.Showing.Shown.{free-not, within-pages, find-passes, find-least, Part, Any, paged, whole}
 
@@ -127,11 +127,6 @@ module _ (S : Shape) (h : List ℕ → ℕ) where
     }
 
 -- ---- how many are free
-
-abbrev pub frees : List Page → ℕ
-frees [] = 0
-frees (free ∷ gs) = suc (frees gs)
-frees (bucket k rs ∷ gs) = frees gs
 
 free-there : (gs : List Page) → 0 < frees gs → (i : ℕ) × (i < length gs) × (getD gs i free ≡ free)
 free-there [] l = absurd (omega arith)

@@ -4,6 +4,7 @@ use Prim.Native.Nat.{ℕ, _+_, _*_, _^_, _≤_}
 use mathlib.Core.Path.{_≡_, sym, ap, _∙_}
 use mathlib.Core.List.{List}
 use native.Mathlib.Omega.{arith}
+use native.Mathlib.Nat.{mul-le-mul-right}
 use lib.Pow.{pow-mono}
 use denote.Ref.{now}
 use Rattle.ground.specs.Lists.{byte}
@@ -11,7 +12,9 @@ use Rattle.hash.specs.Fnv.{fnv}
 use Rattle.page.specs.Page.{depth, code}
 use Rattle.partition.specs.Bits.{top}
 use Rattle.partition.specs.Partition.{first, after}
-use Rattle.store.specs.Pages.{S1024, page}
+use Rattle.partition.specs.declared.Shape.{Shape}
+use Rattle.partition.proofs.Sizes.{twelve}
+use Rattle.store.specs.Pages.{size, page}
 use Rattle.store.proofs.Paging.Depths.{page-byte, kind-byte}
 use Rattle.store.proofs.Paging.Views.{page-lent}
 use Rattle.directory.proofs.Directories.{named-page, unnamed-page}
@@ -26,11 +29,17 @@ module _ (c : tie.Start) where
   abbrev p : ℕ
   p = c .args .p
 
-  kind : byte (page S1024 s p) 0 ≡ byte s (p * 1024)
-  kind = kind-byte S1024 s p
+  abbrev S : Shape
+  S = c .args .z
 
-  deep : depth (page S1024 s p) ≡ byte s (p * 1024 + 1)
-  deep = page-byte S1024 s p 1 (omega arith)
+  kind : byte (page S s p) 0 ≡ byte s (p * size S)
+  kind = kind-byte S s p
+
+  deep : depth (page S s p) ≡ byte s (p * size S + 1)
+  deep = page-byte S s p 1 (omega arith)
+
+add-size : tie.Need-add-size
+add-size c = search needs
 
 mul-a : tie.Need-mul-a
 mul-a c = search needs
@@ -48,7 +57,7 @@ slice-read-k : tie.Need-slice-read-k
 slice-read-k c = search needs
 
 cast-k : tie.Need-cast-k
-cast-k c = let a = c .before .before .before .before .args in omega (arith, c .slice-known3 .given (a .p * 1024 + 1))
+cast-k c = let z = c .before .before .before .before .before in omega (arith, c .slice-known3 .given (p z * size (S z) + 1))
 
 sub-hash-slot : tie.Need-sub-hash-slot
 sub-hash-slot c = search needs
@@ -61,35 +70,42 @@ part-hash-slot-end c = search needs
 
 hash-slot-requires : tie.Need-hash-slot-requires
 hash-slot-requires c κs =
-    let z = c .before .before .before .before .before .before in
+    let z = c .before .before .before .before .before .before .before in
     let t = c .before .before .before .if1 .taken in
-    let b = z .pre .4 .rules (kind z ∙ t) in
-    rw (page-lent S1024 (s z) (p z)) (b, b .some)
+    let b = z .pre .1 .keeps .rules (kind z ∙ t) in
+    rw (page-lent (S z) (s z) (p z)) (b, b .some)
 
 run-of-requires : tie.Need-run-of-requires
 run-of-requires c κs =
-    let z = c .before .before .before .before .before .before .before in
+    let z = c .before .before .before .before .before .before .before .before in
     let t = c .before .before .before .before .if1 .taken in
-    (omega (arith, deep z, z .pre .4 .depths (kind z ∙ t)), omega arith)
+    (omega (arith, deep z, z .pre .1 .keeps .depths (kind z ∙ t)), omega (arith, z .pre .1 .deep, twelve (S z) (z .pre .0)))
 
 set-run-requires : tie.Need-set-run-requires
 set-run-requires c κs =
-    let z = c .before .before .before .before .before .before .before .before .before in
+    let z = c .before .before .before .before .before .before .before .before .before .before in
     let e = c .before .run-of .ensures in
-    let m : 2 ^ (z .args .d) ≤ 2 ^ 8 = pow-mono (z .pre .3) in
-    (omega (arith, z .pre), e .2, omega (arith, e .3), omega (arith, z .pre))
+    let m : 2 ^ (z .args .d) ≤ 2 ^ S z .deepest = pow-mono (z .pre .1 .deep) in (
+      z .pre .0,
+      record {
+        long = omega (arith, mul-le-mul-right (size (S z)) (z .pre .1 .least), z .pre .1 .there);
+        rising = e .2;
+        within = omega (arith, e .3, z .pre .0 .deep);
+        word = omega (arith, z .pre .1 .most, z .pre .0 .whole, z .pre .0 .most);
+      },
+    )
 
 same-length : tie.Need-same-length
 same-length c = search needs
 
 returns : tie.Need-returns
 returns c =
-    let z = c .before .before .before .before .before .before .before .before .before .before .before .before in
+    let z = c .before .before .before .before .before .before .before .before .before .before .before .before .before in
     let t = c .before .before .before .before .before .before .before .before .before .if1 .taken in
     let f = c .before .before .before .before .before .hash-slot .ensures in
     let e = c .before .before .before .before .run-of .ensures in
-    let x = f ∙ ap (λ g. fnv (code g 0)) (page-lent S1024 (s z) (p z)) in
-    named-page fnv (s z) (z .args .d) (p z) (z .pre .3) (c .before .before .set-run .last .0) (c .before .before .before .before .run-of .result .from) (c .before .before .before .before .run-of .result .to)
+    let x = f ∙ ap (λ g. fnv (code g 0)) (page-lent (S z) (s z) (p z)) in
+    named-page (S z) (z .pre .0) fnv (s z) (z .args .d) (p z) (z .pre .1 .deep) (c .before .before .set-run .last .0) (c .before .before .before .before .run-of .result .from) (c .before .before .before .before .run-of .result .to)
     (kind z ∙ t)
     (e .0 ∙ sym (λ i. first (z .args .d) (record { bits = deep z i; value = top (deep z i) (sym x i) })))
     (e .1 ∙ sym (λ i. after (z .args .d) (record { bits = deep z i; value = top (deep z i) (sym x i) })))
@@ -97,13 +113,14 @@ returns c =
 
 returns-2 : tie.Need-returns-2
 returns-2 c =
-    let z = c .before .before .before in
-    unnamed-page fnv (s z) (z .args .d) (p z) (z .pre .3) (λ u. c .if1 .left (sym (kind z) ∙ u))
+    let z = c .before .before .before .before in
+    unnamed-page (S z) (z .pre .0) fnv (s z) (z .args .d) (p z) (z .pre .1 .deep) (λ u. c .if1 .left (sym (kind z) ∙ u))
 
 pub name-page-spec : {M : Type 1} → statement M
 name-page-spec =
     tie.close
     (tie.spec
+    add-size
     mul-a
     add-e
     slice-read-if1

@@ -17,7 +17,7 @@ cast-write-directory c = search needs
 write-directory-requires : tie.Need-write-directory-requires
 write-directory-requires c κs =
     let z = c .before .before .before .before in
-    subst (λ d. Directable (now (z .args .s)) (z .args .n) d) (sym (c .before .deepest .ensures .0)) (directable (now (z .args .s)) (z .args .n) (z .pre))
+    (z .pre .0, subst (λ d. Directable (z .args .z) (now (z .args .s)) (z .args .n) d) (sym (c .before .deepest .ensures .0)) (directable (z .args .z) (now (z .args .s)) (z .args .n) (z .pre .1)))
 
 same-length : tie.Need-same-length
 same-length c = search needs
@@ -25,7 +25,7 @@ same-length c = search needs
 returns : tie.Need-returns
 returns c =
     let z = c .before .before .before .before .before .before .before in
-    subst (λ d. Directed fnv (now (z .args .s)) d (z .args .n) (c .before .before .write-directory .last .0)) (c .before .before .before .before .deepest .ensures .0) (c .before .before .write-directory .ensures)
+    subst (λ d. Directed (z .args .z) fnv (now (z .args .s)) d (z .args .n) (c .before .before .write-directory .last .0)) (c .before .before .before .before .deepest .ensures .0) (c .before .before .write-directory .ensures)
 
 pub settle-spec : {M : Type 1} → statement M
 settle-spec =

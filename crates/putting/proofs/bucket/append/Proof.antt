@@ -16,7 +16,7 @@ insert-at-frontier-requires c κs =
     let a = z .args in
     let p = z .pre in
     subst (λ n. Insertable (now (a .page)) n (now (a .key)) (now (a .place))) (sym (c .before .get16 .ensures .0))
-    (ready (now (a .page)) (now (a .key)) (now (a .place)) (p .0) (p .1) (p .2) (p .3))
+    (ready (now (a .page)) (now (a .key)) (now (a .place)) (p .0) (p .1) (p .2))
 
 same-length : tie.Need-same-length
 same-length c = search needs

@@ -35,7 +35,7 @@ append-requires : tie.Need-append-requires
 append-requires c κs =
     let b = c .before .before in
     let p = z b .pre in
-    (subst (Behind (page b)) (held b (c .before .if1 .taken)) (p .0), p .3, p .4, p .5)
+    (subst (Behind (page b)) (held b (c .before .if1 .taken)) (p .0), p .3, p .4)
 
 same-length : tie.Need-same-length
 same-length c = search needs

@@ -4,12 +4,10 @@ use Rattle.putting.specs.Split.{Behind, Appended}
 use Rattle.store.specs.Pages.{asRow}
 use Rattle.partition.specs.Partition.{Row, rowsOf}
 use Rattle.partition.specs.Bits.{top}
-use Rattle.page.proofs.Sums.{len-of-code}
-use Rattle.page.proofs.Slots.{lies}
+use Rattle.page.proofs.Sums.{slot-code}
 use Rattle.page.specs.Page.{code, rowAt}
 use Rattle.hash.specs.Fnv.{fnv}
 use denote.Ref.{now}
-use native.Mathlib.Omega.{arith}
 use Prim.Native.Nat.{ℕ}
 use mathlib.Core.List.{List, [], _∷_}
 use mathlib.Core.Path.{_≡_, sym, ap, subst, _∙_}
@@ -51,9 +49,7 @@ append-requires c κs =
     let b = c .before .before .before .before in
     let i = z b .args .i in
     let p = z b .pre in
-    let n = len-of-code (from b) i (p .0) (p .1) in
-    let l = lies i (p .0) (p .1) in
-    rw (c .before .code-at .ensures, c .place-at .ensures) (subst (Behind (page b)) (held b (c .before .before .before .if1 .taken)) (p .4), p .0 .places i (p .1), omega (arith, n, l), omega (arith, n, l))
+    rw (c .before .code-at .ensures, c .place-at .ensures) (subst (Behind (page b)) (held b (c .before .before .before .if1 .taken)) (p .4), p .0 .places i (p .1), slot-code (from b) i (p .0) (p .1))
 
 same-length : tie.Need-same-length
 same-length c = search needs

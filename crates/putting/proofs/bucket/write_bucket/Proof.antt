@@ -93,7 +93,7 @@ append-if-requires c κs =
     let b = d .before .before .before .before in
     let p = z b .pre in
     let x = ap (λ n. getD (now (z b .args .hs)) n 0) (b .before .before .get16 .ensures .0) ∙ p .1 .new in
-    (behind-left (y1 d) (mid b) (last b) (behind-mid d), x, p .3, p .0 .natural, p .0 .some, p .0 .short)
+    (behind-left (y1 d) (mid b) (last b) (behind-mid d), x, p .3, p .0 .natural, p .0 .good)
 
 append-slots-requires-2 : tie.Need-append-slots-requires-2
 append-slots-requires-2 c κs =

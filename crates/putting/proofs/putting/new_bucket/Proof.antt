@@ -4,10 +4,10 @@ use Rattle.directory.proofs.Settles.{settling}
 use Rattle.directory.proofs.OnePage.{lent, back}
 use Rattle.putting.specs.Put.{Unset, Vacant}
 use Rattle.directory.specs.Directory.{Settling}
-use Rattle.store.proofs.Paging.Views.{setPage}
 use Rattle.store.proofs.Accepted.Rules.{opened}
-use Rattle.store.proofs.Showing.Rooms.{frees}
-use Rattle.store.specs.Pages.{S1024, pages, page, dirDepth, contents}
+use Rattle.store.specs.Moves.{frees}
+use Rattle.store.specs.Demands.{sized-1024}
+use Rattle.store.specs.Pages.{S1024, pages, page, dirDepth, contents, setPage}
 use Rattle.page.specs.Packed.{Started}
 use Rattle.partition.specs.Bits.{top}
 use Rattle.hash.specs.Fnv.{fnv, fnv-lt}
@@ -78,8 +78,8 @@ module _ (b : tie.After-start-page) where
   to : p < pages S1024 (s zs)
   to = lowest-at .lowest-free .ensures .1
 
-  settles : Settling (setPage S1024 (s zs) p q) (length (s zs) / 1024)
-  settles = settling fnv fnv-lt (s zs) (zs .pre .0 .accepted) (setPage S1024 (s zs) p q)
+  settles : Settling S1024 (setPage S1024 (s zs) p q) (length (s zs) / 1024)
+  settles = settling S1024 sized-1024 fnv fnv-lt (s zs) (zs .pre .0 .accepted) (setPage S1024 (s zs) p q)
       (wrote fnv fnv-lt (s zs) (key zs) (place zs) (zs .pre .0) (zs .pre .2) (some tested) k vacant p (lowest-at .lowest-free .ensures .0) to q started)
 
 free-pages-requires : tie.Need-free-pages-requires
@@ -130,7 +130,7 @@ start-page-requires : tie.Need-start-page-requires
 start-page-requires c κs = search needs
 
 settle-requires : tie.Need-settle-requires
-settle-requires c κs = let b = c .before .before .before in rw (back (s (zs b)) (p b) (q b)) (settles b)
+settle-requires c κs = let b = c .before .before .before in (sized-1024, rw (back (s (zs b)) (p b) (q b)) (settles b))
 
 same-length-2 : tie.Need-same-length-2
 same-length-2 c = search needs

@@ -1,6 +1,8 @@
 -- `putting::put` meets its contract: the refusals in order, then the row on an accepted store. Assumes nothing.
 use Rattle.store.proofs.Accepted.Rules.{accepted-whole}
-use Rattle.store.specs.Tables.{Refusal3, putAccepted, putTable, meaning}
+use Rattle.store.proofs.Demands.Kept.{three, no-three}
+use Rattle.words.specs.Codes.{GoodCode}
+use Rattle.store.specs.Tables.{putAccepted, putTable, meaning}
 use Rattle.store.specs.Accepted.{GoodLength}
 use Rattle.store.specs.Demands.{sized-1024}
 use Rattle.store.specs.Pages.{S1024}
@@ -11,9 +13,8 @@ use Rattle.hash.specs.Fnv.{fnv}
 use Rattle.ground.proofs.Tests.{says-true, says-false}
 use Rattle.ground.specs.Ladder.{Answers}
 use denote.Ref.{now}
-use native.Mathlib.Omega.{arith}
 use mathlib.Core.Path.{refl, sym, subst}
-use mathlib.Core.Logic.{inl, inr, ⊎-elim}
+use mathlib.Core.Logic.{inl, inr}
 use borrow.Author.Tests.{not-true, not-false}
 use borrow.Author.Needs.{needs}
 use Rattle.putting.proofs.putting.put.Statement.{statement}
@@ -24,23 +25,27 @@ module _ (c : tie.Else1) where
   abbrev z : tie.Start
   z = c .before .before .before .before .before
 
-  good : GoodLength S1024 (now (z .args .s))
-  good = says-true {P = GoodLength S1024 (now (z .args .s))} (c .before .good-length .result) (not-false _ (c .if1 .left)) (c .before .good-length .ensures)
+  long : GoodLength S1024 (now (z .args .s))
+  long = says-true {P = GoodLength S1024 (now (z .args .s))} (c .before .good-length .result) (not-false _ (c .if1 .left)) (c .before .good-length .ensures)
 
--- past the code's length
-short : (c : tie.Else3) → Refusal3 (now (z (c .before .before) .args .key)) → ⊥
-short c = ⊎-elim (λ e. c .before .if2 .left e) (λ l. omega (arith, c .if3 .left))
+-- past the door
+module _ (c : tie.Else2) where
+  abbrev first : tie.Else1
+  first = c .before .before
+
+  good : GoodCode (now (z first .args .key))
+  good = says-true {P = GoodCode (now (z first .args .key))} (c .before .good-code .result) (not-false _ (c .if2 .left)) (c .before .good-code .ensures)
 
 -- past the place
-module _ (c : tie.Else4) where
-  abbrev e : tie.Else3
+module _ (c : tie.Else3) where
+  abbrev e : tie.Else2
   e = c .before .before
 
   abbrev start : tie.Start
-  start = z (e .before .before)
+  start = z (first e)
 
   positive : Negative (start .args .place) → ⊥
-  positive = says-false {P = Negative (start .args .place)} (c .before .negative .result) (c .if4 .left) (c .before .negative .ensures)
+  positive = says-false {P = Negative (start .args .place)} (c .before .negative .result) (c .if3 .left) (c .before .negative .ensures)
 
   -- its three numbers are 32, 16 and 16 bits wide
   ranged : InRange (start .args .place)
@@ -56,22 +61,32 @@ returns : tie.Need-returns
 unfolding putTable
 returns c = inl (tt, (says-false {P = GoodLength S1024 (now (c .before .before .before .before .before .args .s))} (c .before .good-length .result) (not-true _ (c .if1 .taken)) (c .before .good-length .ensures), refl))
 
+good-code-requires : tie.Need-good-code-requires
+good-code-requires c κs = search needs
+
 same-length-2 : tie.Need-same-length-2
 same-length-2 c = search needs
 
 returns-2 : tie.Need-returns-2
 unfolding putTable
-returns-2 c = inr ((λ _ n. n (good (c .before))), inl (tt, (inl (c .if2 .taken), refl)))
+returns-2 c =
+    let x = c .before .before in
+    inr ((λ _ n. n (long x)), inl (tt, (three (now (z x .args .key)) (says-false {P = GoodCode (now (z x .args .key))} (c .before .good-code .result) (not-true _ (c .if2 .taken)) (c .before .good-code .ensures)), refl)))
+
+negative-requires : tie.Need-negative-requires
+negative-requires c κs = search needs
 
 same-length-3 : tie.Need-same-length-3
 same-length-3 c = search needs
 
 returns-3 : tie.Need-returns-3
 unfolding putTable
-returns-3 c = inr ((λ _ n. n (good (c .before .before))), inl (tt, (inr (c .if3 .taken), refl)))
+returns-3 c =
+    let d = c .before .before in
+    inr ((λ _ n. n (long (first d))), inr ((λ _ r. no-three _ (good d) r), inl (tt, (says-true {P = Negative (z (first d) .args .place)} (c .before .negative .result) (c .if3 .taken) (c .before .negative .ensures), refl))))
 
-negative-requires : tie.Need-negative-requires
-negative-requires c κs = search needs
+first-bad-requires : tie.Need-first-bad-requires
+first-bad-requires c κs = long (first (e (c .before)))
 
 same-length-4 : tie.Need-same-length-4
 same-length-4 c = search needs
@@ -79,20 +94,8 @@ same-length-4 c = search needs
 returns-4 : tie.Need-returns-4
 unfolding putTable
 returns-4 c =
-    let e = c .before .before in
-    inr ((λ _ n. n (good (e .before .before))), inr ((λ _ r. short e r), inl (tt, (says-true {P = Negative (z (e .before .before) .args .place)} (c .before .negative .result) (c .if4 .taken) (c .before .negative .ensures), refl))))
-
-first-bad-requires : tie.Need-first-bad-requires
-first-bad-requires c κs = good (e (c .before) .before .before)
-
-same-length-5 : tie.Need-same-length-5
-same-length-5 c = search needs
-
-returns-5 : tie.Need-returns-5
-unfolding putTable
-returns-5 c =
     let d = c .before .before .before in
-    inr ((λ _ n. n (good (e d .before .before))), inr ((λ _ r. short (e d) r), inr ((λ _ n. positive d n), inl (c .before .first-bad .result, (c .before .first-bad .ensures .bad (c .if5 .taken), refl)))))
+    inr ((λ _ n. n (long (first (e d)))), inr ((λ _ r. no-three _ (good (e d)) r), inr ((λ _ n. positive d n), inl (c .before .first-bad .result, (c .before .first-bad .ensures .bad (c .if4 .taken), refl)))))
 
 slice-aggregate-store-place : tie.Need-slice-aggregate-store-place
 slice-aggregate-store-place c = search needs
@@ -108,27 +111,26 @@ put-row-requires c κs =
     let b = c .before .before .before .before .before in
     let d = b .before .before .before in
     record {
-      accepted = b .before .first-bad .ensures .sound (b .if5 .left);
-      some = omega (arith, e d .before .if2 .left);
-      short = omega (arith, e d .if3 .left);
+      accepted = b .before .first-bad .ensures .sound (b .if4 .left);
+      good = good (e d);
       natural = subst Natural (sym (c .before .before .before .store-place .ensures)) (stored-natural (start d .args .place) (positive d) (ranged d));
     }
 
-same-length-6 : tie.Need-same-length-6
-same-length-6 c = search needs
+same-length-5 : tie.Need-same-length-5
+same-length-5 c = search needs
 
-returns-6 : tie.Need-returns-6
+returns-5 : tie.Need-returns-5
 unfolding putTable
-returns-6 c =
+returns-5 c =
     let y = c .before .before .before .before .before .before in
     let b = y .before .before in
     let d = b .before .before .before in
-    let a = b .before .first-bad .ensures .sound (b .if5 .left) in
+    let a = b .before .first-bad .ensures .sound (b .if4 .left) in
     let w = c .before .before .put-row in
     inr (
-      (λ _ n. n (good (e d .before .before))),
+      (λ _ n. n (long (first (e d)))),
       inr (
-        (λ _ r. short (e d) r),
+        (λ _ r. no-three _ (good (e d)) r),
         inr (
           (λ _ n. positive d n),
           inr (
@@ -149,19 +151,18 @@ put-spec =
     good-length-requires
     same-length
     returns
+    good-code-requires
     same-length-2
     returns-2
+    negative-requires
     same-length-3
     returns-3
-    negative-requires
+    first-bad-requires
     same-length-4
     returns-4
-    first-bad-requires
-    same-length-5
-    returns-5
     slice-aggregate-store-place
     store-place-requires
     slice-aggregate-put-row
     put-row-requires
-    same-length-6
-    returns-6)
+    same-length-5
+    returns-5)

@@ -110,8 +110,7 @@ insert-new-requires c κs =
         page = q .1 .bytes .rules .rules;
         belongs = belongs b;
         natural = q .0 .natural;
-        some = q .0 .some;
-        most = q .0 .short;
+        good = q .0 .good;
         fits = omega (arith, room b, c .before .if1 .taken);
       },
     )

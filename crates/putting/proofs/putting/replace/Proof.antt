@@ -11,10 +11,9 @@ use Rattle.page.specs.Page.{code, place}
 use Rattle.page.specs.Steps.{Overwritten}
 use Rattle.page.specs.Places as Places
 use Rattle.partition.specs.Partition.{Row}
-use Rattle.store.specs.Pages.{S1024, page}
+use Rattle.store.specs.Pages.{S1024, page, setPage}
 use Rattle.store.specs.Tables.{replaced, putAccepted}
 use Rattle.store.specs.Demands.{sized-1024}
-use Rattle.store.proofs.Paging.Views.{setPage}
 use Rattle.directory.proofs.OnePage.{lent, back}
 use Rattle.putting.proofs.Puts.{put-known}
 use Rattle.putting.proofs.putting.replace.Statement.{statement}

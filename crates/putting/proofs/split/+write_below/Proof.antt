@@ -106,7 +106,7 @@ module _ (t : ℕ) (b : Loaded t) where
     over = omega (arith, weight)
 
 write-below-load-requires : (t : ℕ) → write-below-lts.Need-load-requires (told t) (write-below-at t) write-below.Post
-write-below-load-requires t c κs = let z = c .before .before .before .before .before .before in (z .pre .1 .3 .deep, z .pre .1 .0 .page, z .pre .1 .0 .short, z .pre .1 .1, z .pre .1 .2)
+write-below-load-requires t c κs = let z = c .before .before .before .before .before .before in (z .pre .1 .3 .deep, z .pre .1 .0 .page, z .pre .1 .0 .good .most, z .pre .1 .1, z .pre .1 .2)
 
 write-below-returns : (t : ℕ) → write-below-lts.Need-returns (told t) (write-below-at t) write-below.Post
 write-below-returns t c = let b = c .before in bare-wrote fnv (rs t b) (k t b) (v t b) (s t b) (at t b) (W t b) (sym (weight t b) ∙ c .if1 .taken)

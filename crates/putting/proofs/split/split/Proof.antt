@@ -5,6 +5,7 @@ use Rattle.directory.proofs.OnePage.{lent}
 use Rattle.putting.specs.Split.{keyed, below, pagesBelow, Source, Writable, BucketsWritten}
 use Rattle.store.proofs.Put.EveryStep.{Roomy, every-step, packed-used}
 use Rattle.store.proofs.Accepted.Unique.{page-long}
+use Rattle.store.specs.Demands.{sized-1024}
 use Rattle.store.specs.Pages.{S1024, page, contents, asRow}
 use Rattle.partition.specs.Partition.{Row, needs, rowsOf}
 use Rattle.partition.proofs.Bits.{top-lt}
@@ -161,7 +162,7 @@ gather-requires : tie.Need-gather-requires
 gather-requires c κs =
     let b = c .before .before .before .before in
     let S = slotted b in
-    (S, z b .pre .0 .short, omega (arith, row-room (from b) S, long b), search Needs.needs, search Needs.needs)
+    (S, z b .pre .0 .good .most, omega (arith, row-room (from b) S, long b), search Needs.needs, search Needs.needs)
 
 hash-requires : tie.Need-hash-requires
 hash-requires c κs = search Needs.needs
@@ -182,7 +183,7 @@ load-requires : tie.Need-load-requires
 load-requires c κs =
     let g = c .before .before .before .before .before .before .before in
     let b = b0 g in
-    (omega arith, slotted b, z b .pre .0 .short, g .gather .ensures .0, g .gather .ensures .1)
+    (omega arith, slotted b, z b .pre .0 .good .most, g .gather .ensures .0, g .gather .ensures .1)
 
 same-length : tie.Need-same-length
 same-length c = search Needs.needs
@@ -216,7 +217,7 @@ count-below-requires c κs =
     let t = c .before .before .before in
     let g = g2 t in
     let b = b0 g in
-    (low b, subst (λ v. v < 2 ^ depth (from b)) (sym (prefix t)) (top-lt (fnv (key b)) (depth (from b)) (fnv-lt (key b))), slotted b, z b .pre .0 .short, g .gather .ensures .0, g .gather .ensures .1)
+    (low b, subst (λ v. v < 2 ^ depth (from b)) (sym (prefix t)) (top-lt (fnv (key b)) (depth (from b)) (fnv-lt (key b))), slotted b, z b .pre .0 .good .most, g .gather .ensures .0, g .gather .ensures .1)
 
 free-pages-requires : tie.Need-free-pages-requires
 free-pages-requires c κs =
@@ -267,7 +268,7 @@ settle-requires : tie.Need-settle-requires
 settle-requires c κs =
     let y = c .before .before .before in
     let b = b4 (y .before .before .before .before .before) in
-    settling fnv fnv-lt (s b) (z b .pre .0 .accepted) (y .write-below .last .0) (y .write-below .ensures .pages)
+    (sized-1024, settling S1024 sized-1024 fnv fnv-lt (s b) (z b .pre .0 .accepted) (y .write-below .last .0) (y .write-below .ensures .pages))
 
 same-length-3 : tie.Need-same-length-3
 same-length-3 c = search Needs.needs

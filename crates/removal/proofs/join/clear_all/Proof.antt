@@ -6,9 +6,8 @@ use native.Mathlib.Omega.{arith}
 use lib.ListN.{drop, replicate}
 use denote.Ref.{now}
 use Rattle.hash.specs.Fnv.{fnv}
-use Rattle.store.proofs.Paging.Views.{setPage}
 use Rattle.store.specs.Moves.{pick, find, within}
-use Rattle.store.specs.Pages.{S1024, page, read, contents}
+use Rattle.store.specs.Pages.{S1024, page, read, contents, setPage}
 use Rattle.removal.specs.Join.{Emptied}
 use Rattle.directory.specs.Directory.{SoundPage}
 use Rattle.removal.proofs.Empties.{lowest, emptied-none, lowest-none, emptied-next, lowest-next, still}
@@ -62,7 +61,7 @@ sub-p c = omega arith
 
 clear-if-requires : tie.Need-clear-if-requires Inv-loop μ-loop
 clear-if-requires c κs = let b = c .before in
-    (omega (arith, to b, z b .pre .0 .most), omega (arith, to b, emptied b .long, z b .pre .0 .size), subst SoundPage (sym (same b)) (z b .pre .0 .pages (p b) (two b) (to b)), z b .pre .1)
+    (omega (arith, to b, z b .pre .0 .most), omega (arith, to b, emptied b .long, z b .pre .0 .long), subst (SoundPage S1024) (sym (same b)) (z b .pre .0 .pages (p b) (two b) (to b)), z b .pre .1)
 
 loop-less : tie.Need-loop-less Inv-loop μ-loop
 loop-less c = omega arith

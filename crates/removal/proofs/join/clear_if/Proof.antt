@@ -7,9 +7,9 @@ use Prim.Native.Nat.{_+_, _-_, _*_}
 use lib.ListN.{length, replicate, take, drop}
 use denote.Ref.{now}
 use Rattle.hash.specs.Fnv.{fnv}
-use Rattle.store.proofs.Paging.Views.{setPage, page-back}
+use Rattle.store.proofs.Paging.Views.{page-back}
 use Rattle.store.specs.Moves.{pick, within}
-use Rattle.store.specs.Pages.{S1024, page, read}
+use Rattle.store.specs.Pages.{S1024, page, read, setPage}
 use Rattle.removal.proofs.Prefixes.{lent-whole}
 use Rattle.removal.proofs.join.clear_if.Statement.{statement}
 use Rattle.removal.proofs.join.clear_if.Tie as tie

@@ -41,7 +41,7 @@ module _ (b : tie.In-loop Inv-loop μ-loop) where
   abbrev here : List Row
   here = othersOn fnv (z .args .j) (z .args .v) (now (z .args .key)) (read (page S1024 s p))
 
-  lent : (take (p * 1024 + 1024 - p * 1024) (drop (p * 1024) s) ≡ page S1024 s p) × SoundPage (page S1024 s p) × (length (page S1024 s p) ≡ 1024)
+  lent : (take (p * 1024 + 1024 - p * 1024) (drop (p * 1024) s) ≡ page S1024 s p) × SoundPage S1024 (page S1024 s p) × (length (page S1024 s p) ≡ 1024)
   lent = lent-sound s (z .args .n) (z .pre .0) p (b .before .loop .inv .0) (b .loop-test .taken)
 
   coming : Coming (now (z .args .to)) (from gs) (here ++ from (drop (p + 1 - 2) gs)) (b .before .loop .to)
@@ -70,7 +70,7 @@ part-add-page-start : tie.Need-part-add-page-start Inv-loop μ-loop
 part-add-page-start c = omega (arith, c .before .before .before .before .before .before .pre .0 .most)
 
 part-add-page-end : tie.Need-part-add-page-end Inv-loop μ-loop
-part-add-page-end c = omega (arith, c .before .before .before .before .before .before .pre .0 .size)
+part-add-page-end c = omega (arith, c .before .before .before .before .before .before .pre .0 .long)
 
 add-page-requires : tie.Need-add-page-requires Inv-loop μ-loop
 add-page-requires c κs = let b = c .before .before in

@@ -5,9 +5,9 @@ use Prim.Native.Nat.{_+_, _-_, _*_, _<_}
 use native.Mathlib.Omega.{arith}
 use denote.Ref.{now}
 use Rattle.hash.specs.Fnv.{fnv}
-use Rattle.store.proofs.Paging.Views.{setPage, page-back}
+use Rattle.store.proofs.Paging.Views.{page-back}
 use Rattle.store.specs.Moves.{find, within}
-use Rattle.store.specs.Pages.{S1024, contents}
+use Rattle.store.specs.Pages.{S1024, contents, setPage}
 use Rattle.removal.specs.Join.{Rejoined, othersIn}
 use Rattle.removal.proofs.Joins.{fresh-taking, low-within, rejoined}
 use Rattle.removal.proofs.join.join.Statement.{statement}
@@ -49,7 +49,7 @@ part-pack-into-start : tie.Need-part-pack-into-start
 part-pack-into-start c = search needs
 
 part-pack-into-end : tie.Need-part-pack-into-end
-part-pack-into-end c = let z = c .before .before .before .before .before .before .before .before .before .before .before .before .before in omega (arith, bound z, c .before .before .clear-all .ensures .1, c .before .before .clear-all .ensures .0 .long, z .pre .0 .size)
+part-pack-into-end c = let z = c .before .before .before .before .before .before .before .before .before .before .before .before .before in omega (arith, bound z, c .before .before .clear-all .ensures .1, c .before .before .clear-all .ensures .0 .long, z .pre .0 .long)
 
 slice-aggregate-pack-into : tie.Need-slice-aggregate-pack-into
 slice-aggregate-pack-into c = search needs

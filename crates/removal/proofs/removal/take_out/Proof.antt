@@ -14,10 +14,10 @@ use Rattle.page.specs.Page.{depth, count}
 use Rattle.partition.specs.Bits.{top}
 use Rattle.partition.specs.Partition.{IsBucket}
 use Rattle.store.proofs.Accepted.Unique.{page-long}
-use Rattle.store.proofs.Paging.Views.{setPage}
 use Rattle.store.specs.Tables.{Becomes}
 use Rattle.store.specs.Moves.{removed}
-use Rattle.store.specs.Pages.{S1024, Page, page, contents, rowsHeld, deepestIn}
+use Rattle.store.specs.Pages.{S1024, Page, page, contents, rowsHeld, deepestIn, setPage}
+use Rattle.store.specs.Demands.{sized-1024}
 use Rattle.removal.specs.Remove.{Fits}
 use Rattle.removal.specs.Join.{Joinable, Rejoined}
 use Rattle.removal.specs.Prefix.{Climbed}
@@ -49,8 +49,8 @@ module _ (z : tie.Start) where
   abbrev then : List Page
   then = removed S1024 fnv (contents S1024 s) key
 
-  sound : Settling s n
-  sound = settling fnv fnv-lt s (z .pre .accepted) s (unwritten fnv fnv-lt s (z .pre .accepted))
+  sound : Settling S1024 s n
+  sound = settling S1024 sized-1024 fnv fnv-lt s (z .pre .accepted) s (unwritten S1024 sized-1024 fnv fnv-lt s (z .pre .accepted))
 
   deep : depth g ≡ byte s (p * 1024 + 1)
   deep = page-byte S1024 s p 1 (omega arith)
@@ -61,7 +61,7 @@ module _ (z : tie.Start) where
   shallow : depth g ≤ 8
   shallow = go (sound .pages p (z .pre .from) (z .pre .to))
     where
-      go : SoundPage g → depth g ≤ 8
+      go : SoundPage S1024 g → depth g ≤ 8
       go (free w) = absurd (omega (arith, w 0, z .pre .rules .rules .one))
       go (used b d) = d
 
@@ -100,7 +100,7 @@ module _ (d : tie.After-get16) where
   counted = d .get16 .ensures .0 ∙ ap count (lent (s z₂) (p z₂))
 
   module _ (one : d .get16 .result ≡ 1) where
-    cleared : Rewritten (s z₂) (setPage S1024 (s z₂) (p z₂) (replicate 1024 0))
+    cleared : Rewritten S1024 (s z₂) (setPage S1024 (s z₂) (p z₂) (replicate 1024 0))
     cleared = clear-written fnv fnv-lt (s z₂) (p z₂) (z₂ .args .i) (key z₂) (z₂ .pre) (j b₂) (fits b₂) (own) (sym counted ∙ one)
 
     cleared-holds : contents S1024 (setPage S1024 (s z₂) (p z₂) (replicate 1024 0)) ≡ then z₂
@@ -152,7 +152,10 @@ join-requires c κs = let b = c .before .before .before in
     )
 
 settle-requires : tie.Need-settle-requires
-settle-requires c κs = search needs
+settle-requires c κs =
+    let t = c .before .before .before .join .ensures in
+    let P = sound (z₁ (c .before .before .before .before .before .before .before)) in
+    (sized-1024, record { long = t .long ∙ P .long; least = P .least; most = P .most; pages = t .sound })
 
 same-length : tie.Need-same-length
 same-length c = search needs
@@ -196,9 +199,11 @@ clear-page-requires c κs = search needs
 settle-requires-2 : tie.Need-settle-requires-2
 settle-requires-2 c κs = let d = c .before .before .before .before .before .before in
     let z = z₂ d in
-    let one : d .get16 .result ≡ 1 = omega (arith, c .before .before .before .before .before .if2 .taken) in
-    subst (λ y. Settling y (n z)) (sym (blank z (c .before .before .before .clear-page .last .0) (c .before .before .before .clear-page .ensures)))
-    (settling fnv fnv-lt (s z) (z .pre .accepted) (setPage S1024 (s z) (p z) (replicate 1024 0)) (cleared d one))
+    let one : d .get16 .result ≡ 1 = omega (arith, c .before .before .before .before .before .if2 .taken) in (
+      sized-1024,
+      subst (λ y. Settling S1024 y (n z)) (sym (blank z (c .before .before .before .clear-page .last .0) (c .before .before .before .clear-page .ensures)))
+          (settling S1024 sized-1024 fnv fnv-lt (s z) (z .pre .accepted) (setPage S1024 (s z) (p z) (replicate 1024 0)) (cleared d one)),
+    )
 
 same-length-2 : tie.Need-same-length-2
 same-length-2 c = search needs
@@ -210,7 +215,7 @@ returns-2 c = let d = c .before .before .before .before .before .before .before 
     let w = c .before .before .before .before .before .before .clear-page in
     let u = c .before .before .settle2 .last .0 in
     settles fnv fnv-lt (s z) (p z) (z .args .i) (key z) (z .pre) (j (b₂ d)) (fits (b₂ d)) (n z) refl (cleared d one) (cleared-holds d one)
-    (subst (λ y. Directed fnv y (deepestIn (contents S1024 y)) (n z) u) (blank z (w .last .0) (w .ensures)) (c .before .before .settle2 .ensures)) (λ m. (c .slice-known6 .given m) .fits)
+    (subst (λ y. Directed S1024 fnv y (deepestIn (contents S1024 y)) (n z) u) (blank z (w .last .0) (w .ensures)) (c .before .before .settle2 .ensures)) (λ m. (c .slice-known6 .given m) .fits)
 
 sub-remove-slot : tie.Need-sub-remove-slot
 sub-remove-slot c = search needs
