@@ -22,6 +22,7 @@ use Rattle.store.proofs.Accepted.Rules.{accepted-whole}
 use Rattle.store.proofs.Demands.Settled.{format-settled, check-settled, count-settled, lookup-settled, row-settled, inspect-settled, put-settled, remove-settled}
 use Rattle.store.proofs.Demands.Meaning.{meaning-one}
 use Rattle.store.proofs.Demands.Kept.{no-three, no-fourteen}
+use Rattle.store.proofs.Demands.Outcomes.{is-known, is-absent, let-new}
 use Rattle.store.proofs.Demands.Order.{good-length, whole-pages}
 use Rattle.store.proofs.Demands.Whole.{demand-1, demand-2, demand-3}
 use Rattle.store.proofs.Demands.Choice.{put-chooses, remove-chooses}
@@ -97,7 +98,7 @@ module _ (s c : List ℕ) (p : Place) (m : ℕ) (o : Out) (t : List ℕ) (a : Ac
         go false e = absurd (f (demand-2 S1024 fnv sized-1024 fnv-lt .4 s c p m o t a made .0 e))
 
     says-thirteen : m ≡ 1 → (b : List ℕ) → map-of S1024 s c ≡ some b → o ≡ refused 13
-    says-thirteen e b k = past (refused 13) (inl (tt, ((e, (b, k)), refl)))
+    says-thirteen e b k = past (refused 13) (is-known S1024 fnv s m (record { code = c; place = stored p }) b k e)
 
     says-known : (m ≡ 1 → ⊥) → (b : List ℕ) → map-of S1024 s c ≡ some b → o ≡ replaced (place b)
     says-known n b e = answers refuses ∙ ap putAnswer e
@@ -112,12 +113,12 @@ module _ (s c : List ℕ) (p : Place) (m : ℕ) (o : Out) (t : List ℕ) (a : Ac
         refuses (pages-full x _) = none-some x e
 
     says-five : m ≡ 2 → map-of S1024 s c ≡ none → o ≡ refused 5
-    says-five e k = past (refused 5) (inr ((λ _ f. none-some k (f .1 .1)), inl (tt, ((e, k), refl))))
+    says-five e k = past (refused 5) (is-absent S1024 fnv s m (record { code = c; place = stored p }) k e)
 
     module _ (n : m ≡ 2 → ⊥) (e : map-of S1024 s c ≡ none) where
       -- past the mode
       through : (x : Out) → Answers (putAccepted S1024 fnv s (record { code = c; place = stored p })) (x, s) → o ≡ x
-      through x w = past x (inr ((λ _ f. none-some e (f .1 .1)), inr ((λ _ f. n (f .0)), w)))
+      through x w = past x (let-new S1024 fnv s m (record { code = c; place = stored p }) e n (x, s) w)
 
       says-six : 1016 < near s c p → o ≡ refused 6
       says-six l = through (refused 6) (inr ((λ b f. none-some e f), inl (tt, (l, refl))))

@@ -31,7 +31,7 @@ pub use Rattle.store.proofs.Demands.Kept.{refusal-keeps, output-kept, c
 pub use Rattle.store.proofs.Demands.KeptPages.{kept-pages}
 pub use Rattle.store.proofs.Demands.Meaning.{meaning-one}
 pub use Rattle.store.proofs.Demands.Order.{refused-in-order, format-succeeds, good-length, whole-pages}
-pub use Rattle.store.proofs.Demands.Outcomes.{by-mode, outcome}
+pub use Rattle.store.proofs.Demands.Outcomes.{is-known, is-absent, let-known, let-new, by-mode, outcome}
 pub use Rattle.store.proofs.Demands.Plan.{put-is-map, remove-is-map}
 pub use Rattle.store.proofs.Demands.Said.{format-said, check-said, count-said, lookup-said, put-said, remove-said, row-said, inspect-said}
 pub use Rattle.store.proofs.Demands.Same.{same-refusals}

@@ -1,11 +1,13 @@
--- The three ways a put comes out: what holds of each holds of every put, whatever its mode. Assumes nothing.
+-- What a mode lets through; and the three ways a put comes out: what holds of each holds of every put, whatever its mode. Assumes nothing.
 use mathlib.Core.Path.{_≡_, refl, sym, subst}
 use mathlib.Core.Bool.{false}
 use mathlib.Core.List.{List}
+use mathlib.Core.Logic.{inl, inr}
 use mathlib.Core.Option.{Option, some, none}
 use Prim.Native.Nat.{ℕ}
 use Rattle.ground.specs.Ladder.{Answers}
 use Rattle.ground.proofs.Ladders.{Each, each}
+use Rattle.ground.proofs.Tests.{none-some}
 use Rattle.page.specs.declared.Place.{Place}
 use Rattle.page.specs.Places.{place, stored}
 use Rattle.partition.specs.declared.Shape.{Shape}
@@ -13,12 +15,30 @@ use Rattle.partition.specs.Partition.{Row}
 use Rattle.partition.specs.Listing.{placeOf}
 use Rattle.store.specs.Pages.{contents, rowsHeld}
 use Rattle.store.specs.Moves.{overwritten, putNew}
-use Rattle.store.specs.Tables.{Out, new, replaced, Refusal6, Refusal7, Becomes, putByMode, putTable}
+use Rattle.store.specs.Tables.{Out, refused, new, replaced, Refusal6, Refusal7, Becomes, putAccepted, putByMode, putTable}
 use Rattle.store.specs.Demands.{ok}
 
 pub nothing-there : (o : Option (List ℕ)) → ((b : List ℕ) → o ≡ some b → ⊥) → o ≡ none
 nothing-there none f = refl
 nothing-there (some b) f = absurd (f b refl)
+
+-- ---- what a mode lets through
+
+module _ (S : Shape) (h : List ℕ → ℕ) (s : List ℕ) (m : ℕ) (r : Row) where
+  pub is-known : (old : List ℕ) → placeOf (rowsHeld S s) (r .code) ≡ some old → m ≡ 1 → Answers (putByMode S h s m r) (refused 13, s)
+  is-known old k e = inl (tt, ((e, (old, k)), refl))
+
+  pub is-absent : placeOf (rowsHeld S s) (r .code) ≡ none → m ≡ 2 → Answers (putByMode S h s m r) (refused 5, s)
+  is-absent k e = inr ((λ _ f. none-some k (f .1 .1)), inl (tt, ((e, k), refl)))
+
+  -- a known code where not only a new one is expected, and a new one where not only a known one is: as if either were
+  pub let-known : (old : List ℕ) → placeOf (rowsHeld S s) (r .code) ≡ some old → (m ≡ 1 → ⊥) → (x : Out × List ℕ) → Answers (putAccepted S h s r) x → Answers (putByMode S h s m r) x
+  let-known old k n x a = inr ((λ _ f. n (f .0)), inr ((λ _ f. none-some (f .1) k), a))
+
+  pub let-new : placeOf (rowsHeld S s) (r .code) ≡ none → (m ≡ 2 → ⊥) → (x : Out × List ℕ) → Answers (putAccepted S h s r) x → Answers (putByMode S h s m r) x
+  let-new k n x a = inr ((λ _ f. none-some k (f .1 .1)), inr ((λ _ f. n (f .0)), a))
+
+-- ---- the three ways
 
 -- Q holds of a refusal that keeps the store s, of the row r in the place of an old one, and of r as a new row
 pub record Outcomes (S : Shape) (h : List ℕ → ℕ) (s : List ℕ) (r : Row) (Q : Out × List ℕ → Type 0) : Type 0 where

@@ -1,6 +1,6 @@
 -- `putting::put` meets its contract: the refusals in order, then the row on an accepted store. Assumes nothing.
 use Rattle.store.proofs.Accepted.Rules.{accepted-whole}
-use Rattle.store.specs.Tables.{Refusal3, putAccepted, putTable, meaning}
+use Rattle.store.specs.Tables.{Refusal3, Refusal14, putByMode, putTable, meaning}
 use Rattle.store.specs.Accepted.{GoodLength}
 use Rattle.store.specs.Demands.{sized-1024}
 use Rattle.store.specs.Pages.{S1024}
@@ -46,6 +46,10 @@ module _ (c : tie.Else4) where
   ranged : InRange (start .args .place)
   ranged = let g = start .good .1 .1 .0 .1 .1 in record { page = g .0 .1; slot = g .1 .0 .1; volume = g .1 .1 .0 .1 }
 
+-- past the mode
+a-mode : (c : tie.Else5) → Refusal14 (start (c .before) .args .mode) → ⊥
+a-mode c l = omega (arith, c .if5 .left)
+
 good-length-requires : tie.Need-good-length-requires
 good-length-requires c κs = sized-1024
 
@@ -82,37 +86,17 @@ returns-4 c =
     let e = c .before .before in
     inr ((λ _ n. n (good (e .before .before))), inr ((λ _ r. short e r), inl (tt, (says-true {P = Negative (z (e .before .before) .args .place)} (c .before .negative .result) (c .if4 .taken) (c .before .negative .ensures), refl))))
 
-first-bad-requires : tie.Need-first-bad-requires
-first-bad-requires c κs = good (e (c .before) .before .before)
-
 same-length-5 : tie.Need-same-length-5
 same-length-5 c = search needs
 
 returns-5 : tie.Need-returns-5
 unfolding putTable
 returns-5 c =
-    let d = c .before .before .before in
-    inr ((λ _ n. n (good (e d .before .before))), inr ((λ _ r. short (e d) r), inr ((λ _ n. positive d n), inl (c .before .first-bad .result, (c .before .first-bad .ensures .bad (c .if5 .taken), refl)))))
+    let d = c .before in
+    inr ((λ _ n. n (good (e d .before .before))), inr ((λ _ r. short (e d) r), inr ((λ _ n. positive d n), inl (tt, (c .if5 .taken, refl)))))
 
-slice-aggregate-store-place : tie.Need-slice-aggregate-store-place
-slice-aggregate-store-place c = search needs
-
-store-place-requires : tie.Need-store-place-requires
-store-place-requires c κs = (refl, positive (c .before .before .before .before))
-
-slice-aggregate-put-row : tie.Need-slice-aggregate-put-row
-slice-aggregate-put-row c = search needs
-
-put-row-requires : tie.Need-put-row-requires
-put-row-requires c κs =
-    let b = c .before .before .before .before .before in
-    let d = b .before .before .before in
-    record {
-      accepted = b .before .first-bad .ensures .sound (b .if5 .left);
-      some = omega (arith, e d .before .if2 .left);
-      short = omega (arith, e d .if3 .left);
-      natural = subst Natural (sym (c .before .before .before .store-place .ensures)) (stored-natural (start d .args .place) (positive d) (ranged d));
-    }
+first-bad-requires : tie.Need-first-bad-requires
+first-bad-requires c κs = good (e (c .before .before) .before .before)
 
 same-length-6 : tie.Need-same-length-6
 same-length-6 c = search needs
@@ -120,10 +104,44 @@ same-length-6 c = search needs
 returns-6 : tie.Need-returns-6
 unfolding putTable
 returns-6 c =
+    let f = c .before .before .before in
+    let d = f .before in
+    inr (
+      (λ _ n. n (good (e d .before .before))),
+      inr ((λ _ r. short (e d) r), inr ((λ _ n. positive d n), inr ((λ _ l. a-mode f l), inl (c .before .first-bad .result, (c .before .first-bad .ensures .bad (c .if6 .taken), refl))))),
+    )
+
+slice-aggregate-store-place : tie.Need-slice-aggregate-store-place
+slice-aggregate-store-place c = search needs
+
+store-place-requires : tie.Need-store-place-requires
+store-place-requires c κs = (refl, positive (c .before .before .before .before .before))
+
+slice-aggregate-put-row : tie.Need-slice-aggregate-put-row
+slice-aggregate-put-row c = search needs
+
+put-row-requires : tie.Need-put-row-requires
+put-row-requires c κs =
+    let b = c .before .before .before .before .before in
+    let d = b .before .before .before .before in
+    record {
+      accepted = b .before .first-bad .ensures .sound (b .if6 .left);
+      some = omega (arith, e d .before .if2 .left);
+      short = omega (arith, e d .if3 .left);
+      natural = subst Natural (sym (c .before .before .before .store-place .ensures)) (stored-natural (start d .args .place) (positive d) (ranged d));
+    }
+
+same-length-7 : tie.Need-same-length-7
+same-length-7 c = search needs
+
+returns-7 : tie.Need-returns-7
+unfolding putTable
+returns-7 c =
     let y = c .before .before .before .before .before .before in
     let b = y .before .before in
-    let d = b .before .before .before in
-    let a = b .before .first-bad .ensures .sound (b .if5 .left) in
+    let f = b .before .before .before in
+    let d = f .before in
+    let a = b .before .first-bad .ensures .sound (b .if6 .left) in
     let w = c .before .before .put-row in
     inr (
       (λ _ n. n (good (e d .before .before))),
@@ -132,10 +150,13 @@ returns-6 c =
         inr (
           (λ _ n. positive d n),
           inr (
-            accepted-whole S1024 fnv (now (start d .args .s)) a,
-            (
-              a,
-              subst (λ x. Answers (putAccepted S1024 fnv (now (start d .args .s)) (record { code = now (start d .args .key); place = x })) (meaning (w .result), w .last .0)) (y .store-place .ensures) (w .ensures),
+            (λ _ l. a-mode f l),
+            inr (
+              accepted-whole S1024 fnv (now (start d .args .s)) a,
+              (
+                a,
+                subst (λ x. Answers (putByMode S1024 fnv (now (start d .args .s)) (start d .args .mode) (record { code = now (start d .args .key); place = x })) (meaning (w .result), w .last .0)) (y .store-place .ensures) (w .ensures),
+              ),
             ),
           ),
         ),
@@ -156,12 +177,14 @@ put-spec =
     negative-requires
     same-length-4
     returns-4
-    first-bad-requires
     same-length-5
     returns-5
+    first-bad-requires
+    same-length-6
+    returns-6
     slice-aggregate-store-place
     store-place-requires
     slice-aggregate-put-row
     put-row-requires
-    same-length-6
-    returns-6)
+    same-length-7
+    returns-7)
