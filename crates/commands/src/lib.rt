@@ -14,7 +14,8 @@ pub enum Command {
     Nothing,
     Unknown,
     Format(usize),
-    Put(usize, Place),
+    // and its mode
+    Put(usize, Place, u64),
     Lookup(usize),
     Remove(usize),
     Count,
