@@ -22,7 +22,7 @@ use Rattle.store.proofs.Accepted.Rules.{accepted-whole}
 use Rattle.store.proofs.Demands.Settled.{format-settled, check-settled, count-settled, lookup-settled, row-settled, inspect-settled, put-settled, remove-settled}
 use Rattle.store.proofs.Demands.Meaning.{meaning-one}
 use Rattle.store.proofs.Demands.Kept.{no-three, no-fourteen}
-use Rattle.store.proofs.Demands.Outcomes.{is-known, is-absent, let-new}
+use Rattle.store.proofs.Demands.Modes.{is-known, is-absent, let-new}
 use Rattle.store.proofs.Demands.Order.{good-length, whole-pages}
 use Rattle.store.proofs.Demands.Whole.{demand-1, demand-2, demand-3}
 use Rattle.store.proofs.Demands.Choice.{put-chooses, remove-chooses}

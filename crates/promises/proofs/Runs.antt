@@ -29,7 +29,7 @@ use Rattle.store.specs.Accepted.{GoodLength, Accepted}
 use Rattle.store.specs.Moves.{pick}
 use Rattle.store.specs.Tables.{Out, formatted, new, blank, formatTable, putTable}
 use Rattle.store.specs.Demands.{Hash, format, put, Made, ok, GoodCode, map-of, putAnswer, Refuses, no-code, negative, no-mode, known, absent, prefix-full, pages-full, History, begin, next, after, sized-1024}
-use Rattle.store.proofs.Demands.Outcomes.{outcome}
+use Rattle.store.proofs.Demands.Modes.{put-each}
 use Rattle.store.proofs.Demands.Whole.{demand-2, demand-3}
 use Rattle.promises.specs.Programs.{Program, Bytes, Meets}
 
@@ -48,7 +48,7 @@ natural n x = ⊎-elim (positive n) (λ y. ⊎-elim (positive 0) (positive 0) y)
 
 -- a put leaves bytes
 put-bytes : (h : List ℕ → ℕ) (s c : List ℕ) (p : Place) (m : ℕ) → Bytes s → (x : Out × List ℕ) → Answers (putTable S1024 h s c p m) x → Bytes (x .1)
-put-bytes h s c p m b = outcome S1024 h s (λ x. Bytes (x .1)) c p (record { kept = λ _ _. b; over = λ _ _ t e. e .byte-size; fresh = λ _ _ _ t e. e .byte-size }) m
+put-bytes h s c p m b = put-each S1024 h s (λ x. Bytes (x .1)) c p (record { kept = λ _ _. b; over = λ _ _ t e. e .byte-size; fresh = λ _ _ _ t e. e .byte-size }) m
 
 -- rows that fit together have one bucket, whatever the hash
 module _ (h : List ℕ → ℕ) (hash : Hash h) where

@@ -20,7 +20,7 @@ use Rattle.store.specs.Demands.{format, check, count, lookup, remove, pu
 use Rattle.ground.proofs.Sides.{side}
 use Rattle.ground.proofs.Ladders.{each}
 use Rattle.store.proofs.Accepted.Rules.{accepted-whole}
-use Rattle.store.proofs.Demands.Outcomes.{nothing-there, outcome}
+use Rattle.store.proofs.Demands.Modes.{nothing-there, mode-0, put-each}
 
 -- the result, if it is refused, keeps x
 abbrev Keeps : List ℕ → Out × List ℕ → Type 0
@@ -44,7 +44,7 @@ module _ (S : Shape) (h : List ℕ → ℕ) where
       ((λ _ _. row-keeps), (λ _. ((λ _ _. row-keeps), (λ _. ((λ _ _. row-keeps), (λ _ _. ((λ old _ r e. free _ r refl (e .0)), (λ _. row-keeps))))))))
 
   put-keeps : (s c : List ℕ) (p : Place) (m : ℕ) (r : Out × List ℕ) → Answers (putTable S h s c p m) r → Keeps s r
-  put-keeps s c p m = outcome S h s (Keeps s) c p (record { kept = λ o _ _. refl; over = λ old k t b f. absurd (true≢false f); fresh = λ un n6 n7 t b f. absurd (true≢false f) }) m
+  put-keeps s c p m = put-each S h s (Keeps s) c p (record { kept = λ o _ _. refl; over = λ old k t b f. absurd (true≢false f); fresh = λ un n6 n7 t b f. absurd (true≢false f) }) m
 
   row-keeps-out : (s : List ℕ) (n : ℕ) (out : List ℕ) (r : Out × List ℕ) → Answers (rowTable S h s n out) r → Keeps out r
   unfolding rowTable
@@ -194,9 +194,9 @@ module _ (S : Shape) (h : List ℕ → ℕ) where
   wrote-again s o gs r e = (e .1 .again, e .1 .long)
 
   pub put-again : (s c : List ℕ) (p : Place) (m : ℕ) → Accepted S h s → (r : Out × List ℕ) → Answers (putTable S h s c p m) r → Again s r
-  put-again s c p m a = outcome S h s (Again s) c p (record { kept = λ o _. (a, refl); over = λ old k t b. (b .again, b .long); fresh = λ un n6 n7 t b. (b .again, b .long) }) m
+  put-again s c p m a = put-each S h s (Again s) c p (record { kept = λ o _. (a, refl); over = λ old k t b. (b .again, b .long); fresh = λ un n6 n7 t b. (b .again, b .long) }) m
 
-  -- MODE 0 ANSWERS AS BEFORE: neither 14 nor 13 nor 5 stands in its way
+  -- MODE 0 ANSWERS AS BEFORE
   to-before : (s c : List ℕ) (p : Place) (x : Out × List ℕ) → Answers (putTable S h s c p 0) x → Answers (putBefore S h s c p) x
   unfolding putTable putBefore
   to-before s c p x (inl w) = inl w
@@ -204,9 +204,7 @@ module _ (S : Shape) (h : List ℕ → ℕ) where
   to-before s c p x (inr (n1, inr (n3, inl w))) = inr (n1, inr (n3, inl w))
   to-before s c p x (inr (n1, inr (n3, inr (n4, inl w)))) = absurd (omega (arith, w .1 .0))
   to-before s c p x (inr (n1, inr (n3, inr (n4, inr (n14, inl w))))) = inr (n1, inr (n3, inr (n4, inl w)))
-  to-before s c p x (inr (n1, inr (n3, inr (n4, inr (n14, inr (n2, (a, inl w))))))) = absurd (omega (arith, w .1 .0 .0))
-  to-before s c p x (inr (n1, inr (n3, inr (n4, inr (n14, inr (n2, (a, inr (n13, inl w)))))))) = absurd (omega (arith, w .1 .0 .0))
-  to-before s c p x (inr (n1, inr (n3, inr (n4, inr (n14, inr (n2, (a, inr (n13, inr (n5, w))))))))) = inr (n1, inr (n3, inr (n4, inr (n2, (a, w)))))
+  to-before s c p x (inr (n1, inr (n3, inr (n4, inr (n14, inr (n2, (a, w))))))) = inr (n1, inr (n3, inr (n4, inr (n2, (a, mode-0 S h s _ x .0 w)))))
 
   from-before : (s c : List ℕ) (p : Place) (x : Out × List ℕ) → Answers (putBefore S h s c p) x → Answers (putTable S h s c p 0) x
   unfolding putTable putBefore
@@ -215,7 +213,7 @@ module _ (S : Shape) (h : List ℕ → ℕ) where
   from-before s c p x (inr (n1, inr (n3, inl w))) = inr (n1, inr (n3, inl w))
   from-before s c p x (inr (n1, inr (n3, inr (n4, inl w)))) = inr (n1, inr (n3, inr (n4, inr ((λ _ l. omega arith), inl w))))
   from-before s c p x (inr (n1, inr (n3, inr (n4, inr (n2, (a, w)))))) =
-      inr (n1, inr (n3, inr (n4, inr ((λ _ l. omega arith), inr (n2, (a, inr ((λ _ f. omega (arith, f .0)), inr ((λ _ f. omega (arith, f .0)), w))))))))
+      inr (n1, inr (n3, inr (n4, inr ((λ _ l. omega arith), inr (n2, (a, mode-0 S h s _ x .1 w))))))
 
   pub either-as-before : EitherAsBefore S h
   either-as-before s c p x = (to-before s c p x, from-before s c p x)
