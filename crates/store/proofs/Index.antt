@@ -27,7 +27,7 @@ pub use Rattle.store.proofs.Result.Total.{answered-always, put-answered
 pub use Rattle.store.proofs.Demands.Afresh.{always-afresh}
 pub use Rattle.store.proofs.Demands.Choice.{put-chooses, remove-chooses}
 pub use Rattle.store.proofs.Demands.Given.{row-is-listed, count-is-size, place-comes-back, inspect-is-slot}
-pub use Rattle.store.proofs.Demands.Kept.{refusal-keeps, output-kept, check-exact, lookup-is-map, put-refused, either-as-before, no-three, three, no-fourteen, a-mode}
+pub use Rattle.store.proofs.Demands.Kept.{refusal-keeps, output-kept, check-exact, lookup-is-map, put-refused, unrefused, either-as-before, no-three, three, no-fourteen, a-mode}
 pub use Rattle.store.proofs.Demands.KeptPages.{kept-pages}
 pub use Rattle.store.proofs.Demands.Meaning.{meaning-one}
 pub use Rattle.store.proofs.Demands.Order.{refused-in-order, format-succeeds, good-length, whole-pages}
