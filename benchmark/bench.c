@@ -68,7 +68,7 @@ static size_t load(const char *path, const char *end, void *bytes, size_t most) 
 
 static uint64_t place_word(size_t i) { return i | (uint64_t)(i & 0x7FFF) << 32 | (uint64_t)(i & 7) << 48; }
 
-static uint64_t put(size_t i) { return lots_put(store, size, codes[i].bytes, codes[i].len, i, i & 0x7FFF, i & 7); }
+static uint64_t put(size_t i) { return lots_put(store, size, codes[i].bytes, codes[i].len, i, i & 0x7FFF, i & 7, LOTS_EITHER); }
 
 static uint64_t take_out(size_t i) { return lots_remove(store, size, codes[i].bytes, codes[i].len); }
 

@@ -14,6 +14,8 @@ enum { PAGE = 1024, MOST = 258 * PAGE + 4 * PAGE, POOL = 12000 };
 
 static uint64_t state;
 static uint64_t steps, refused[16], inspected[16], reached[9], joins, splits;
+static const int numbers[] = {1, 2, 3, 4, 5, 6, 7, 8, 9, 13, 14};
+enum { NUMBERS = sizeof numbers / sizeof *numbers };
 
 static uint32_t draw(void) {
     state ^= state << 13;
@@ -75,6 +77,7 @@ struct call {
     size_t code_len;
     int32_t page;
     int16_t slot, volume;
+    uint64_t mode;
     uint64_t n;
     size_t out_len;
     size_t at, page_len; /* inspection: from this page of the store on, so many bytes */
@@ -117,7 +120,7 @@ static uint64_t proved(const struct call *c, size_t len, int refusal, uint32_t *
     case CHECK: r = lots_check(s, len); break;
     case LOOKUP: r = lots_lookup(s, len, key, c->code_len); break;
     case REMOVE: r = lots_remove(s, len, key, c->code_len); break;
-    case PUT: r = lots_put(s, len, key, c->code_len, c->page, c->slot, c->volume); break;
+    case PUT: r = lots_put(s, len, key, c->code_len, c->page, c->slot, c->volume, c->mode); break;
     case COUNT: r = lots_count(s, len); break;
     case ROW: r = lots_row(s, len, c->n, out, c->out_len, l); break;
     case INSPECT: r = lots_inspect(g, c->page_len, c->n, out, c->out_len, l); break;
@@ -134,7 +137,7 @@ static uint64_t reference(const struct call *c, size_t len, uint32_t *code_len) 
     case CHECK: return ref_check(theirs, len);
     case LOOKUP: return ref_lookup(theirs, len, c->code, c->code_len);
     case REMOVE: return ref_remove(theirs, len, c->code, c->code_len);
-    case PUT: return ref_put(theirs, len, c->code, c->code_len, c->page, c->slot, c->volume);
+    case PUT: return ref_put(theirs, len, c->code, c->code_len, c->page, c->slot, c->volume, c->mode);
     case COUNT: return ref_count(theirs, len);
     case ROW: return ref_row(theirs, len, c->n, their_out, c->out_len, code_len);
     default: return ref_inspect(given, c->page_len, c->n, their_out, c->out_len, code_len);
@@ -190,6 +193,9 @@ static void random_place(struct call *c) {
     if (below(40) == 0) c->volume = -c->volume - 1;
 }
 
+/* modes that there are not */
+static const uint64_t no_modes[] = {3, 4, 255, 256, 258, (uint64_t)1 << 32, (uint64_t)1 << 63, UINT64_MAX};
+
 static const size_t other_lengths[] = {0, 1, PAGE - 8, PAGE - 1, PAGE + 1, 2 * PAGE - 1, 2 * PAGE, 3 * PAGE};
 
 static struct call random_call(size_t many, uint32_t puts) {
@@ -200,6 +206,8 @@ static struct call random_call(size_t many, uint32_t puts) {
     pick(&c, many);
     if (below(200) == 0) c.code_len = below(2) ? 0 : 65 + below(8);
     random_place(&c);
+    c.mode = below(2) ? LOTS_EITHER : below(3);
+    if (below(60) == 0) c.mode = no_modes[below(8)];
     c.n = below(8) ? below(200) : (uint64_t)draw() << below(33);
     c.out_len = below(30) ? 64 + below(20) : below(64);
     c.at = draw();
@@ -309,10 +317,38 @@ static void expect(const char *what, uint64_t word, unsigned number) {
     steps++;
 }
 
+/* Code i of the pool, by a mode. */
+static uint64_t put_as(size_t i, uint64_t mode, size_t len) {
+    struct call c = {.kind = PUT, .code_len = pool[i].len, .page = (int32_t)i, .slot = 2, .volume = 3, .mode = mode};
+    memcpy(c.code, pool[i].code, pool[i].len);
+    return both(&c, len);
+}
+
+/* In 3 pages 13 rows of 64-byte codes: one of them, and a 14th, which is refused by this number, by each mode; then the same on a broken store. */
+static void modes(int bits, uint32_t value, unsigned number) {
+    size_t len = 3 * PAGE;
+    fill_pool(14, 64, 64, bits, value);
+    format(len);
+    for (size_t i = 0; i < 13; i++) expect("a new code", put_as(i, i % 2 ? LOTS_ONLY_NEW : LOTS_EITHER, len), 0);
+    expect("a known code, either", put_as(5, LOTS_EITHER, len), 0);
+    expect("a known code, only new", put_as(5, LOTS_ONLY_NEW, len), LOTS_KNOWN_CODE);
+    expect("a known code, only known", put_as(5, LOTS_ONLY_KNOWN, len), 0);
+    expect("one too many, either", put_as(13, LOTS_EITHER, len), number);
+    expect("one too many, only new", put_as(13, LOTS_ONLY_NEW, len), number);
+    expect("one too many, only known", put_as(13, LOTS_ONLY_KNOWN, len), LOTS_NO_CODE);
+    for (size_t k = 0; k < 8; k++) expect("no mode", put_as(k % 2 ? 5 : 13, no_modes[k], len), LOTS_BAD_MODE);
+    ours[PAGE + 4] = theirs[PAGE + 4] = 1;
+    for (uint64_t m = LOTS_EITHER; m <= LOTS_ONLY_KNOWN; m++) {
+        expect("a known code, a broken store", put_as(5, m, len), LOTS_BAD_PAGE);
+        expect("a new code, a broken store", put_as(13, m, len), LOTS_BAD_PAGE);
+    }
+    expect("no mode, a broken store", put_as(5, UINT64_MAX, len), LOTS_BAD_MODE);
+}
+
 /* The fields of a word, at the ends of their ranges. */
 static void fields(uint8_t *s, size_t len, const uint8_t *key) {
     lots_format(s, len);
-    expect("a put", lots_put(s, len, key, 1, INT32_MAX, INT16_MAX - 1, INT16_MAX), 0);
+    expect("a put", lots_put(s, len, key, 1, INT32_MAX, INT16_MAX - 1, INT16_MAX, LOTS_ONLY_NEW), 0);
     uint64_t word = lots_lookup(s, len, key, 1);
     expect("a lookup", word, 0);
     if (lots_place_page(word) != INT32_MAX || lots_place_slot(word) != INT16_MAX - 1 || lots_place_volume(word) != INT16_MAX) fail("a place", word, 0);
@@ -335,8 +371,8 @@ static void nothing_lent(void) {
     expect("count of nothing", lots_count(NULL, 0), LOTS_BAD_LENGTH);
     expect("lookup in nothing", lots_lookup(NULL, 0, NULL, 0), LOTS_BAD_LENGTH);
     expect("lookup of nothing", lots_lookup(s, sizeof s, NULL, 0), LOTS_BAD_CODE);
-    expect("put in nothing", lots_put(NULL, 0, NULL, 0, 1, 2, 3), LOTS_BAD_LENGTH);
-    expect("put of nothing", lots_put(s, sizeof s, NULL, 0, 1, 2, 3), LOTS_BAD_CODE);
+    expect("put in nothing", lots_put(NULL, 0, NULL, 0, 1, 2, 3, LOTS_EITHER), LOTS_BAD_LENGTH);
+    expect("put of nothing", lots_put(s, sizeof s, NULL, 0, 1, 2, 3, UINT64_MAX), LOTS_BAD_CODE);
     expect("remove in nothing", lots_remove(NULL, 0, NULL, 0), LOTS_BAD_LENGTH);
     expect("remove of nothing", lots_remove(s, sizeof s, NULL, 0), LOTS_BAD_CODE);
     expect("row of nothing", lots_row(NULL, 0, 0, out, sizeof out, &l), LOTS_BAD_LENGTH);
@@ -359,6 +395,8 @@ int main(int argc, char **argv) {
     page_mem = guarded(4 * PAGE);
     len_mem = guarded(sizeof(uint32_t));
     nothing_lent();
+    modes(0, 0, LOTS_PAGES_FULL);
+    modes(8, below(256), LOTS_PREFIX_FULL);
     for (int k = 0; k < scale; k++) {
         many = fill_pool(60, 1, 3, 0, 0), history(3, many, 4, 400), damage(3 * PAGE, 400, many);
         many = fill_pool(40, 60, 64, 0, 0), history(3 + below(4), many, 4, 300);
@@ -371,13 +409,13 @@ int main(int argc, char **argv) {
         random_bytes(3000, many);
     }
     printf("compare: seed %llu, %llu calls, no difference; refusals", (unsigned long long)seed, (unsigned long long)steps);
-    for (int i = 1; i < 10; i++) printf(" %d:%llu", i, (unsigned long long)refused[i]);
+    for (int i = 0; i < NUMBERS; i++) printf(" %d:%llu", numbers[i], (unsigned long long)refused[numbers[i]]);
     printf("; depths");
     for (int i = 0; i < 9; i++) printf(" %d:%llu", i, (unsigned long long)reached[i]);
     printf("; deeper %llu, shallower %llu times\n", (unsigned long long)splits, (unsigned long long)joins);
-    for (int i = 1; i < 10; i++)
-        if (refused[i] == 0) {
-            printf("compare: refusal %d was never reached\n", i);
+    for (int i = 0; i < NUMBERS; i++)
+        if (refused[numbers[i]] == 0) {
+            printf("compare: refusal %d was never reached\n", numbers[i]);
             return 1;
         }
     if (!inspected[0] || !inspected[1] || !inspected[2] || !inspected[8] || !inspected[9]) {

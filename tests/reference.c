@@ -369,11 +369,12 @@ static void split(uint8_t *s, int pages, int old, const struct bucket *after, in
     }
 }
 
-uint64_t ref_put(uint8_t *s, size_t len, const uint8_t *code, size_t code_len, int32_t page, int16_t slot, int16_t volume) {
+uint64_t ref_put(uint8_t *s, size_t len, const uint8_t *code, size_t code_len, int32_t page, int16_t slot, int16_t volume, uint64_t mode) {
     static struct bucket before[ENTRIES], after[ENTRIES];
     if (!good_length(len)) return refusal(1);
     if (code_len == 0 || code_len > 64) return refusal(3);
     if (page < 0 || slot < 0 || volume < 0) return refusal(4);
+    if (mode != 0 && mode != 1 && mode != 2) return refusal(14);
     uint64_t bad = read_store(s, len);
     if (bad) return bad;
     uint8_t place[8];
@@ -381,6 +382,8 @@ uint64_t ref_put(uint8_t *s, size_t len, const uint8_t *code, size_t code_len, i
     set_number(place + 4, 2, slot);
     set_number(place + 6, 2, volume);
     int known = find(code, code_len);
+    if (known >= 0 && mode == 1) return refusal(13);
+    if (known < 0 && mode == 2) return refusal(5);
     if (known >= 0) {
         uint64_t old = place_word(rows[known].place);
         memcpy(s + (size_t)rows[known].page * PAGE + rows[known].start, place, 8);

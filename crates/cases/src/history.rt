@@ -58,14 +58,21 @@ fn number_of(kind: Kind, n: u32) -> u32
     i
 }
 
-// Puts the kind's row n.
-fn put(store: &mut [u8], kind: Kind, n: u32) -> u64
+// Puts the kind's row n by a mode.
+fn put_as(store: &mut [u8], kind: Kind, n: u32, mode: u64) -> u64
     requires { ⌜ (kind .len ≤ 64) × (kind .bits ≤ 8) ⌝ }
 {
     let mut code = [120u8; 64];
     write_code(&mut code, number_of(kind, n));
     let len = kind.len;
-    lots_c::lots_put(store, &code[0..len], 1, 2, 3)
+    lots_c::lots_put(store, &code[0..len], 1, 2, 3, mode)
+}
+
+// Puts it, whether it is new or known.
+fn put(store: &mut [u8], kind: Kind, n: u32) -> u64
+    requires { ⌜ (kind .len ≤ 64) × (kind .bits ≤ 8) ⌝ }
+{
+    put_as(store, kind, n, 0)
 }
 
 // Removes it.
@@ -133,6 +140,19 @@ fn headers(store: &[u8]) {
     }
 }
 
+// A 14th row and one of the 13, where only a new code or only a known one is expected.
+fn by_mode(store: &mut [u8], kind: Kind)
+    requires { ⌜ (kind .len ≤ 64) × (kind .bits ≤ 8) ⌝ }
+{
+    say_place(b"a 14th, only if new:", put_as(store, kind, 13, 1));
+    say_place(b"a 14th, only if known:", put_as(store, kind, 13, 2));
+    say_place(b"on one of the 13, only if new:", put_as(store, kind, 5, 1));
+    say_place(
+        b"on one of the 13, only if known:",
+        put_as(store, kind, 5, 2),
+    );
+}
+
 // Case 11, where not all share 8 bits: in 3 pages 13 rows of 64-byte codes.
 pub fn full(store: &mut [u8]) {
     io::write_all(STDOUT_FILENO, b"case 11, full store\n");
@@ -141,6 +161,7 @@ pub fn full(store: &mut [u8]) {
     say_number(b"rows put:", put_all(store, any, 13));
     say_place(b"a 14th:", put(store, any, 13));
     say_place(b"on one of the 13:", put(store, any, 5));
+    by_mode(store, any);
     say(store);
 }
 
@@ -152,6 +173,7 @@ pub fn crowded(store: &mut [u8]) {
     say_number(b"rows put:", put_all(store, alike, 13));
     say_place(b"a 14th:", put(store, alike, 13));
     say_place(b"on one of the 13:", put(store, alike, 5));
+    by_mode(store, alike);
     say(store);
 }
 

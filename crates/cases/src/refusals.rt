@@ -107,16 +107,44 @@ fn inspections(bucket: &[u8], other: &[u8], short: &[u8], free: &[u8]) {
 // Each part of a place negative.
 fn negatives(damaged: &mut [u8]) {
     say_place(
-        b"put, negative page, damaged store:",
-        lots_c::lots_put(damaged, b"b", -1, 2, 0),
+        b"put, negative page, mode 3, damaged store:",
+        lots_c::lots_put(damaged, b"b", -1, 2, 0, 3),
     );
     say_place(
-        b"put, negative slot, damaged store:",
-        lots_c::lots_put(damaged, b"b", 7, -1, 0),
+        b"put, negative slot, mode 3, damaged store:",
+        lots_c::lots_put(damaged, b"b", 7, -1, 0, 3),
     );
     say_place(
-        b"put, negative volume, damaged store:",
-        lots_c::lots_put(damaged, b"b", 7, 2, -1),
+        b"put, negative volume, mode 3, damaged store:",
+        lots_c::lots_put(damaged, b"b", 7, 2, -1, 3),
+    );
+}
+
+// "a" is known and "b" is not.
+fn modes(sound: &mut [u8], damaged: &mut [u8]) {
+    say_place(
+        b"put, mode 3, damaged store:",
+        lots_c::lots_put(damaged, b"a", 7, 2, 0, 3),
+    );
+    say_place(
+        b"put, the largest mode, damaged store:",
+        lots_c::lots_put(damaged, b"a", 7, 2, 0, 18446744073709551615),
+    );
+    say_place(
+        b"put, known code, only if new, damaged store:",
+        lots_c::lots_put(damaged, b"a", 7, 2, 0, 1),
+    );
+    say_place(
+        b"put, new code, only if known, damaged store:",
+        lots_c::lots_put(damaged, b"b", 7, 2, 0, 2),
+    );
+    say_place(
+        b"put, known code, only if new:",
+        lots_c::lots_put(sound, b"a", 7, 2, 0, 1),
+    );
+    say_place(
+        b"put, new code, only if known:",
+        lots_c::lots_put(sound, b"b", 7, 2, 0, 2),
     );
 }
 
@@ -124,25 +152,26 @@ fn puts(sound: &mut [u8], damaged: &mut [u8]) {
     let mut short = [0xAAu8; 3071];
     let long = [97u8; 65];
     say_place(
-        b"put, 3071 bytes, no code, negative page:",
-        lots_c::lots_put(&mut short, b"", -1, 2, 0),
+        b"put, 3071 bytes, no code, negative page, mode 3:",
+        lots_c::lots_put(&mut short, b"", -1, 2, 0, 3),
     );
     say_place(
-        b"put, no code, negative page, damaged store:",
-        lots_c::lots_put(damaged, b"", -1, 2, 0),
+        b"put, no code, negative page, mode 3, damaged store:",
+        lots_c::lots_put(damaged, b"", -1, 2, 0, 3),
     );
     say_place(
-        b"put, 65 bytes of code, negative page, damaged store:",
-        lots_c::lots_put(damaged, &long, -1, 2, 0),
+        b"put, 65 bytes of code, negative page, mode 3, damaged store:",
+        lots_c::lots_put(damaged, &long, -1, 2, 0, 3),
     );
     negatives(damaged);
+    modes(sound, damaged);
     say_place(
         b"put, damaged store:",
-        lots_c::lots_put(damaged, b"b", 7, 2, 0),
+        lots_c::lots_put(damaged, b"b", 7, 2, 0, 0),
     );
     say_place(
         b"put, known code, negative page:",
-        lots_c::lots_put(sound, b"a", -1, 2, 0),
+        lots_c::lots_put(sound, b"a", -1, 2, 0, 0),
     );
 }
 

@@ -1,7 +1,7 @@
 -- Why a line asks nothing. Assumes nothing.
 use Prim.Native.Nat.{ℕ, zero, suc, _^_, _≤_, _<_}
 use mathlib.Core.Path.{_≡_, refl, sym, ap, _∙_, subst}
-use mathlib.Core.Bool.{Bool, true, false, cond}
+use mathlib.Core.Bool.{Bool, true, false, cond, _||_, true≢false}
 use mathlib.Core.List.{List, [], _∷_, _++_}
 use mathlib.Core.Logic.{_⊎_, inl, inr, ⊎-elim}
 use native.Mathlib.Omega.{arith}
@@ -18,7 +18,7 @@ use Rattle.commands.specs.declared.Command.{Command}
 use Rattle.commands.specs.declared.Command.the-variants.{Nothing, Unknown, Format, Put, Lookup, Remove, Count, Row, Listing, Check, Inspect}
 use Rattle.commands.specs.Numbers.{Decimal, Integer}
 use Rattle.commands.specs.Codes.{Spells, Coded}
-use Rattle.commands.specs.Lines.{Spaceless, After, Placed, Places, Putting, Asks, WithinLimits, AsksNothing, Spoken, Uncoded, formatWord, putWord, lookupWord, removeWord, countWord, rowWord, listWord, checkWord, inspectWord}
+use Rattle.commands.specs.Lines.{Spaceless, After, Placed, Places, Putting, Asks, WithinLimits, AsksNothing, Spoken, Uncoded, formatWord, putWord, addWord, moveWord, PutBy, lookupWord, removeWord, countWord, rowWord, listWord, checkWord, inspectWord}
 use Rattle.commands.proofs.Unread.{split-one, no-space, integer-spaceless, spells-spaceless}
 
 -- ---- places
@@ -64,11 +64,47 @@ of-clear (x ∷ w) e = go (eqb x 32) refl e (of-clear w)
 apart : (k : ℕ) (u v w : List ℕ) → w ≡ u → w ≡ v → (byte u k ≡ byte v k → ⊥) → ⊥
 apart k u v w e f n = n (sym (ap (λ (x : List ℕ). byte x k) e) ∙ ap (λ (x : List ℕ). byte x k) f)
 
+-- ---- the words of a put
+
+abbrev first-letter : ℕ → Bool
+first-letter b = eqb b 112 || (eqb b 97 || eqb b 109)
+
+put-letter : (w : List ℕ) (m : ℕ) → PutBy w m → first-letter (byte w 0) ≡ true
+put-letter w m (inl (_, e)) = rw e refl
+put-letter w m (inr (inl (_, e))) = rw e refl
+put-letter w m (inr (inr (_, e))) = rw e refl
+
+put-clear : (w : List ℕ) (m : ℕ) → PutBy w m → clear w ≡ true
+put-clear w m (inl (_, e)) = rw e refl
+put-clear w m (inr (inl (_, e))) = rw e refl
+put-clear w m (inr (inr (_, e))) = rw e refl
+
+-- a word that begins otherwise is none
+put-not : (v : List ℕ) → first-letter (byte v 0) ≡ false → (w : List ℕ) (m : ℕ) → PutBy w m → w ≡ v → ⊥
+put-not v n w m q e = true≢false (sym (put-letter w m q) ∙ ap (λ (x : List ℕ). first-letter (byte x 0)) e ∙ n)
+
+put-spoken : (w : List ℕ) (m : ℕ) → PutBy w m → (r : List ℕ) → Spoken (w ++ (32 ∷ r))
+put-spoken w m (inl (_, e)) r = rw e (record { some = λ x. omega arith; said = λ x. omega arith })
+put-spoken w m (inr (inl (_, e))) r = rw e (record { some = λ x. omega arith; said = λ x. omega arith })
+put-spoken w m (inr (inr (_, e))) r = rw e (record { some = λ x. omega arith; said = λ x. omega arith })
+
+-- one word, one mode
+pub put-by-one : (w : List ℕ) (m n : ℕ) → PutBy w m → PutBy w n → m ≡ n
+put-by-one w m n (inl (a, e)) (inl (b, f)) = a ∙ sym b
+put-by-one w m n (inl (a, e)) (inr (inl (b, f))) = absurd (apart 0 putWord addWord w e f (λ x. omega arith))
+put-by-one w m n (inl (a, e)) (inr (inr (b, f))) = absurd (apart 0 putWord moveWord w e f (λ x. omega arith))
+put-by-one w m n (inr (inl (a, e))) (inl (b, f)) = absurd (apart 0 addWord putWord w e f (λ x. omega arith))
+put-by-one w m n (inr (inl (a, e))) (inr (inl (b, f))) = a ∙ sym b
+put-by-one w m n (inr (inl (a, e))) (inr (inr (b, f))) = absurd (apart 0 addWord moveWord w e f (λ x. omega arith))
+put-by-one w m n (inr (inr (a, e))) (inl (b, f)) = absurd (apart 0 moveWord putWord w e f (λ x. omega arith))
+put-by-one w m n (inr (inr (a, e))) (inr (inl (b, f))) = absurd (apart 0 moveWord addWord w e f (λ x. omega arith))
+put-by-one w m n (inr (inr (a, e))) (inr (inr (b, f))) = a ∙ sym b
+
 -- what a word and a rest ask
 abbrev pub On : List ℕ → List ℕ → List ℕ → Command → Type 0
 On w r j Nothing = ⊥
 On w r j (Format n) = (w ≡ formatWord) × Decimal n r
-On w r j (Put n p) = (w ≡ putWord) × Putting j n p r
+On w r j (Put n p m) = PutBy w m × Putting j n p r
 On w r j (Lookup n) = (w ≡ lookupWord) × Coded r j n
 On w r j (Remove n) = (w ≡ removeWord) × Coded r j n
 On w r j Count = ⊥
@@ -85,7 +121,7 @@ module _ (w r : List ℕ) (f : Spaceless w) (s : Spoken (w ++ (32 ∷ r))) where
   on : (j : List ℕ) (c : Command) → Asks (w ++ (32 ∷ r)) j c → On w r j c
   on j Nothing a = ⊎-elim (s .some) (s .said) a
   on j (Format n) a = word-is formatWord (Decimal n) refl a
-  on j (Put n p) a = word-is putWord (Putting j n p) refl a
+  on j (Put n p m) a = let e = word-is (a .word) (Putting j n p) (put-clear (a .word) m (a .by)) (a .line) in (subst (λ (v : List ℕ). PutBy v m) (sym (e .0)) (a .by), e .1)
   on j (Lookup n) a = word-is lookupWord (λ t. Coded t j n) refl a
   on j (Remove n) a = word-is removeWord (λ t. Coded t j n) refl a
   on j Count a = no-space countWord w r (of-clear countWord refl) (sym a)
@@ -100,7 +136,7 @@ module _ (w r : List ℕ) (f : Spaceless w) (s : Spoken (w ++ (32 ∷ r))) where
     numbers : (j : List ℕ) (c : Command) → WithinLimits c → On w r j c → ⊥
     numbers j Nothing h o = o
     numbers j (Format n) h o = no n h (o .1) (inl (o .0))
-    numbers j (Put n p) h o = u .put (o .0)
+    numbers j (Put n p m) h o = u .put m (o .0)
     numbers j (Lookup n) h o = u .lookup (o .0)
     numbers j (Remove n) h o = u .remove (o .0)
     numbers j Count h o = o
@@ -121,7 +157,7 @@ module _ (w r : List ℕ) (f : Spaceless w) (s : Spoken (w ++ (32 ∷ r))) where
     lookups : w ≡ lookupWord → (j : List ℕ) (c : Command) → length j ≡ length k → On w r j c → ⊥
     lookups e j Nothing l o = o
     lookups e j (Format n) l o = apart 0 formatWord lookupWord w (o .0) e (λ x. omega arith)
-    lookups e j (Put n p) l o = apart 0 putWord lookupWord w (o .0) e (λ x. omega arith)
+    lookups e j (Put n p m) l o = put-not lookupWord refl w m (o .0) e
     lookups e j (Lookup n) l o = uncoded j n l (o .1)
     lookups e j (Remove n) l o = apart 0 removeWord lookupWord w (o .0) e (λ x. omega arith)
     lookups e j Count l o = o
@@ -134,7 +170,7 @@ module _ (w r : List ℕ) (f : Spaceless w) (s : Spoken (w ++ (32 ∷ r))) where
     removes : w ≡ removeWord → (j : List ℕ) (c : Command) → length j ≡ length k → On w r j c → ⊥
     removes e j Nothing l o = o
     removes e j (Format n) l o = apart 0 formatWord removeWord w (o .0) e (λ x. omega arith)
-    removes e j (Put n p) l o = apart 0 putWord removeWord w (o .0) e (λ x. omega arith)
+    removes e j (Put n p m) l o = put-not removeWord refl w m (o .0) e
     removes e j (Lookup n) l o = apart 0 lookupWord removeWord w (o .0) e (λ x. omega arith)
     removes e j (Remove n) l o = uncoded j n l (o .1)
     removes e j Count l o = o
@@ -150,38 +186,38 @@ module _ (w r : List ℕ) (f : Spaceless w) (s : Spoken (w ++ (32 ∷ r))) where
     pub no-remove : w ≡ removeWord → AsksNothing (w ++ (32 ∷ r)) k
     no-remove e j c l h a = removes e j c l (on j c a)
 
--- what stands after put
-module _ (r k : List ℕ) (no : (j : List ℕ) (n : ℕ) (p : Place) → length j ≡ length k → InRange p → Putting j n p r → ⊥) where
-  puts : (j : List ℕ) (c : Command) → length j ≡ length k → WithinLimits c → On putWord r j c → ⊥
-  puts j Nothing l h o = o
-  puts j (Format n) l h o = apart 0 formatWord putWord putWord (o .0) refl (λ x. omega arith)
-  puts j (Put n p) l h o = no j n p l h (o .1)
-  puts j (Lookup n) l h o = apart 0 lookupWord putWord putWord (o .0) refl (λ x. omega arith)
-  puts j (Remove n) l h o = apart 0 removeWord putWord putWord (o .0) refl (λ x. omega arith)
-  puts j Count l h o = o
-  puts j (Row n) l h o = apart 0 rowWord putWord putWord (o .0) refl (λ x. omega arith)
-  puts j Listing l h o = o
-  puts j Check l h o = o
-  puts j (Inspect n) l h o = apart 0 inspectWord putWord putWord (o .0) refl (λ x. omega arith)
-  puts j Unknown l h o = o
+-- what stands after the word of a put
+module _ (w : List ℕ) (m : ℕ) (q : PutBy w m) (r k : List ℕ) where
+  module _ (no : (j : List ℕ) (n : ℕ) (p : Place) → length j ≡ length k → InRange p → Putting j n p r → ⊥) where
+    puts : (j : List ℕ) (c : Command) → length j ≡ length k → WithinLimits c → On w r j c → ⊥
+    puts j Nothing l h o = o
+    puts j (Format n) l h o = put-not formatWord refl w m q (o .0)
+    puts j (Put n p _) l h o = no j n p l h (o .1)
+    puts j (Lookup n) l h o = put-not lookupWord refl w m q (o .0)
+    puts j (Remove n) l h o = put-not removeWord refl w m q (o .0)
+    puts j Count l h o = o
+    puts j (Row n) l h o = put-not rowWord refl w m q (o .0)
+    puts j Listing l h o = o
+    puts j Check l h o = o
+    puts j (Inspect n) l h o = put-not inspectWord refl w m q (o .0)
+    puts j Unknown l h o = o
 
-  pub no-put : AsksNothing (putWord ++ (32 ∷ r)) k
-  no-put j c l h a = puts j c l h (on putWord r (of-clear putWord refl) (record { some = λ e. omega arith; said = λ e. omega arith }) j c a)
+    pub no-put : AsksNothing (w ++ (32 ∷ r)) k
+    no-put j c l h a = puts j c l h (on w r (of-clear w (put-clear w m q)) (put-spoken w m q r) j c a)
 
-module _ (r k : List ℕ) where
-  pub put-alone : Spaceless r → AsksNothing (putWord ++ (32 ∷ r)) k
-  put-alone s = no-put r k (λ j n p l h x. no-space r (x .code) (x .after .rest) s (x .after .line))
+  pub put-alone : Spaceless r → AsksNothing (w ++ (32 ∷ r)) k
+  put-alone s = no-put (λ j n p l h x. no-space r (x .code) (x .after .rest) s (x .after .line))
 
   -- r's first space
   module _ (a b : List ℕ) (e : r ≡ a ++ (32 ∷ b)) (f : Spaceless a) where
     halves : {j : List ℕ} {n : ℕ} {p : Place} (x : Putting j n p r) → (a ≡ x .code) × (b ≡ x .after .rest)
     halves x = split-one a (x .code) b (x .after .rest) f (spells-spaceless (x .coded .spells)) (sym e ∙ x .after .line)
 
-    pub put-nowhere : Places b Nowhere → AsksNothing (putWord ++ (32 ∷ r)) k
-    put-nowhere q = no-put r k (λ j n p l h x. q p h (subst (Placed Integer p) (sym (halves x .1)) (x .after .says)))
+    pub put-nowhere : Places b Nowhere → AsksNothing (w ++ (32 ∷ r)) k
+    put-nowhere q = no-put (λ j n p l h x. q p h (subst (Placed Integer p) (sym (halves x .1)) (x .after .says)))
 
-    pub put-wrong : ((c : List ℕ) → length c ≤ length k → Spells a c → ⊥) → AsksNothing (putWord ++ (32 ∷ r)) k
-    put-wrong q = no-put r k (λ j n p l h x.
+    pub put-wrong : ((c : List ℕ) → length c ≤ length k → Spells a c → ⊥) → AsksNothing (w ++ (32 ∷ r)) k
+    put-wrong q = no-put (λ j n p l h x.
         q (take n j) (omega (arith, length-take-le n j (x .coded .within), x .coded .within)) (subst (λ (t : List ℕ). Spells t (take n j)) (sym (halves x .0)) (x .coded .spells)))
 
 -- a line of one word
@@ -189,7 +225,7 @@ module _ (l : List ℕ) (f : Spaceless l) (s : Spoken l) (x : l ≡ countWord �
   pub no-word : (k : List ℕ) → AsksNothing l k
   no-word k j Nothing m h a = ⊎-elim (s .some) (s .said) a
   no-word k j (Format n) m h a = no-space l formatWord (a .rest) f (a .line)
-  no-word k j (Put n p) m h a = no-space l putWord (a .rest) f (a .line)
+  no-word k j (Put n p _) m h a = no-space l (a .word) (a .line .rest) f (a .line .line)
   no-word k j (Lookup n) m h a = no-space l lookupWord (a .rest) f (a .line)
   no-word k j (Remove n) m h a = no-space l removeWord (a .rest) f (a .line)
   no-word k j Count m h a = x a

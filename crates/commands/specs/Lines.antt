@@ -60,6 +60,24 @@ formatWord = 102 ∷ 111 ∷ 114 ∷ 109 ∷ 97 ∷ 116 ∷ []
 abbrev pub putWord : List ℕ
 putWord = 112 ∷ 117 ∷ 116 ∷ []
 
+-- "add"
+abbrev pub addWord : List ℕ
+addWord = 97 ∷ 100 ∷ 100 ∷ []
+
+-- "move"
+abbrev pub moveWord : List ℕ
+moveWord = 109 ∷ 111 ∷ 118 ∷ 101 ∷ []
+
+-- the word of a put by its mode: put takes either, add only a new code, move only a known one
+abbrev pub PutBy : List ℕ → ℕ → Type 0
+PutBy w m = ((m ≡ 0) × (w ≡ putWord)) ⊎ (((m ≡ 1) × (w ≡ addWord)) ⊎ ((m ≡ 2) × (w ≡ moveWord)))
+
+-- a line that puts by the mode m
+pub record PutLine (k : List ℕ) (n : ℕ) (p : Place) (m : ℕ) (l : List ℕ) : Type 0 where
+  pub word : List ℕ
+  pub by : PutBy word m
+  pub line : After l word (Putting k n p)
+
 -- "lookup"
 abbrev pub lookupWord : List ℕ
 lookupWord = 108 ∷ 111 ∷ 111 ∷ 107 ∷ 117 ∷ 112 ∷ []
@@ -92,7 +110,7 @@ inspectWord = 105 ∷ 110 ∷ 115 ∷ 112 ∷ 101 ∷ 99 ∷ 116 ∷ []
 abbrev pub Asks : List ℕ → List ℕ → Command → Type 0
 Asks l k Nothing = (length l ≡ 0) ⊎ (byte l 0 ≡ 35)
 Asks l k (Format n) = After l formatWord (Decimal n)
-Asks l k (Put n p) = After l putWord (Putting k n p)
+Asks l k (Put n p m) = PutLine k n p m l
 Asks l k (Lookup n) = After l lookupWord (λ w. Coded w k n)
 Asks l k (Remove n) = After l removeWord (λ w. Coded w k n)
 Asks l k Count = l ≡ countWord
@@ -106,7 +124,7 @@ Asks l k Unknown = ⊥
 abbrev pub WithinLimits : Command → Type 0
 WithinLimits Nothing = Unit {0}
 WithinLimits (Format n) = n < 2 ^ 64
-WithinLimits (Put n p) = InRange p
+WithinLimits (Put n p m) = InRange p
 WithinLimits (Lookup n) = Unit {0}
 WithinLimits (Remove n) = Unit {0}
 WithinLimits Count = Unit {0}
@@ -124,7 +142,7 @@ AsksNothing l k = (j : List ℕ) (c : Command) → length j ≡ length k → Wit
 abbrev pub Means : List ℕ → List ℕ → Command → Type 0
 Means l k Nothing = Asks l k Nothing
 Means l k (Format n) = Asks l k (Format n)
-Means l k (Put n p) = Asks l k (Put n p)
+Means l k (Put n p m) = Asks l k (Put n p m)
 Means l k (Lookup n) = Asks l k (Lookup n)
 Means l k (Remove n) = Asks l k (Remove n)
 Means l k Count = Asks l k Count
@@ -141,6 +159,6 @@ pub record Spoken (l : List ℕ) : Type 0 where
 
 -- the word of no command that takes a code
 pub record Uncoded (w : List ℕ) : Type 0 where
-  pub put : w ≡ putWord → ⊥
+  pub put : (m : ℕ) → PutBy w m → ⊥
   pub lookup : w ≡ lookupWord → ⊥
   pub remove : w ≡ removeWord → ⊥

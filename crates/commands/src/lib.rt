@@ -14,7 +14,8 @@ pub enum Command {
     Nothing,
     Unknown,
     Format(usize),
-    Put(usize, Place),
+    // with the mode that its word stands for
+    Put(usize, Place, u64),
     Lookup(usize),
     Remove(usize),
     Count,

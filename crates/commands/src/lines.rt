@@ -1,9 +1,9 @@
 // Lines as commands: words with one space between each two.
 ghost use mathlib.Core.Path.{_≡_};
 ghost use mathlib.Core.List.{List, _∷_, _++_};
-ghost use Prim.Native.Nat.{ℕ, _≤_};
+ghost use Prim.Native.Nat.{ℕ, _≤_, _<_};
 ghost use lib.Signed.{mag};
-ghost use Rattle.commands.specs.Lines.{FirstSpace, Places, Means, Spaceless, Spoken, Uncoded, putWord};
+ghost use Rattle.commands.specs.Lines.{FirstSpace, Places, Means, Spaceless, Spoken, Uncoded, PutBy};
 use super::codes::decode;
 use super::numbers::read_number;
 use super::numbers::read_signed;
@@ -119,9 +119,25 @@ fn numbered(word: &[u8], rest: &[u8]) -> Command
     Command::Unknown
 }
 
-// What stands after put: a code and a place.
-fn put(rest: &[u8], code: &mut [u8]) -> Command
-    ensures { λ r. ⌜ Means (putWord ++ (32 ∷ now (rest .entry))) (now (code .exit)) r ⌝ }
+// The mode of a put by its word; 3 where it is the word of none.
+fn put_mode(word: &[u8]) -> u64
+    ensures { λ r. ⌜ (r < 3 → PutBy (now (word .entry)) r) × (3 ≤ r → (m : ℕ) → PutBy (now (word .entry)) m → ⊥) ⌝ }
+{
+    if same(word, b"put") {
+        return 0;
+    }
+    if same(word, b"add") {
+        return 1;
+    }
+    if same(word, b"move") {
+        return 2;
+    }
+    3
+}
+
+// What stands after the word of a put: a code and a place.
+fn put(rest: &[u8], code: &mut [u8], mode: u64) -> Command
+    ensures { λ r. ⌜ ((w : List ℕ) → PutBy w mode → Means (w ++ (32 ∷ now (rest .entry))) (now (code .exit)) r) ⌝ }
 {
     let e = first_space(rest);
     if e >= rest.len() {
@@ -134,7 +150,7 @@ fn put(rest: &[u8], code: &mut [u8]) -> Command
     let Decoded::Code(n) = decode(&rest[..e], code) else {
         return Command::Unknown;
     };
-    Command::Put(n, place)
+    Command::Put(n, place, mode)
 }
 
 // A word and what stands after it.
@@ -142,8 +158,9 @@ fn phrase(word: &[u8], rest: &[u8], code: &mut [u8]) -> Command
     requires { ⌜ Spaceless (now word) × Spoken (now word ++ (32 ∷ now rest)) ⌝ }
     ensures { λ r. ⌜ Means (now (word .entry) ++ (32 ∷ now (rest .entry))) (now (code .exit)) r ⌝ }
 {
-    if same(word, b"put") {
-        return put(rest, code);
+    let mode = put_mode(word);
+    if mode < 3 {
+        return put(rest, code, mode);
     }
     if same(word, b"lookup") {
         let Decoded::Code(n) = decode(rest, code) else {

@@ -35,7 +35,7 @@ told-leaves c s a Changed t m r l = absurd l
 told-leaves c s a Stopped t m r l = absurd l
 
 does-leaves : (k : List ℕ) (c : Command) (s : List ℕ) (o : Outcome) (t : List ℕ) → Does k c s o t → Leaves o → t ≡ s
-does-leaves k (Put n p) s o t d l = told-leaves (put (take n k) p) s (d .answer) o t (d .made) (d .told) l
+does-leaves k (Put n p m) s o t d l = told-leaves (put (take n k) p m) s (d .answer) o t (d .made) (d .told) l
 does-leaves k (Remove n) s o t d l = told-leaves (remove (take n k)) s (d .answer) o t (d .made) (d .told) l
 does-leaves k (Format n) s o t d l = d .1
 does-leaves k Nothing s o t d l = d .1

@@ -36,7 +36,7 @@ pub record Written (c : Call) (s : List ℕ) (o : Outcome) (t : List ℕ) : Type
 
 -- a command on the store s; its code begins the buffer k
 abbrev pub Does : List ℕ → Command → List ℕ → Outcome → List ℕ → Type 0
-Does k (Put n p) s o t = Written (put (take n k) p) s o t
+Does k (Put n p m) s o t = Written (put (take n k) p m) s o t
 Does k (Remove n) s o t = Written (remove (take n k)) s o t
 Does k (Format n) s o t = (o ≡ Formats n) × (t ≡ s)
 Does k Nothing s o t = (o ≡ Same) × (t ≡ s)

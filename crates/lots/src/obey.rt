@@ -189,7 +189,7 @@ pub fn obey(s: &mut [u8], line: &[u8], number: usize) -> Outcome
         Command::Nothing => Outcome::Same,
         Command::Unknown => unknown(number),
         Command::Format(n) => Outcome::Format(n),
-        Command::Put(k, place) => wrote(putting::put(s, &code[0..k], place)),
+        Command::Put(k, place, mode) => wrote(putting::put(s, &code[0..k], place, mode)),
         Command::Lookup(k) => told(query::lookup(s, &code[0..k])),
         Command::Remove(k) => wrote(removal::remove(s, &code[0..k])),
         Command::Count => told(query::count(s)),

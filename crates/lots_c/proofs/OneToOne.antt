@@ -131,9 +131,9 @@ pub remove-one : (s t c d u v : List ℕ) (r : ℕ) (a : TellsAnd (removeTable S
 remove-one s t c d u v r a b = one (λ w. found (placeIn w)) (Placed found) 258 (omega arith) (place-off found (λ p. refl)) (a .is) (b .is)
     (remove-said S1024 fnv sized-1024 fnv-lt s c (a .out, u) (a .allowed)) (remove-said S1024 fnv sized-1024 fnv-lt t d (b .out, v) (b .allowed))
 
-pub put-one : (s t c d u v : List ℕ) (p q : Place) (r : ℕ) (a : TellsAnd (putTable S1024 fnv s c p) u r) (b : TellsAnd (putTable S1024 fnv t d q) v r) → a .out ≡ b .out
-put-one s t c d u v p q r a b = one putIn Kept 258 (omega arith) put-off (a .is) (b .is)
-    (put-said S1024 fnv sized-1024 fnv-lt s c p (a .out, u) (a .allowed)) (put-said S1024 fnv sized-1024 fnv-lt t d q (b .out, v) (b .allowed))
+pub put-one : (s t c d u v : List ℕ) (p q : Place) (m n r : ℕ) (a : TellsAnd (putTable S1024 fnv s c p m) u r) (b : TellsAnd (putTable S1024 fnv t d q n) v r) → a .out ≡ b .out
+put-one s t c d u v p q m n r a b = one putIn Kept 258 (omega arith) put-off (a .is) (b .is)
+    (put-said S1024 fnv sized-1024 fnv-lt s c p m (a .out, u) (a .allowed)) (put-said S1024 fnv sized-1024 fnv-lt t d q n (b .out, v) (b .allowed))
 
 -- a row, with the code's length
 abbrev Sized : ℕ → Out → Type 0

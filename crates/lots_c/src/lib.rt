@@ -129,9 +129,16 @@ pub extern "C" fn lots_remove(store: &mut [u8], code: &[u8]) -> u64
 }
 
 #[no_mangle]
-pub extern "C" fn lots_put(store: &mut [u8], code: &[u8], page: i32, slot: i16, volume: i16) -> u64
-    ensures { λ r. ⌜ TellsAnd (putTable S1024 fnv (now (store .entry)) (now (code .entry)) (record { page = page; slot = slot; volume = volume })) (now (store .exit)) r ⌝ }
+pub extern "C" fn lots_put(
+    store: &mut [u8],
+    code: &[u8],
+    page: i32,
+    slot: i16,
+    volume: i16,
+    mode: u64,
+) -> u64
+    ensures { λ r. ⌜ TellsAnd (putTable S1024 fnv (now (store .entry)) (now (code .entry)) (record { page = page; slot = slot; volume = volume }) mode) (now (store .exit)) r ⌝ }
 {
     let place = Place { page, slot, volume };
-    word_of(putting::put(store, code, place))
+    word_of(putting::put(store, code, place, mode))
 }

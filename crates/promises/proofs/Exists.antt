@@ -26,15 +26,15 @@ range-or-not p = map-dec (λ t. search) (λ r. search) (both (decLt (mag (p .pag
 
 module _ (h : List ℕ → ℕ) (hash : Hash h) where
   -- what is no code of bytes or no place in its ranges cannot be given; the answer to it is any
-  abbrev put-of : (s c : List ℕ) (p : Place) → Dec (Bytes c) → Dec (InRange p) → Out × List ℕ
-  put-of s c p (yes a) (yes b) = put-answered S1024 h sized-1024 hash s c p a b .is
-  put-of s c p (yes a) (no b) = (refused 1, s)
-  put-of s c p (no a) b = (refused 1, s)
+  abbrev put-of : (s c : List ℕ) (p : Place) (m : ℕ) → Dec (Bytes c) → Dec (InRange p) → Out × List ℕ
+  put-of s c p m (yes a) (yes b) = put-answered S1024 h sized-1024 hash s c p m a b .is
+  put-of s c p m (yes a) (no b) = (refused 1, s)
+  put-of s c p m (no a) b = (refused 1, s)
 
-  put-meets : (s c : List ℕ) (p : Place) (x : Dec (Bytes c)) (y : Dec (InRange p)) → Bytes c → InRange p → Answers (putTable S1024 h s c p) (put-of s c p x y)
-  put-meets s c p (yes a) (yes b) small range = put-answered S1024 h sized-1024 hash s c p a b .allowed
-  put-meets s c p (yes a) (no b) small range = absurd (b range)
-  put-meets s c p (no a) b small range = absurd (a small)
+  put-meets : (s c : List ℕ) (p : Place) (m : ℕ) (x : Dec (Bytes c)) (y : Dec (InRange p)) → Bytes c → InRange p → Answers (putTable S1024 h s c p m) (put-of s c p m x y)
+  put-meets s c p m (yes a) (yes b) small range = put-answered S1024 h sized-1024 hash s c p m a b .allowed
+  put-meets s c p m (yes a) (no b) small range = absurd (b range)
+  put-meets s c p m (no a) b small range = absurd (a small)
 
   program : Program
   program = record {
@@ -42,7 +42,7 @@ module _ (h : List ℕ → ℕ) (hash : Hash h) where
     check = λ s. check-answered S1024 h s .is;
     count = λ s. count-answered S1024 h s .is;
     lookup = λ s c. lookup-answered S1024 h s c .is;
-    put = λ s c p. put-of s c p (small-or-not c) (range-or-not p);
+    put = λ s c p m. put-of s c p m (small-or-not c) (range-or-not p);
     remove = λ s c. remove-answered S1024 h sized-1024 hash s c .is;
     row = λ s n out. row-answered S1024 h s n out .is;
   }
@@ -56,7 +56,7 @@ module _ (h : List ℕ → ℕ) (hash : Hash h) where
       checks = λ s _. check-answered S1024 h s .allowed;
       counts = λ s _. count-answered S1024 h s .allowed;
       looks = λ s c _ _. lookup-answered S1024 h s c .allowed;
-      puts = λ s c p _ small range. put-meets s c p (small-or-not c) (range-or-not p) small range;
+      puts = λ s c p m _ small range. put-meets s c p m (small-or-not c) (range-or-not p) small range;
       removes = λ s c _ _. remove-answered S1024 h sized-1024 hash s c .allowed;
       rows = λ s n out _ _. row-answered S1024 h s n out .allowed;
     },

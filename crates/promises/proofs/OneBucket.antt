@@ -155,10 +155,10 @@ module _ (h : List ℕ → ℕ) (hash : Hash h) where
       put-all (suc n) l =
           let w = put-all n (omega arith) in
           let m : n < 14 = omega arith in (
-            P .put (w .0) (G .code n) (at 0) .1,
+            P .put (w .0) (G .code n) (at 0) 0 .1,
             at-next h hash P meets (w .1) (G .code n) (at 0) (record { least = omega (arith, G .long n m); most = omega (arith, G .long n m) }) (G .small n m) (in-range 0 (omega arith)) (natural 0)
                 (fresh n m) (near-of n m) (room-of n m),
-            f (w .0) (G .code n) (at 0) (w .2),
+            f (w .0) (G .code n) (at 0) 0 (w .2),
           )
 
       pub comes-to-two : ⊥

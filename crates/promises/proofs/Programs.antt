@@ -1,8 +1,8 @@
 -- THE WRONG PROGRAMS ARE TURNED AWAY: none of them keeps the tables. Assumes nothing.
 use mathlib.Core.Path.{_≡_, refl, sym, ap, subst, _∙_}
-use mathlib.Core.Bool.{true, true≢false}
+use mathlib.Core.Bool.{true, false, true≢false}
 use mathlib.Core.List.{List, [], _∷_}
-use mathlib.Core.Logic.{⊎-elim}
+use mathlib.Core.Logic.{_↔_, inl, ⊎-elim}
 use mathlib.Core.Option.{some}
 use Prim.Native.Nat.{ℕ, zero, suc, _≤_, _<_}
 use native.Mathlib.Omega.{arith}
@@ -24,11 +24,12 @@ use Rattle.page.specs.Places.{place, stored}
 use Rattle.store.specs.Pages.{S1024, rowsHeld}
 use Rattle.store.specs.Accepted.{Accepted}
 use Rattle.store.specs.Tables.{Out, row, new, found, rowTable}
-use Rattle.store.specs.Demands.{Hash, lookup, remove, count, ok, GoodCode, AtStart, Nth, map-of, update, answerOf, sized-1024}
+use Rattle.store.specs.Demands.{Hash, lookup, remove, count, put, ok, GoodCode, AtStart, Nth, map-of, update, answerOf, Refuses, known, sized-1024}
 use Rattle.store.proofs.Demands.Given.{member}
+use Rattle.store.proofs.Demands.Kept.{unrefused}
 use Rattle.store.proofs.Result.Fitted.{prefix-needs}
 use Rattle.store.proofs.Demands.Whole.{demand-2}
-use Rattle.promises.specs.Programs.{Program, Bytes, Meets, RefusesEveryPut, OneFixedPlace, RepeatsOneRow, OnlyAnswers, StoresOnlyTheFirst, Miscounts}
+use Rattle.promises.specs.Programs.{Program, Bytes, Meets, RefusesEveryPut, ReplacesSilently, OneFixedPlace, RepeatsOneRow, OnlyAnswers, StoresOnlyTheFirst, Miscounts}
 use Rattle.promises.proofs.Runs.{rowOf, at, in-range, natural, room, At, accepted-at, same-at, map-at, begun, at-first, says-new, at-next}
 
 -- ---- what is put: the codes "a" and "b", at the places (n, 0, 0)
@@ -97,7 +98,7 @@ module _ (h : List ℕ → ℕ) (hash : Hash h) where
   module _ (P : Program) (meets : Meets h P) where
     -- "a" is put into a new store
     abbrev one : ℕ → List ℕ
-    one n = P .put (begun h hash P meets) a (at n) .1
+    one n = P .put (begun h hash P meets) a (at n) 0 .1
 
     abbrev row-a : ℕ → Row
     row-a n = rowOf a (at n)
@@ -108,7 +109,7 @@ module _ (h : List ℕ → ℕ) (hash : Hash h) where
 
     -- it is said to be new, and is there
     module _ (n : ℕ) (l : n < 2) where
-      said-a : P .put (begun h hash P meets) a (at n) .0 ≡ new
+      said-a : P .put (begun h hash P meets) a (at n) 0 .0 ≡ new
       unfolding placeOf
       said-a = says-new h hash P meets (at-first h hash P meets) a (at n) (one-good 97) (one-small 97 (omega arith)) (in-range n l) (natural n) refl
           (omega (arith, prefix-needs h (row-a n ∷ []) 8 (top 8 (h a)), needs-a n)) (omega (arith, room h hash (row-a n) [] (omega (arith, needs-a n))))
@@ -124,7 +125,20 @@ module _ (h : List ℕ → ℕ) (hash : Hash h) where
 
     -- ONE THAT REFUSES EVERY PUT
     pub refuses-every-put : RefusesEveryPut P → ⊥
-    refuses-every-put f = true≢false (sym (ap ok (said-a 0 (omega arith))) ∙ f (begun h hash P meets) a (at 0))
+    refuses-every-put f = true≢false (sym (ap ok (said-a 0 (omega arith))) ∙ f (begun h hash P meets) a (at 0) 0)
+
+    -- ONE THAT REPLACES SILENTLY: "a" is there, so mode 1 is refused and mode 0 is not
+    again : (m : ℕ) → (ok (P .put (one 0) a (at 1) m .0) ≡ false) ↔ Refuses S1024 h (one 0) a (at 1) m
+    again m =
+        let w = with-a 0 (omega arith) in
+        demand-2 S1024 h sized-1024 hash .4 (one 0) a (at 1) m (P .put (one 0) a (at 1) m .0) (P .put (one 0) a (at 1) m .1) (accepted-at h hash P meets w)
+        (meets .puts (one 0) a (at 1) m (w .small) (one-small 97 (omega arith)) (in-range 1 (omega arith)))
+
+    pub replaces-silently : ReplacesSilently P → ⊥
+    replaces-silently f = replaces (again 0 .0 (ap (λ x. ok (x .0)) (sym (f (one 0) a (at 1))) ∙ again 1 .1 (known refl (stored (at 0)) (holds-a 0 (omega arith)))))
+      where
+        replaces : Refuses S1024 h (one 0) a (at 1) 0 → ⊥
+        replaces = unrefused S1024 h (one 0) a (at 1) 0 (one-good 97) (natural 1) (inl refl) (λ x _ _. omega (arith, x)) (λ x. absurd (none-some x (holds-a 0 (omega arith))))
 
     -- LOOKUP WITH ONE FIXED PLACE
     looks-up : (n : ℕ) (l : n < 2) → P .lookup (one n) a ≡ found (at n)
@@ -155,7 +169,7 @@ module _ (h : List ℕ → ℕ) (hash : Hash h) where
 
     -- then "b" is put
     abbrev two : List ℕ
-    two = P .put (one 0) b (at 1) .1
+    two = P .put (one 0) b (at 1) 0 .1
 
     abbrev row-b : Row
     row-b = rowOf b (at 1)
@@ -164,7 +178,7 @@ module _ (h : List ℕ → ℕ) (hash : Hash h) where
     unfolding needs need
     needs-b = refl
 
-    said-b : P .put (one 0) b (at 1) .0 ≡ new
+    said-b : P .put (one 0) b (at 1) 0 .0 ≡ new
     unfolding placeOf order
     said-b = says-new h hash P meets (with-a 0 (omega arith)) b (at 1) (one-good 98) (one-small 98 (omega arith)) (in-range 1 (omega arith)) (natural 1) refl
         (omega (arith, prefix-needs h (row-b ∷ row-a 0 ∷ []) 8 (top 8 (h b)), needs-b)) (omega (arith, room h hash row-b (row-a 0 ∷ []) (omega (arith, needs-b))))
@@ -179,7 +193,7 @@ module _ (h : List ℕ → ℕ) (hash : Hash h) where
     unfolding placeOf order
     stores-only-the-first f =
         let some-row : rowsHeld S1024 (one 0) ≡ [] → ⊥ = λ e. none-some (ap (λ rs. placeOf rs a) e) (holds-a 0 (omega arith)) in
-        let e : two ≡ one 0 = f (one 0) b (at 1) some-row said-b in
+        let e : two ≡ one 0 = f (one 0) b (at 1) 0 some-row said-b in
         none-some (map-at h hash P meets (with-a 0 (omega arith)) b) (ap (λ s. map-of S1024 s b) (sym e) ∙ map-at h hash P meets with-b b)
 
     -- A LISTING THAT REPEATS ONE ROW

@@ -2,7 +2,7 @@
 use mathlib.Core.Path.{_≡_, refl, sym, ap, _∙_}
 use mathlib.Core.Bool.{Bool, true, false}
 use mathlib.Core.List.{List}
-use mathlib.Core.Logic.{inl, inr, ⊎-elim}
+use mathlib.Core.Logic.{inl, inr}
 use mathlib.Core.Option.{some, none}
 use Prim.Native.Nat.{ℕ, _-_, _/_, _≤_, _<_}
 use native.Mathlib.Omega.{arith}
@@ -16,17 +16,18 @@ use Rattle.page.specs.Places.{place, stored, Negative}
 use Rattle.store.specs.Pages.{S1024}
 use Rattle.store.specs.Accepted.{Accepted}
 use Rattle.store.specs.Moves.{pick}
-use Rattle.store.specs.Tables.{Out, refused, new, replaced, putAccepted, putTable}
-use Rattle.store.specs.Demands.{Call, format, check, count, lookup, remove, put, rowAt, inspect, Made, ok, GoodCode, WholePages, faults, ExactlyWhen, map-of, putAnswer, Refuses, after, sized-1024}
+use Rattle.store.specs.Tables.{Out, refused, new, replaced, putAccepted, putByMode, putTable}
+use Rattle.store.specs.Demands.{Call, format, check, count, lookup, remove, put, rowAt, inspect, Made, ok, GoodCode, Mode, WholePages, faults, ExactlyWhen, map-of, putAnswer, Refuses, after, sized-1024}
 use Rattle.store.proofs.Accepted.Rules.{accepted-whole}
 use Rattle.store.proofs.Demands.Settled.{format-settled, check-settled, count-settled, lookup-settled, row-settled, inspect-settled, put-settled, remove-settled}
 use Rattle.store.proofs.Demands.Meaning.{meaning-one}
-use Rattle.store.proofs.Demands.Kept.{no-three}
+use Rattle.store.proofs.Demands.Kept.{no-three, no-fourteen, unrefused}
+use Rattle.store.proofs.Demands.Modes.{is-known, is-absent, let-new}
 use Rattle.store.proofs.Demands.Order.{good-length, whole-pages}
 use Rattle.store.proofs.Demands.Whole.{demand-1, demand-2, demand-3}
 use Rattle.store.proofs.Demands.Choice.{put-chooses, remove-chooses}
 use Rattle.store.proofs.Result.Total.{answered-always}
-use Rattle.promises.specs.Promises.{First, joining, near, PutSays, Second, Third, Promised}
+use Rattle.promises.specs.Promises.{First, joining, near, Fair, PutSays, Second, Third, Promised}
 
 pair : {A B : Type 0} (x y : A × B) → x ≡ y → (x .0 ≡ y .0) × (x .1 ≡ y .1)
 pair x y e = (ap (λ q. q .0) e, ap (λ q. q .1) e)
@@ -37,7 +38,7 @@ store-settled check s o o′ t t′ m n = (check-settled S1024 fnv s o o′ (m .
 store-settled count s o o′ t t′ m n = (count-settled S1024 fnv s o o′ (m .0) (n .0), m .1 ∙ sym (n .1))
 store-settled (lookup c) s o o′ t t′ m n = (lookup-settled S1024 fnv s c o o′ (m .0) (n .0), m .1 ∙ sym (n .1))
 store-settled (remove c) s o o′ t t′ m n = pair (o, t) (o′, t′) (remove-settled S1024 fnv sized-1024 s c (o, t) (o′, t′) m n)
-store-settled (put c p) s o o′ t t′ m n = pair (o, t) (o′, t′) (put-settled S1024 fnv sized-1024 s c p (o, t) (o′, t′) m n)
+store-settled (put c p mode) s o o′ t t′ m n = pair (o, t) (o′, t′) (put-settled S1024 fnv sized-1024 s c p mode (o, t) (o′, t′) m n)
 store-settled (rowAt n out) s o o′ t t′ m k =
     (pair _ _ (row-settled S1024 fnv s n out (o, m .0 .0) (o′, k .0 .0) (m .0 .1) (k .0 .1)) .0, m .1 ∙ sym (k .1))
 store-settled (inspect g n out) s o o′ t t′ m k =
@@ -58,14 +59,14 @@ first =
 
 -- ---- put's answer, by number
 
-module _ (s c : List ℕ) (p : Place) (o : Out) (t : List ℕ) (a : Accepted S1024 fnv s) (m : Made S1024 fnv (put c p) s o t) where
+module _ (s c : List ℕ) (p : Place) (m : ℕ) (o : Out) (t : List ℕ) (a : Accepted S1024 fnv s) (made : Made S1024 fnv (put c p m) s o t) where
   -- the table's answer is the only one
-  only : (x : Out) (y : List ℕ) → Answers (putTable S1024 fnv s c p) (x, y) → o ≡ x
-  only x y w = ap (λ q. q .0) (put-settled S1024 fnv sized-1024 s c p (o, t) (x, y) m w)
+  only : (x : Out) (y : List ℕ) → Answers (putTable S1024 fnv s c p m) (x, y) → o ≡ x
+  only x y w = ap (λ q. q .0) (put-settled S1024 fnv sized-1024 s c p m (o, t) (x, y) made w)
 
-  -- 3 and 4 are demand 1's
-  said : ExactlyWhen (faults S1024 fnv (put c p) s) o
-  said = demand-1 S1024 fnv .0 (put c p) s o t m
+  -- 3, 4 and 14 are demand 1's
+  said : ExactlyWhen (faults S1024 fnv (put c p m) s) o
+  said = demand-1 S1024 fnv .0 (put c p m) s o t made
 
   long : (WholePages S1024 s → ⊥) → ⊥
   long n = n (whole-pages S1024 s (a .long))
@@ -76,46 +77,63 @@ module _ (s c : List ℕ) (p : Place) (o : Out) (t : List ℕ) (a : Accepted S10
   says-four : GoodCode c → Negative p → o ≡ refused 4
   says-four g n = said .four .1 (long, (λ b. b g), n)
 
-  module _ (g : GoodCode c) (n : Negative p → ⊥) where
+  says-fourteen : GoodCode c → (Negative p → ⊥) → (Mode m → ⊥) → o ≡ refused 14
+  says-fourteen g n f = said .fourteen .1 (long, (λ b. b g), n, f)
+
+  module _ (fair : Fair c p m) where
+    -- past the refusals before 13
+    past : (x : Out) → Answers (putByMode S1024 fnv s m (record { code = c; place = stored p })) (x, s) → o ≡ x
+    unfolding putTable
+    past x w = only x s (inr (
+      (λ _ r. r (a .long)),
+      inr ((λ _ r. no-three c (fair .coded) r), inr ((λ _ r. fair .placed r), inr ((λ _ r. no-fourteen m (fair .moded) r), inr (accepted-whole S1024 fnv s a, (a, w))))),
+    ))
+
     -- a put that is not refused answers as the map says
-    answers : (Refuses S1024 fnv s c p (record { code = c; place = stored p }) → ⊥) → o ≡ putAnswer (map-of S1024 s c)
+    answers : (Refuses S1024 fnv s c p m → ⊥) → o ≡ putAnswer (map-of S1024 s c)
     answers f = go (ok o) refl
       where
         go : (b : Bool) → ok o ≡ b → o ≡ putAnswer (map-of S1024 s c)
-        go true e = demand-2 S1024 fnv sized-1024 fnv-lt .2 s c p o t a m .0 e .0
-        go false e = absurd (f (demand-2 S1024 fnv sized-1024 fnv-lt .4 s c p o t a m .0 e))
+        go true e = demand-2 S1024 fnv sized-1024 fnv-lt .2 s c p m o t a made .0 e .0
+        go false e = absurd (f (demand-2 S1024 fnv sized-1024 fnv-lt .4 s c p m o t a made .0 e))
 
-    says-known : (b : List ℕ) → map-of S1024 s c ≡ some b → o ≡ replaced (place b)
-    says-known b e = answers refuses ∙ ap putAnswer e
-      where
-        refuses : Refuses S1024 fnv s c p (record { code = c; place = stored p }) → ⊥
-        refuses (inl x) = x g
-        refuses (inr (inl x)) = n x
-        refuses (inr (inr x)) = none-some (x .0) e
+    says-thirteen : m ≡ 1 → (b : List ℕ) → map-of S1024 s c ≡ some b → o ≡ refused 13
+    says-thirteen e b k = past (refused 13) (is-known S1024 fnv s m (record { code = c; place = stored p }) b k e)
 
-    module _ (e : map-of S1024 s c ≡ none) where
-      -- past the refusals before 6
-      past : (x : Out) → Answers (putAccepted S1024 fnv s (record { code = c; place = stored p })) (x, s) → o ≡ x
-      unfolding putTable
-      past x w = only x s (inr ((λ _ r. r (a .long)), inr ((λ _ r. no-three c g r), inr ((λ _ r. n r), inr (accepted-whole S1024 fnv s a, (a, w))))))
+    says-known : (m ≡ 1 → ⊥) → (b : List ℕ) → map-of S1024 s c ≡ some b → o ≡ replaced (place b)
+    says-known n b e = answers (unrefused S1024 fnv s c p m (fair .coded) (fair .placed) (fair .moded) (λ x _ _. n x) (λ x. absurd (none-some x e))) ∙ ap putAnswer e
+
+    says-five : m ≡ 2 → map-of S1024 s c ≡ none → o ≡ refused 5
+    says-five e k = past (refused 5) (is-absent S1024 fnv s m (record { code = c; place = stored p }) k e)
+
+    module _ (n : m ≡ 2 → ⊥) (e : map-of S1024 s c ≡ none) where
+      -- past the mode
+      through : (x : Out) → Answers (putAccepted S1024 fnv s (record { code = c; place = stored p })) (x, s) → o ≡ x
+      through x w = past x (let-new S1024 fnv s m (record { code = c; place = stored p }) e n (x, s) w)
 
       says-six : 1016 < near s c p → o ≡ refused 6
-      says-six l = past (refused 6) (inr ((λ b f. none-some e f), inl (tt, (l, refl))))
+      says-six l = through (refused 6) (inr ((λ b f. none-some e f), inl (tt, (l, refl))))
 
       module _ (l : near s c p ≤ 1016) where
         says-seven : length s / 1024 - 2 < length (buckets S1024 fnv (joining s c p)) → o ≡ refused 7
-        says-seven k = past (refused 7) (inr ((λ b f. none-some e f), inr ((λ _ r. omega arith), inl (tt, (k, refl)))))
+        says-seven k = through (refused 7) (inr ((λ b f. none-some e f), inr ((λ _ r. omega arith), inl (tt, (k, refl)))))
 
         says-new : length (buckets S1024 fnv (joining s c p)) ≤ length s / 1024 - 2 → o ≡ new
-        says-new k = answers refuses ∙ ap putAnswer e
-          where
-            refuses : Refuses S1024 fnv s c p (record { code = c; place = stored p }) → ⊥
-            refuses (inl x) = x g
-            refuses (inr (inl x)) = n x
-            refuses (inr (inr x)) = ⊎-elim (λ y. omega arith) (λ y. omega arith) (x .1)
+        says-new k =
+            answers (unrefused S1024 fnv s c p m (fair .coded) (fair .placed) (fair .moded) (λ _ b x. none-some e x) (λ _. (n, (λ x. omega arith), (λ x. omega arith)))) ∙ ap putAnswer e
 
-  put-says : PutSays s c p o
-  put-says = record { three = says-three; four = says-four; known = says-known; six = says-six; seven = says-seven; otherwise = says-new }
+  put-says : PutSays s c p m o
+  put-says = record {
+    three = says-three;
+    four = says-four;
+    fourteen = says-fourteen;
+    thirteen = says-thirteen;
+    known = says-known;
+    five = says-five;
+    six = says-six;
+    seven = says-seven;
+    otherwise = says-new;
+  }
 
 second : Second
 second =
@@ -127,6 +145,7 @@ second =
       remove = d .3;
       put-refused = d .4;
       put-says = put-says;
+      either-as-before = d .12;
       listed-once = d .5;
       count = d .6;
       row = d .7;

@@ -3,7 +3,7 @@ use borrow.Author.Tests.{le-leb}
 use mathlib.Core.Path.{_≡_, refl, sym, ap, subst, _∙_}
 use mathlib.Core.Bool.{Bool, true, false}
 use mathlib.Core.List.{List, [], _∷_}
-use mathlib.Core.Logic.{inl, inr, ⊎-elim}
+use mathlib.Core.Logic.{inl, ⊎-elim}
 use mathlib.Core.Option.{none}
 use Prim.Native.Nat.{ℕ, _-_, _/_, _≤_, _<_}
 use native.Mathlib.Omega.{arith}
@@ -29,6 +29,8 @@ use Rattle.store.specs.Accepted.{GoodLength, Accepted}
 use Rattle.store.specs.Moves.{pick}
 use Rattle.store.specs.Tables.{Out, formatted, new, blank, formatTable, putTable}
 use Rattle.store.specs.Demands.{Hash, format, put, Made, ok, GoodCode, map-of, putAnswer, Refuses, History, begin, next, after, sized-1024}
+use Rattle.store.proofs.Demands.Kept.{unrefused}
+use Rattle.store.proofs.Demands.Modes.{put-each}
 use Rattle.store.proofs.Demands.Whole.{demand-2, demand-3}
 use Rattle.promises.specs.Programs.{Program, Bytes, Meets}
 
@@ -46,21 +48,8 @@ pub natural : (n : ℕ) → Negative (at n) → ⊥
 natural n x = ⊎-elim (positive n) (λ y. ⊎-elim (positive 0) (positive 0) y) x
 
 -- a put leaves bytes
-put-bytes : (h : List ℕ → ℕ) (s c : List ℕ) (p : Place) → Bytes s → (x : Out × List ℕ) → Answers (putTable S1024 h s c p) x → Bytes (x .1)
-unfolding putTable
-put-bytes h s c p b = each (λ x. Bytes (x .1)) (putTable S1024 h s c p) (
-  (λ _ _. kept),
-  (λ _. (
-    (λ _ _. kept),
-    (λ _. (
-      (λ _ _. kept),
-      (λ _. ((λ _ _. kept), (λ _ _. ((λ old _ x e. e .1 .byte-size), (λ _. ((λ _ _. kept), (λ _. ((λ _ _. kept), (λ _ x e. e .1 .byte-size))))))))),
-    )),
-  )),
-)
-  where
-    kept : {o : Out} (x : Out × List ℕ) → x ≡ (o, s) → Bytes (x .1)
-    kept x e = rw (ap (λ q. q .1) e) b
+put-bytes : (h : List ℕ → ℕ) (s c : List ℕ) (p : Place) (m : ℕ) → Bytes s → (x : Out × List ℕ) → Answers (putTable S1024 h s c p m) x → Bytes (x .1)
+put-bytes h s c p m b = put-each S1024 h s (λ x. Bytes (x .1)) c p (record { kept = λ _ _. b; over = λ _ _ t e. e .byte-size; fresh = λ _ _ _ t e. e .byte-size }) m
 
 -- rows that fit together have one bucket, whatever the hash
 module _ (h : List ℕ → ℕ) (hash : Hash h) where
@@ -128,36 +117,35 @@ module _ (h : List ℕ → ℕ) (hash : Hash h) (P : Program) (meets : Meets h P
         small = rw (ap (λ q. q .1) e) blank-small;
       }
 
-  -- a put of a new code that neither 6 nor 7 refuses is stored
+  -- a put of a new code, of mode 0, that neither 6 nor 7 refuses is stored
   module _ {rs : List Row} {t : List ℕ} (w : At rs t) (c : List ℕ) (p : Place) (good : GoodCode c) (small : Bytes c) (range : InRange p) (natural : Negative p → ⊥)
       (fresh : placeOf rs c ≡ none) (near : needs (rowsOf h (rowOf c p ∷ rs) 8 (top 8 (h c))) ≤ 1016) (room : length (buckets S1024 h (rowOf c p ∷ rs)) ≤ 2) where
     abbrev o : Out
-    o = P .put t c p .0
+    o = P .put t c p 0 .0
 
     abbrev pub then : List ℕ
-    then = P .put t c p .1
+    then = P .put t c p 0 .1
 
-    made : Made S1024 h (put c p) t o then
-    made = meets .puts t c p (w .small) small range
+    made : Made S1024 h (put c p 0) t o then
+    made = meets .puts t c p 0 (w .small) small range
 
-    refuses : Refuses S1024 h t c p (rowOf c p) → ⊥
-    refuses (inl x) = x good
-    refuses (inr (inl x)) = natural x
-    refuses (inr (inr x)) = ⊎-elim
-        (λ y. omega (arith, load-reordered S1024 h (front (rowOf c p) (same-at w)) 8 (top 8 (h c))))
-        (λ y. let e : length t / 1024 ≡ 4 = rw (w .long) refl in omega (arith, ap length (reordered S1024 h (front (rowOf c p) (same-at w)))))
-        (x .1)
+    refuses : Refuses S1024 h t c p 0 → ⊥
+    refuses = unrefused S1024 h t c p 0 good natural (inl refl) (λ x _ _. omega (arith, x)) (λ _. (
+      (λ x. omega (arith, x)),
+      (λ x. omega (arith, load-reordered S1024 h (front (rowOf c p) (same-at w)) 8 (top 8 (h c)))),
+      (λ x. let e : length t / 1024 ≡ 4 = rw (w .long) refl in omega (arith, ap length (reordered S1024 h (front (rowOf c p) (same-at w))))),
+    ))
 
     sure : (b : Bool) → ok o ≡ b → ok o ≡ true
     sure true e = e
-    sure false e = absurd (refuses (demand-2 S1024 h sized-1024 hash .4 t c p o then (accepted-at w) made .0 e))
+    sure false e = absurd (refuses (demand-2 S1024 h sized-1024 hash .4 t c p 0 o then (accepted-at w) made .0 e))
 
     pub says-new : o ≡ new
-    says-new = demand-2 S1024 h sized-1024 hash .2 t c p o then (accepted-at w) made .0 (sure (ok o) refl) .0 ∙ ap putAnswer (map-at w c ∙ fresh)
+    says-new = demand-2 S1024 h sized-1024 hash .2 t c p 0 o then (accepted-at w) made .0 (sure (ok o) refl) .0 ∙ ap putAnswer (map-at w c ∙ fresh)
 
     pub at-next : At (rowOf c p ∷ rs) then
     at-next = record {
-      past = subst (λ (q : List Row). History S1024 h q then) (ap (λ (b : Bool). pick b (after (put c p) rs) rs) (ap ok says-new) ∙ ap (λ q. rowOf c p ∷ q) (cut-none c rs fresh)) (next (put c p) o (w .past) made);
-      long = demand-2 S1024 h sized-1024 hash .10 (put c p) t o then (accepted-at w) made .1 ∙ w .long;
-      small = put-bytes h t c p (w .small) (o, then) made;
+      past = subst (λ (q : List Row). History S1024 h q then) (ap (λ (b : Bool). pick b (after (put c p 0) rs) rs) (ap ok says-new) ∙ ap (λ q. rowOf c p ∷ q) (cut-none c rs fresh)) (next (put c p 0) o (w .past) made);
+      long = demand-2 S1024 h sized-1024 hash .10 (put c p 0) t o then (accepted-at w) made .1 ∙ w .long;
+      small = put-bytes h t c p 0 (w .small) (o, then) made;
     }

@@ -1,4 +1,4 @@
--- Programs, and the wrong ones that document 01 wants turned away. Pages of 1,024 bytes, any hash. Assumes nothing.
+-- Programs, and the wrong ones that the documents want turned away. Pages of 1,024 bytes, any hash. Assumes nothing.
 use mathlib.Core.Path.{_≡_}
 use mathlib.Core.Bool.{true, false}
 use mathlib.Core.List.{List, []}
@@ -22,7 +22,7 @@ pub record Program : Type 0 where
   pub check : List ℕ → Out
   pub count : List ℕ → Out
   pub lookup : List ℕ → List ℕ → Out
-  pub put : List ℕ → List ℕ → Place → Out × List ℕ
+  pub put : List ℕ → List ℕ → Place → ℕ → Out × List ℕ
   pub remove : List ℕ → List ℕ → Out × List ℕ
   pub row : List ℕ → ℕ → List ℕ → Out × List ℕ
 
@@ -36,13 +36,17 @@ pub record Meets (h : List ℕ → ℕ) (P : Program) : Type 0 where
   pub checks : (s : List ℕ) → Bytes s → Answers (checkTable S1024 h s) (P .check s)
   pub counts : (s : List ℕ) → Bytes s → Answers (countTable S1024 h s) (P .count s)
   pub looks : (s c : List ℕ) → Bytes s → Bytes c → Answers (lookupTable S1024 h s c) (P .lookup s c)
-  pub puts : (s c : List ℕ) (p : Place) → Bytes s → Bytes c → InRange p → Answers (putTable S1024 h s c p) (P .put s c p)
+  pub puts : (s c : List ℕ) (p : Place) (m : ℕ) → Bytes s → Bytes c → InRange p → Answers (putTable S1024 h s c p m) (P .put s c p m)
   pub removes : (s c : List ℕ) → Bytes s → Bytes c → Answers (removeTable S1024 h s c) (P .remove s c)
   pub rows : (s : List ℕ) (n : ℕ) (out : List ℕ) → Bytes s → Bytes out → Answers (rowTable S1024 h s n out) (P .row s n out)
 
 -- one that refuses every put
 abbrev pub RefusesEveryPut : Program → Type 0
-RefusesEveryPut P = (s c : List ℕ) (p : Place) → ok (P .put s c p .0) ≡ false
+RefusesEveryPut P = (s c : List ℕ) (p : Place) (m : ℕ) → ok (P .put s c p m .0) ≡ false
+
+-- one that replaces silently: where only a new code is expected it does as where either is
+abbrev pub ReplacesSilently : Program → Type 0
+ReplacesSilently P = (s c : List ℕ) (p : Place) → P .put s c p 1 ≡ P .put s c p 0
 
 -- lookup with one fixed place
 abbrev pub OneFixedPlace : Program → Type 0
@@ -58,7 +62,7 @@ OnlyAnswers P = (s c : List ℕ) → P .remove s c .1 ≡ s
 
 -- a put that stores the first row and then only says "new"
 abbrev pub StoresOnlyTheFirst : Program → Type 0
-StoresOnlyTheFirst P = (s c : List ℕ) (p : Place) → (rowsHeld S1024 s ≡ [] → ⊥) → P .put s c p .0 ≡ new → P .put s c p .1 ≡ s
+StoresOnlyTheFirst P = (s c : List ℕ) (p : Place) (m : ℕ) → (rowsHeld S1024 s ≡ [] → ⊥) → P .put s c p m .0 ≡ new → P .put s c p m .1 ≡ s
 
 -- a count of rows that is not the map's size, on some accepted store
 abbrev pub Miscounts : (List ℕ → ℕ) → Program → Type 0
@@ -66,7 +70,7 @@ Miscounts h P = (s : List ℕ) × Bytes s × Accepted S1024 h s × (P .count s �
 
 -- one bucket for everything: a put never gives a store a second directory entry
 abbrev pub OneBucket : Program → Type 0
-OneBucket P = (s c : List ℕ) (p : Place) → dirDepth s ≡ 0 → dirDepth (P .put s c p .1) ≡ 0
+OneBucket P = (s c : List ℕ) (p : Place) (m : ℕ) → dirDepth s ≡ 0 → dirDepth (P .put s c p m .1) ≡ 0
 
 -- fourteen codes of 64 bytes, whose rows do not fit together: the hashes of thirteen begin with 0, that of the last with 1
 pub record Parting (h : List ℕ → ℕ) : Type 0 where
@@ -80,6 +84,7 @@ pub record Parting (h : List ℕ → ℕ) : Type 0 where
 -- a program that keeps the tables is none of these
 pub record TurnedAway (h : List ℕ → ℕ) (P : Program) : Type 0 where
   pub refuses-every-put : RefusesEveryPut P → ⊥
+  pub replaces-silently : ReplacesSilently P → ⊥
   pub one-fixed-place : OneFixedPlace P → ⊥
   pub repeats-one-row : RepeatsOneRow P → ⊥
   pub only-answers : OnlyAnswers P → ⊥

@@ -16,7 +16,7 @@ use Rattle.store.specs.declared.Answer.{Answer}
 use Rattle.store.specs.Pages.{S1024, rowsHeld}
 use Rattle.store.specs.Accepted.{GoodLength, Accepted}
 use Rattle.store.specs.Tables.{Out, refused, formatted, new, replaced, meaning, rowTable, inspectTable}
-use Rattle.store.specs.Demands.{Call, format, put as a-put, Made, ok, surviving, GoodCode, map-of, Answered, WholePages, RefusedInOrder, FormatSucceeds, RefusalKeeps, OutputKept, CheckExact, LookupIsMap, PutIsMap, RemoveIsMap, PutRefused, ListedOnce, CountIsSize, RowIsListed, InspectIsSlot, PlaceComesBack, AcceptedAgain, FormatAccepted, AfreshAlways, SameRefusals, KeptPages}
+use Rattle.store.specs.Demands.{Call, format, put as a-put, Made, ok, surviving, GoodCode, Mode, map-of, Answered, WholePages, RefusedInOrder, FormatSucceeds, RefusalKeeps, OutputKept, CheckExact, LookupIsMap, PutIsMap, RemoveIsMap, PutRefused, EitherAsBefore, ListedOnce, CountIsSize, RowIsListed, InspectIsSlot, PlaceComesBack, AcceptedAgain, FormatAccepted, AfreshAlways, SameRefusals, KeptPages}
 use Rattle.store.specs.Choice.{PutChooses, RemoveChooses}
 
 -- a finished promise: for every input the answer and each byte of store and output are settled, refused calls too; so is the enum's case
@@ -30,7 +30,7 @@ pub record Settled : Type 0 where
 pub record First : Type 0 where
   pub answered : Answered S1024 fnv
   pub settled : Settled
-  -- 1, 3, 4, 8 and 2 come in this order, each exactly when; the lengths are 3 to 258 pages of 1,024 bytes, in the rules' words too
+  -- 1, 3, 4, 14, 8 and 2 come in this order, each exactly when; the lengths are 3 to 258 pages of 1,024 bytes, in the rules' words too
   pub refused-in-order : RefusedInOrder S1024 fnv
   pub format-succeeds : FormatSucceeds S1024 fnv
   pub lengths : (s : List ℕ) → (WholePages S1024 s ↔ ((n : ℕ) × (length s ≡ n * 1024) × (3 ≤ n) × (n ≤ 258))) × (GoodLength S1024 s ↔ WholePages S1024 s)
@@ -44,14 +44,23 @@ joining s c p = record { code = c; place = stored p } ∷ rowsHeld S1024 s
 abbrev pub near : List ℕ → List ℕ → Place → ℕ
 near s c p = needs (rowsOf fnv (joining s c p) 8 (top 8 (fnv c)))
 
--- put's answer on an accepted store: 3, 4, a known code's old place, 6, 7, new; each exactly when
-pub record PutSays (s c : List ℕ) (p : Place) (o : Out) : Type 0 where
+-- a put that is refused for nothing it is given: a code, a place and a mode as they must be
+pub record Fair (c : List ℕ) (p : Place) (m : ℕ) : Type 0 where
+  pub coded : GoodCode c
+  pub placed : Negative p → ⊥
+  pub moded : Mode m
+
+-- put's answer on an accepted store: 3, 4, 14; for a known code 13 or its old place, for a new one 5, 6, 7 or new; each exactly when
+pub record PutSays (s c : List ℕ) (p : Place) (m : ℕ) (o : Out) : Type 0 where
   pub three : (GoodCode c → ⊥) → o ≡ refused 3
   pub four : GoodCode c → Negative p → o ≡ refused 4
-  pub known : GoodCode c → (Negative p → ⊥) → (b : List ℕ) → map-of S1024 s c ≡ some b → o ≡ replaced (place b)
-  pub six : GoodCode c → (Negative p → ⊥) → map-of S1024 s c ≡ none → 1016 < near s c p → o ≡ refused 6
-  pub seven : GoodCode c → (Negative p → ⊥) → map-of S1024 s c ≡ none → near s c p ≤ 1016 → length s / 1024 - 2 < length (buckets S1024 fnv (joining s c p)) → o ≡ refused 7
-  pub otherwise : GoodCode c → (Negative p → ⊥) → map-of S1024 s c ≡ none → near s c p ≤ 1016 → length (buckets S1024 fnv (joining s c p)) ≤ length s / 1024 - 2 → o ≡ new
+  pub fourteen : GoodCode c → (Negative p → ⊥) → (Mode m → ⊥) → o ≡ refused 14
+  pub thirteen : Fair c p m → m ≡ 1 → (b : List ℕ) → map-of S1024 s c ≡ some b → o ≡ refused 13
+  pub known : Fair c p m → (m ≡ 1 → ⊥) → (b : List ℕ) → map-of S1024 s c ≡ some b → o ≡ replaced (place b)
+  pub five : Fair c p m → m ≡ 2 → map-of S1024 s c ≡ none → o ≡ refused 5
+  pub six : Fair c p m → (m ≡ 2 → ⊥) → map-of S1024 s c ≡ none → 1016 < near s c p → o ≡ refused 6
+  pub seven : Fair c p m → (m ≡ 2 → ⊥) → map-of S1024 s c ≡ none → near s c p ≤ 1016 → length s / 1024 - 2 < length (buckets S1024 fnv (joining s c p)) → o ≡ refused 7
+  pub otherwise : Fair c p m → (m ≡ 2 → ⊥) → map-of S1024 s c ≡ none → near s c p ≤ 1016 → length (buckets S1024 fnv (joining s c p)) ≤ length s / 1024 - 2 → o ≡ new
 
 -- 2. The check accepts exactly the stores that document 01 describes. On an accepted store, lookup, put, remove and listing answer as a plain map from code to
 -- row place, save that a put is refused exactly when the table says. Each row is listed once, and the store is accepted again afterwards.
@@ -61,7 +70,9 @@ pub record Second : Type 0 where
   pub put : PutIsMap S1024 fnv
   pub remove : RemoveIsMap S1024 fnv
   pub put-refused : PutRefused S1024 fnv
-  pub put-says : (s c : List ℕ) (p : Place) (o : Out) (t : List ℕ) → Accepted S1024 fnv s → Made S1024 fnv (a-put c p) s o t → PutSays s c p o
+  pub put-says : (s c : List ℕ) (p : Place) (m : ℕ) (o : Out) (t : List ℕ) → Accepted S1024 fnv s → Made S1024 fnv (a-put c p m) s o t → PutSays s c p m o
+  -- mode 0 behaves as before
+  pub either-as-before : EitherAsBefore S1024 fnv
   pub listed-once : ListedOnce S1024 fnv
   pub count : CountIsSize S1024 fnv
   pub row : RowIsListed S1024 fnv
@@ -77,7 +88,7 @@ pub record Third : Type 0 where
   pub refused-keeps : (c : Call) (o : Out) (rs : List Row) → ok o ≡ false → surviving c o rs ≡ rs
   -- the buckets, their depths, the rows in each, the directory entries that share each one and the listing are those worked out afresh from the rows that survive
   pub afresh : AfreshAlways S1024 fnv
-  -- two histories with the same surviving rows and the same store length refuse the same next put
+  -- two histories with the same surviving rows and the same store length refuse the same next put (of the same mode)
   pub same-refusals : SameRefusals S1024 fnv
   -- in each call but format, a bucket whose rows and depth come out the same keeps its page and all its bytes
   pub kept-pages : KeptPages S1024 fnv

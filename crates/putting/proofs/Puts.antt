@@ -64,7 +64,8 @@ module _ (S : Shape) (h : List ℕ → ℕ) (sized : Sized S) (hash : Hash h) (s
   pub begins : prefixOn h (depth g) (rows g) ≡ top (depth g) (h c)
   begins = sym (holds-top (dirDepth s) (h c) (pfx (depth g) (prefixOn h (depth g) (rows g))) (U .low) .0 (U .calls .bits))
 
-  placed : placeOf (rowsHeld S s) c ≡ placeOf (map asRow (rows g)) c
+  -- and what the map has for the code
+  pub placed : placeOf (rowsHeld S s) c ≡ placeOf (map asRow (rows g)) c
   placed = place-on S h (rowsHeld S s) gs shows c (p - 2) (depth g) (rows g) (U .holding) (sym begins)
 
   -- ---- a known code

@@ -8,7 +8,7 @@ ghost use Rattle.page.specs.Packed.{Fitting};
 ghost use Rattle.partition.specs.Bits.{top};
 ghost use Rattle.store.specs.Pages.{S1024, page, dirDepth};
 ghost use Rattle.store.specs.Accepted.{Accepted};
-ghost use Rattle.store.specs.Tables.{putAccepted, putTable, meaning};
+ghost use Rattle.store.specs.Tables.{putAccepted, putByMode, putTable, meaning};
 ghost use Rattle.store.proofs.Accepted.Reading.{Naming, entryOf};
 ghost use Rattle.putting.specs.Put.{Puttable};
 use super::split::split;
@@ -60,17 +60,25 @@ fn new_bucket(s: &mut [u8], x: u32, key: &[u8], place: &[u8]) -> store::Answer
     store::Answer::New
 }
 
-// Page p holds the hash of the code.
-fn put_on(s: &mut [u8], p: usize, key: &[u8], place: &[u8]) -> store::Answer
+// Page p holds the hash of the code; mode 1 wants a new code, mode 2 a known one.
+fn put_on(s: &mut [u8], p: usize, key: &[u8], place: &[u8], mode: u64) -> store::Answer
     requires { ⌜ Puttable fnv (now s) (now key) (now place) × Naming S1024 fnv (now s) (top (dirDepth (now s)) (fnv (now key))) p ⌝ }
-    ensures { λ r. ⌜ Answers (putAccepted S1024 fnv (now (s .entry)) (record { code = now (key .entry); place = now (place .entry) })) (meaning r, now (s .exit)) ⌝ }
+    ensures { λ r. ⌜ Answers (putByMode S1024 fnv (now (s .entry)) mode (record { code = now (key .entry); place = now (place .entry) })) (meaning r, now (s .exit)) ⌝ }
 {
     let a = p * 1024;
     let e = a + 1024;
     let found = page::find_code(&s[a..e], key);
     match found {
-        page::Found::At(i) => replace(s, p, i, place),
+        page::Found::At(i) => {
+            if mode == 1 {
+                return store::Answer::Refused(store::Refusal::KnownCode);
+            }
+            replace(s, p, i, place)
+        }
         page::Found::Absent(i) => {
+            if mode == 2 {
+                return store::Answer::Refused(store::Refusal::NoCode);
+            }
             let room = words::get16(&s[a..e], 6);
             if 12 + key.len() <= room {
                 return insert_new(s, p, i, key, place);
@@ -81,21 +89,24 @@ fn put_on(s: &mut [u8], p: usize, key: &[u8], place: &[u8]) -> store::Answer
 }
 
 // The row on an accepted store.
-pub fn put_row(s: &mut [u8], key: &[u8], place: &[u8]) -> store::Answer
+pub fn put_row(s: &mut [u8], key: &[u8], place: &[u8], mode: u64) -> store::Answer
     requires { ⌜ Puttable fnv (now s) (now key) (now place) ⌝ }
-    ensures { λ r. ⌜ Answers (putAccepted S1024 fnv (now (s .entry)) (record { code = now (key .entry); place = now (place .entry) })) (meaning r, now (s .exit)) ⌝ }
+    ensures { λ r. ⌜ Answers (putByMode S1024 fnv (now (s .entry)) mode (record { code = now (key .entry); place = now (place .entry) })) (meaning r, now (s .exit)) ⌝ }
 {
     let x = hash::hash(key);
     let p = query::entry_of(s, partition::S1024, x);
     if p == 0 {
+        if mode == 2 {
+            return store::Answer::Refused(store::Refusal::NoCode);
+        }
         return new_bucket(s, x, key, place);
     }
-    put_on(s, p, key, place)
+    put_on(s, p, key, place, mode)
 }
 
-// A code gets a place.
-pub fn put(s: &mut [u8], key: &[u8], place: page::Place) -> store::Answer
-    ensures { λ r. ⌜ Answers (putTable S1024 fnv (now (s .entry)) (now (key .entry)) place) (meaning r, now (s .exit)) ⌝ }
+// A code gets a place, if it is what the mode expects.
+pub fn put(s: &mut [u8], key: &[u8], place: page::Place, mode: u64) -> store::Answer
+    ensures { λ r. ⌜ Answers (putTable S1024 fnv (now (s .entry)) (now (key .entry)) place mode) (meaning r, now (s .exit)) ⌝ }
 {
     if !store_check::good_length(s, partition::S1024) {
         return store::Answer::Refused(store::Refusal::BadLength);
@@ -106,11 +117,14 @@ pub fn put(s: &mut [u8], key: &[u8], place: page::Place) -> store::Answer
     if page::negative(place) {
         return store::Answer::Refused(store::Refusal::BadPlace);
     }
+    if 2 < mode {
+        return store::Answer::Refused(store::Refusal::BadMode);
+    }
     let p = store_check::first_bad(s);
     if p < s.len() / 1024 {
         return store::Answer::Refused(store::Refusal::BadPage(p));
     }
     let mut bytes = [0u8; 8];
     page::store_place(&mut bytes, place);
-    put_row(s, key, &bytes)
+    put_row(s, key, &bytes, mode)
 }

@@ -1,5 +1,6 @@
 -- The three demands, proved of the tables.
 pub mod Settled
+pub mod Modes
 pub mod Kept
 pub mod Order
 pub mod Same

@@ -66,7 +66,7 @@ pub record RemovePages (S : Shape) (h : List ℕ → ℕ) (s c t : List ℕ) : T
 module _ (S : Shape) (h : List ℕ → ℕ) where
   -- so it is of every put that answers new
   abbrev pub PutChooses : Type 0
-  PutChooses = (s c : List ℕ) (a : Place) (t : List ℕ) → Accepted S h s → Made S h (put c a) s new t → PutPages S h s c t
+  PutChooses = (s c : List ℕ) (a : Place) (m : ℕ) (t : List ℕ) → Accepted S h s → Made S h (put c a m) s new t → PutPages S h s c t
 
   -- and of every remove that answers a place
   abbrev pub RemoveChooses : Type 0

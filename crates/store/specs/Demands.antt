@@ -21,17 +21,17 @@ use Rattle.store.specs.Pages.{S1024, size, pages, page, Page, free, buck
 use Rattle.store.specs.Accepted.{Zero, Bucket, Page0, Page1, Stands, Parted, Deepest, Accepted}
 use Rattle.store.specs.Moves.{pick}
 use Rattle.page.specs.Places.{place, stored, Negative, InRange}
-use Rattle.store.specs.Tables.{Out, refused, refusedAt, formatted, accepted, new, replaced, found, counted, row, Refusal4, Refusal6, Refusal7, formatTable, checkTable, countTable, lookupTable, putTable, removeTable, rowTable, inspectTable}
+use Rattle.store.specs.Tables.{Out, refused, refusedAt, formatted, accepted, new, replaced, found, counted, row, Refusal6, Refusal7, formatTable, checkTable, countTable, lookupTable, putTable, putBefore, removeTable, rowTable, inspectTable}
 
 -- a function from codes to 32 bits
 abbrev pub Hash : (List ℕ → ℕ) → Type 0
 Hash h = (c : List ℕ) → h c < 2 ^ 32
 
--- a call with what it is given: a code, a place, n and an output; inspection takes a page of its own, any bytes
+-- a call with what it is given: a code, a place, a mode, n and an output; inspection takes a page of its own, any bytes
 pub data Call : Type 0 where
   format check count : Call
   lookup remove : List ℕ → Call
-  put : List ℕ → Place → Call
+  put : List ℕ → Place → ℕ → Call
   rowAt : ℕ → List ℕ → Call
   inspect : List ℕ → ℕ → List ℕ → Call
 
@@ -43,7 +43,7 @@ module _ (S : Shape) (h : List ℕ → ℕ) where
   Made count s o t = Answers (countTable S h s) o × (t ≡ s)
   Made (lookup c) s o t = Answers (lookupTable S h s c) o × (t ≡ s)
   Made (remove c) s o t = Answers (removeTable S h s c) (o, t)
-  Made (put c p) s o t = Answers (putTable S h s c p) (o, t)
+  Made (put c p m) s o t = Answers (putTable S h s c p m) (o, t)
   Made (rowAt n out) s o t = ((out′ : List ℕ) × Answers (rowTable S h s n out) (o, out′)) × (t ≡ s)
   Made (inspect g n out) s o t = ((out′ : List ℕ) × Answers (inspectTable S h g n out) (o, out′)) × (t ≡ s)
 
@@ -60,6 +60,10 @@ ok (counted n) = true
 ok (row n p) = true
 
 -- ---- demand 1: any bytes may come; what is wrong with them has its number, and a refused call keeps every byte of store and output
+
+-- what a put expects: 0 either, 1 only a new code, 2 only a known one
+abbrev pub Mode : ℕ → Type 0
+Mode m = (m ≡ 0) ⊎ ((m ≡ 1) ⊎ (m ≡ 2))
 
 -- a store is whole pages, 3 at least, at most the entries and 2
 abbrev pub WholePages : Shape → List ℕ → Type 0
@@ -82,35 +86,38 @@ pub data StopsAt (S : Shape) (h : List ℕ → ℕ) (s : List ℕ) : ℕ → Typ
 abbrev pub NoPage : Shape → (List ℕ → ℕ) → List ℕ → ℕ → Type 0
 NoPage S h g p = (p ≡ 0) × (Zero g → ⊥) × (Bucket h g → depth g ≤ S .deepest → ⊥)
 
--- what can be wrong with what a call is given, in the order of the refusals: 1, 3, 4, 8 and, with its page, 2
+-- what can be wrong with what a call is given, in the order of the refusals: 1, 3, 4, 14, 8 and, with its page, 2
 pub record Faults : Type 1 where
   pub bad-length : Type 0
   pub bad-code : Type 0
   pub bad-place : Type 0
+  pub bad-mode : Type 0
   pub short-output : Type 0
   pub bad-page : ℕ → Type 0
 
-abbrev pub in-turn : Type 0 → Type 0 → Type 0 → Type 0 → (ℕ → Type 0) → Faults
-in-turn l c p o g = record { bad-length = l; bad-code = c; bad-place = p; short-output = o; bad-page = g }
+abbrev pub in-turn : Type 0 → Type 0 → Type 0 → Type 0 → Type 0 → (ℕ → Type 0) → Faults
+in-turn l c p m o g = record { bad-length = l; bad-code = c; bad-place = p; bad-mode = m; short-output = o; bad-page = g }
 
--- by which calls: 1 by all, 3 by lookup, put and remove, 4 by put, 8 by row at place n and inspection, 2 by all but format
+-- by which calls: 1 by all, 3 by lookup, put and remove, 4 and 14 by put, 8 by row at place n and inspection, 2 by all but format
 abbrev pub faults : Shape → (List ℕ → ℕ) → Call → List ℕ → Faults
-faults S h format s = in-turn (WholePages S s → ⊥) ⊥ ⊥ ⊥ (λ p. ⊥)
-faults S h check s = in-turn (WholePages S s → ⊥) ⊥ ⊥ ⊥ (StopsAt S h s)
-faults S h count s = in-turn (WholePages S s → ⊥) ⊥ ⊥ ⊥ (StopsAt S h s)
-faults S h (lookup c) s = in-turn (WholePages S s → ⊥) (GoodCode c → ⊥) ⊥ ⊥ (StopsAt S h s)
-faults S h (remove c) s = in-turn (WholePages S s → ⊥) (GoodCode c → ⊥) ⊥ ⊥ (StopsAt S h s)
-faults S h (put c p) s = in-turn (WholePages S s → ⊥) (GoodCode c → ⊥) (Negative p) ⊥ (StopsAt S h s)
-faults S h (rowAt n out) s = in-turn (WholePages S s → ⊥) ⊥ ⊥ (length out < 64) (StopsAt S h s)
-faults S h (inspect g n out) s = in-turn (length g ≡ size S → ⊥) ⊥ ⊥ (length out < 64) (NoPage S h g)
+faults S h format s = in-turn (WholePages S s → ⊥) ⊥ ⊥ ⊥ ⊥ (λ p. ⊥)
+faults S h check s = in-turn (WholePages S s → ⊥) ⊥ ⊥ ⊥ ⊥ (StopsAt S h s)
+faults S h count s = in-turn (WholePages S s → ⊥) ⊥ ⊥ ⊥ ⊥ (StopsAt S h s)
+faults S h (lookup c) s = in-turn (WholePages S s → ⊥) (GoodCode c → ⊥) ⊥ ⊥ ⊥ (StopsAt S h s)
+faults S h (remove c) s = in-turn (WholePages S s → ⊥) (GoodCode c → ⊥) ⊥ ⊥ ⊥ (StopsAt S h s)
+faults S h (put c p m) s = in-turn (WholePages S s → ⊥) (GoodCode c → ⊥) (Negative p) (Mode m → ⊥) ⊥ (StopsAt S h s)
+faults S h (rowAt n out) s = in-turn (WholePages S s → ⊥) ⊥ ⊥ ⊥ (length out < 64) (StopsAt S h s)
+faults S h (inspect g n out) s = in-turn (length g ≡ size S → ⊥) ⊥ ⊥ ⊥ (length out < 64) (NoPage S h g)
 
 -- each number given exactly when its fault is the first
 pub record ExactlyWhen (w : Faults) (o : Out) : Type 0 where
   pub one : (o ≡ refused 1) ↔ w .bad-length
   pub three : (o ≡ refused 3) ↔ ((w .bad-length → ⊥) × w .bad-code)
   pub four : (o ≡ refused 4) ↔ ((w .bad-length → ⊥) × (w .bad-code → ⊥) × w .bad-place)
-  pub eight : (o ≡ refused 8) ↔ ((w .bad-length → ⊥) × (w .bad-code → ⊥) × (w .bad-place → ⊥) × w .short-output)
-  pub two : (p : ℕ) → (o ≡ refusedAt 2 p) ↔ ((w .bad-length → ⊥) × (w .bad-code → ⊥) × (w .bad-place → ⊥) × (w .short-output → ⊥) × w .bad-page p)
+  pub fourteen : (o ≡ refused 14) ↔ ((w .bad-length → ⊥) × (w .bad-code → ⊥) × (w .bad-place → ⊥) × w .bad-mode)
+  pub eight : (o ≡ refused 8) ↔ ((w .bad-length → ⊥) × (w .bad-code → ⊥) × (w .bad-place → ⊥) × (w .bad-mode → ⊥) × w .short-output)
+  pub two : (p : ℕ) → (o ≡ refusedAt 2 p)
+      ↔ ((w .bad-length → ⊥) × (w .bad-code → ⊥) × (w .bad-place → ⊥) × (w .bad-mode → ⊥) × (w .short-output → ⊥) × w .bad-page p)
 
 module _ (S : Shape) (h : List ℕ → ℕ) where
   -- of any call, over all bytes
@@ -129,14 +136,14 @@ module _ (S : Shape) (h : List ℕ → ℕ) where
   abbrev pub OutputKept : Type 0
   OutputKept = (s : List ℕ) (n : ℕ) (out : List ℕ) (o : Out) (out′ : List ℕ) → Answers (rowTable S h s n out) (o, out′) ⊎ Answers (inspectTable S h s n out) (o, out′) → ok o ≡ false → out′ ≡ out
 
--- what can be given: a code of bytes, a place in its ranges
+-- what can be given: a code of bytes, a place in its ranges, any mode
 abbrev pub Given : Call → Type 0
 Given format = Unit {0}
 Given check = Unit {0}
 Given count = Unit {0}
 Given (lookup c) = Unit {0}
 Given (remove c) = Unit {0}
-Given (put c p) = ((k : ℕ) → byte c k < 256) × InRange p
+Given (put c p m) = ((k : ℕ) → byte c k < 256) × InRange p
 Given (rowAt n out) = Unit {0}
 Given (inspect g n out) = Unit {0}
 
@@ -187,7 +194,7 @@ module _ (S : Shape) (h : List ℕ → ℕ) where
 
   -- a put that is not refused sets its code, one that is changes nothing
   abbrev pub PutIsMap : Type 0
-  PutIsMap = (s c : List ℕ) (p : Place) (o : Out) (t : List ℕ) → Accepted S h s → Made S h (put c p) s o t
+  PutIsMap = (s c : List ℕ) (p : Place) (m : ℕ) (o : Out) (t : List ℕ) → Accepted S h s → Made S h (put c p m) s o t
       → (ok o ≡ true → (o ≡ putAnswer (map-of S s c)) × ((x : List ℕ) → map-of S t x ≡ update (map-of S s) c (some (stored p)) x))
       × (ok o ≡ false → t ≡ s)
 
@@ -196,13 +203,23 @@ module _ (S : Shape) (h : List ℕ → ℕ) where
   RemoveIsMap = (s c : List ℕ) (o : Out) (t : List ℕ) → Accepted S h s → Made S h (remove c) s o t → GoodCode c
       → (o ≡ answerOf (map-of S s c)) × ((x : List ℕ) → map-of S t x ≡ update (map-of S s) c none x)
 
-  -- a put on an accepted store is refused exactly when the table says
-  abbrev pub Refuses : List ℕ → List ℕ → Place → Row → Type 0
-  Refuses s c p r = (GoodCode c → ⊥) ⊎ (Refusal4 p ⊎ ((map-of S s c ≡ none) × (Refusal6 S h (rowsHeld S s) r ⊎ Refusal7 S h s (rowsHeld S s) r)))
+  -- what the table refuses a put on an accepted store for
+  pub data Refuses (s c : List ℕ) (p : Place) (m : ℕ) : Type 0 where
+    no-code : (GoodCode c → ⊥) → Refuses s c p m
+    negative : Negative p → Refuses s c p m
+    no-mode : (Mode m → ⊥) → Refuses s c p m
+    known : m ≡ 1 → (old : List ℕ) → map-of S s c ≡ some old → Refuses s c p m
+    absent : m ≡ 2 → map-of S s c ≡ none → Refuses s c p m
+    prefix-full : map-of S s c ≡ none → Refusal6 S h (rowsHeld S s) (record { code = c; place = stored p }) → Refuses s c p m
+    pages-full : map-of S s c ≡ none → Refusal7 S h s (rowsHeld S s) (record { code = c; place = stored p }) → Refuses s c p m
 
+  -- it is refused exactly when the table says
   abbrev pub PutRefused : Type 0
-  PutRefused = (s c : List ℕ) (p : Place) (o : Out) (t : List ℕ) → Accepted S h s → Made S h (put c p) s o t
-      → ((ok o ≡ false) ↔ Refuses s c p (record { code = c; place = stored p }))
+  PutRefused = (s c : List ℕ) (p : Place) (m : ℕ) (o : Out) (t : List ℕ) → Accepted S h s → Made S h (put c p m) s o t → ((ok o ≡ false) ↔ Refuses s c p m)
+
+  -- mode 0 answers as before, and leaves the same bytes
+  abbrev pub EitherAsBefore : Type 0
+  EitherAsBefore = (s c : List ℕ) (p : Place) (x : Out × List ℕ) → (Answers (putTable S h s c p 0) x ↔ Answers (putBefore S h s c p) x)
 
   -- no code is stored twice; the listing holds each row once, and is the map
   abbrev pub ListedOnce : Type 0
@@ -246,7 +263,7 @@ after check rs = rs
 after count rs = rs
 after (lookup c) rs = rs
 after (remove c) rs = without (λ q. q .code) c rs
-after (put c p) rs = record { code = c; place = stored p } ∷ without (λ q. q .code) c rs
+after (put c p m) rs = record { code = c; place = stored p } ∷ without (λ q. q .code) c rs
 after (rowAt n out) rs = rs
 after (inspect g n out) rs = rs
 
@@ -297,10 +314,10 @@ module _ (S : Shape) (h : List ℕ → ℕ) where
   abbrev pub AfreshAlways : Type 0
   AfreshAlways = (rs : List Row) (s : List ℕ) → History S h rs s → Afresh S h rs s
 
-  -- two histories with the same surviving rows and store length answer the same next put alike
+  -- two histories with the same surviving rows and store length answer the same next put of the same mode alike
   abbrev pub SameRefusals : Type 0
   SameRefusals = (rs qs : List Row) (s t : List ℕ) → History S h rs s → History S h qs t → Reordered rs qs → length s ≡ length t
-      → (c : List ℕ) (p : Place) (o o′ : Out) (s′ t′ : List ℕ) → Made S h (put c p) s o s′ → Made S h (put c p) t o′ t′ → o ≡ o′
+      → (c : List ℕ) (p : Place) (m : ℕ) (o o′ : Out) (s′ t′ : List ℕ) → Made S h (put c p m) s o s′ → Made S h (put c p m) t o′ t′ → o ≡ o′
 
   -- in each call but format a bucket whose rows and depth come out the same keeps its page and all its bytes
   abbrev pub KeptPages : Type 0
@@ -316,7 +333,7 @@ Demand1 = (S : Shape) (h : List ℕ → ℕ) → RefusedInOrder S h × FormatSuc
 abbrev pub Demand2 : Type 0
 Demand2 = (S : Shape) (h : List ℕ → ℕ) → Sized S → Hash h
     → CheckExact S h × LookupIsMap S h × PutIsMap S h × RemoveIsMap S h × PutRefused S h × ListedOnce S h × CountIsSize S h × RowIsListed S h × InspectIsSlot S h
-    × PlaceComesBack S h × AcceptedAgain S h × FormatAccepted S h
+    × PlaceComesBack S h × AcceptedAgain S h × FormatAccepted S h × EitherAsBefore S h
 
 abbrev pub Demand3 : Type 0
 Demand3 = (S : Shape) (h : List ℕ → ℕ) → Sized S → Hash h → AfreshAlways S h × SameRefusals S h × KeptPages S h

@@ -2,7 +2,7 @@
 use mathlib.Core.Path.{_≡_}
 use mathlib.Core.List.{List, _∷_, _++_}
 use mathlib.Core.Logic.{_⊎_}
-use mathlib.Core.Option.{some}
+use mathlib.Core.Option.{some, none}
 use Prim.Native.Nat.{ℕ, _+_, _-_, _*_, _≤_, _<_}
 use lib.ListN.{length, drop, replicate, getElem?}
 use Rattle.ground.specs.Lists.{byte}
@@ -14,7 +14,7 @@ use Rattle.partition.specs.Partition.{Row, needs, rowsOf, buckets}
 use Rattle.page.specs.declared.Place.{Place}
 use Rattle.page.specs.Places.{place, stored, Negative}
 use Rattle.store.specs.declared.Refusal.{Refusal}
-use Rattle.store.specs.declared.Refusal.the-variants.{BadLength, BadPage, BadCode, BadPlace, NoCode, PrefixFull, PagesFull, ShortOutput, NoRow}
+use Rattle.store.specs.declared.Refusal.the-variants.{BadLength, BadPage, BadCode, BadPlace, NoCode, PrefixFull, PagesFull, ShortOutput, NoRow, KnownCode, BadMode}
 use Rattle.store.specs.declared.Answer.{Answer}
 use Rattle.store.specs.declared.Answer.the-variants.{Refused, Formatted, Accepted as Passed, New, Replaced, Found, Rows, RowOf}
 use Rattle.ground.specs.Ladder.{Ladder, rung, given, ends, answer, refuse}
@@ -43,6 +43,8 @@ refusal PrefixFull = refused 6
 refusal PagesFull = refused 7
 refusal ShortOutput = refused 8
 refusal NoRow = refused 9
+refusal KnownCode = refused 13
+refusal BadMode = refused 14
 
 -- n is a refusal's number and p the page number that it carries: 2 carries one, any other none
 abbrev pub Numbered : ℕ → ℕ → Out → Type 0
@@ -70,6 +72,18 @@ Refusal3 c = (length c ≡ 0) ⊎ (64 < length c)
 -- 4: a part of the place is negative
 abbrev pub Refusal4 : Place → Type 0
 Refusal4 p = Negative p
+
+-- 14: any other mode than 0 either, 1 only a new code, 2 only a known one
+abbrev pub Refusal14 : ℕ → Type 0
+Refusal14 m = 2 < m
+
+-- 13: mode 1 and the code is there
+abbrev pub Refusal13 : List Row → List ℕ → ℕ → Type 0
+Refusal13 rs c m = (m ≡ 1) × ((old : List ℕ) × (placeOf rs c ≡ some old))
+
+-- 5 by put: mode 2 and the code is absent
+abbrev pub Refusal5 : List Row → List ℕ → ℕ → Type 0
+Refusal5 rs c m = (m ≡ 2) × (placeOf rs c ≡ none)
 
 -- 6: rows sharing its first 8 bits with it included need over 1,016
 abbrev pub Refusal6 : Shape → (List ℕ → ℕ) → List Row → Row → Type 0
@@ -133,7 +147,7 @@ lookupTable S h s c =
 abbrev pub writes : Shape → (List ℕ → ℕ) → List ℕ → Out → List Page → Ladder (Out × List ℕ)
 writes S h s o gs = ends (λ r. (r .0 ≡ o) × Becomes S h s gs (r .1))
 
--- put of the row r on an accepted store
+-- put of the row r on an accepted store, whether the code is new or known
 abbrev pub putAccepted : Shape → (List ℕ → ℕ) → List ℕ → Row → Ladder (Out × List ℕ)
 putAccepted S h s r =
     rung (λ old. placeOf (rowsHeld S s) (r .code) ≡ some old) (λ old. writes S h s (replaced (place old)) (overwritten (contents S s) r))
@@ -141,8 +155,25 @@ putAccepted S h s r =
     (refuse (Refusal7 S h s (rowsHeld S s) r) (refused 7, s)
     (writes S h s new (putNew S h (contents S s) r))))
 
-unfoldable pub putTable : Shape → (List ℕ → ℕ) → List ℕ → List ℕ → Place → Ladder (Out × List ℕ)
-putTable S h s c p =
+-- the same by the mode m: 13 and 5 stand before 6
+abbrev pub putByMode : Shape → (List ℕ → ℕ) → List ℕ → ℕ → Row → Ladder (Out × List ℕ)
+putByMode S h s m r =
+    refuse (Refusal13 (rowsHeld S s) (r .code) m) (refused 13, s)
+    (refuse (Refusal5 (rowsHeld S s) (r .code) m) (refused 5, s)
+    (putAccepted S h s r))
+
+unfoldable pub putTable : Shape → (List ℕ → ℕ) → List ℕ → List ℕ → Place → ℕ → Ladder (Out × List ℕ)
+putTable S h s c p m =
+    refuse (Refusal1 S s) (refused 1, s)
+    (refuse (Refusal3 c) (refused 3, s)
+    (refuse (Refusal4 p) (refused 4, s)
+    (refuse (Refusal14 m) (refused 14, s)
+    (checked S h s (λ o. (o, s))
+    (putByMode S h s m (record { code = c; place = stored p }))))))
+
+-- put as document 01 has it, before there were modes
+unfoldable pub putBefore : Shape → (List ℕ → ℕ) → List ℕ → List ℕ → Place → Ladder (Out × List ℕ)
+putBefore S h s c p =
     refuse (Refusal1 S s) (refused 1, s)
     (refuse (Refusal3 c) (refused 3, s)
     (refuse (Refusal4 p) (refused 4, s)

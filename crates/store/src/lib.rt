@@ -29,6 +29,10 @@ pub enum Refusal {
     ShortOutput,
     // n not below the number of rows
     NoRow,
+    // only a new code was expected, and the code is there
+    KnownCode,
+    // no mode of a put
+    BadMode,
 }
 
 // A refusal in numbers: its own, and the page number that it carries, 0 for none.
@@ -104,5 +108,13 @@ pub fn numbers_of(r: Refusal) -> Numbers
         Refusal::PagesFull => Numbers { number: 7, page: 0 },
         Refusal::ShortOutput => Numbers { number: 8, page: 0 },
         Refusal::NoRow => Numbers { number: 9, page: 0 },
+        Refusal::KnownCode => Numbers {
+            number: 13,
+            page: 0,
+        },
+        Refusal::BadMode => Numbers {
+            number: 14,
+            page: 0,
+        },
     }
 }

@@ -33,7 +33,7 @@ returns c =
     } in
     record {
       out = meaning (p .result);
-      allowed = subst (λ q. Answers (putTable S1024 fnv (now (z .args .store)) (now (z .args .code)) q) (meaning (p .result), p .last .0)) e (p .ensures);
+      allowed = subst (λ q. Answers (putTable S1024 fnv (now (z .args .store)) (now (z .args .code)) q (z .args .mode)) (meaning (p .result), p .last .0)) e (p .ensures);
       is = c .word-of .ensures;
     }
 

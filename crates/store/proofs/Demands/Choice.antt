@@ -15,13 +15,13 @@ use Rattle.partition.specs.Partition.{Prefix}
 use Rattle.partition.proofs.Tree.{pfx}
 use Rattle.store.specs.Pages.{size, pages, page, Page, free, bucket, read, contents, rowsHeld}
 use Rattle.store.specs.Accepted.{Accepted}
-use Rattle.store.specs.Tables.{Out, new, found, Becomes, putTable, removeTable}
+use Rattle.store.specs.Tables.{Out, new, found, Becomes, removeTable}
 use Rattle.store.specs.Demands.{Sized, Hash, ok}
 use Rattle.store.specs.Choice.{prefixOf, Free, On, PutPages, RemovePages, PutChooses, RemoveChooses}
 use Rattle.store.proofs.Showing.Shows.{prefixOn, Shows}
 use Rattle.store.proofs.Showing.Shown.{within-pages}
 use Rattle.store.proofs.Accepted.Unique.{held}
-use Rattle.store.proofs.Demands.Kept.{nothing-there}
+use Rattle.store.proofs.Demands.Modes.{put-each}
 use Rattle.store.proofs.Showing.Showing.{accepted-shows, pages-held}
 use Rattle.store.proofs.Put.Chosen.{Has, Chosen, chosen}
 use Rattle.store.proofs.Remove.Rejoined.{Rejoined, rejoined}
@@ -114,31 +114,12 @@ refused-not x o o′ t e f g k = true≢false (sym k ∙ ap ok (sym g ∙ ap (λ
 
 module _ (S : Shape) (h : List ℕ → ℕ) (sized : Sized S) (hash : Hash h) where
   pub put-chooses : PutChooses S h
-  unfolding putTable
-  put-chooses s c p t a m = each (λ x. x .0 ≡ new → PutPages S h s c (x .1)) (putTable S h s c p) (
-    (λ _ _ x e f. absurd (refused-not x _ new _ e refl f refl)),
-    (λ _. (
-      (λ _ _ x e f. absurd (refused-not x _ new _ e refl f refl)),
-      (λ _. (
-        (λ _ _ x e f. absurd (refused-not x _ new _ e refl f refl)),
-        (λ _. (
-          (λ _ _ x e f. absurd (refused-not x _ new _ e refl f refl)),
-          (λ _ _. (
-            (λ old k x e f. absurd (let z : _≡_ {A = ℕ} 0 1 = cc (e .0, f) in omega arith)),
-            (λ un. (
-              (λ _ _ x e f. absurd (refused-not x _ new _ e refl f refl)),
-              (λ n6. (
-                (λ _ _ x e f. absurd (refused-not x _ new _ e refl f refl)),
-                (λ n7 x e f.
-                    put-pages S h sized hash s a (x .1) _ (e .1) c
-                    (chosen S h hash (rowsHeld S s) (record { code = c; place = stored p }) (contents S s) (before S h sized hash s a) (nothing-there _ un) (let n = n6 tt in omega arith) (let n = n7 tt in omega (arith, pages-held S s)))),
-              )),
-            )),
-          )),
-        )),
-      )),
-    )),
-  ) (new, t) m refl
+  put-chooses s c p m t a made = put-each S h s (λ x. x .0 ≡ new → PutPages S h s c (x .1)) c p record {
+    kept = λ o f e. absurd (true≢false (sym (ap ok e) ∙ f));
+    over = λ old k t b e. absurd (let z : _≡_ {A = ℕ} 0 1 = cc e in omega arith);
+    fresh = λ un n6 n7 t b e. put-pages S h sized hash s a t _ b c
+        (chosen S h hash (rowsHeld S s) (record { code = c; place = stored p }) (contents S s) (before S h sized hash s a) un (omega arith) (omega (arith, pages-held S s)));
+  } m (new, t) made refl
 
   pub remove-chooses : RemoveChooses S h
   unfolding removeTable

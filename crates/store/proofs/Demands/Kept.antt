@@ -2,8 +2,8 @@
 use mathlib.Core.Path.{_≡_, refl, sym, ap, _∙_}
 use mathlib.Core.Bool.{true, false, true≢false}
 use mathlib.Core.List.{List}
-use mathlib.Core.Logic.{_⊎_, inl, inr, ⊎-elim, _↔_}
-use mathlib.Core.Option.{Option, some, none}
+use mathlib.Core.Logic.{_⊎_, inl, inr, _↔_}
+use mathlib.Core.Option.{some, none}
 use Prim.Native.Nat.{ℕ, _≤_, _<_}
 use native.Mathlib.Omega.{arith}
 use lib.ListN.{length}
@@ -11,14 +11,15 @@ use Rattle.ground.proofs.Tests.{none-some}
 use Rattle.partition.specs.declared.Shape.{Shape}
 use Rattle.page.specs.declared.Place.{Place}
 use Rattle.ground.specs.Ladder.{Answers}
-use Rattle.store.specs.Pages.{Page}
+use Rattle.store.specs.Pages.{Page, rowsHeld}
 use Rattle.store.specs.Accepted.{Accepted}
-use Rattle.page.specs.Places.{place, stored}
-use Rattle.store.specs.Tables.{Out, accepted, Becomes, formatTable, checkTable, lookupTable, putTable, removeTable, rowTable, inspectTable, Refusal3}
-use Rattle.store.specs.Demands.{format, check, count, lookup, remove, put, rowAt, inspect, Made, ok, RefusalKeeps, OutputKept, GoodCode, CheckExact, LookupIsMap, Refuses, PutRefused, AcceptedAgain, map-of, answerOf}
+use Rattle.page.specs.Places.{stored, Negative}
+use Rattle.store.specs.Tables.{Out, refused, accepted, Becomes, formatTable, checkTable, lookupTable, putTable, putBefore, removeTable, rowTable, inspectTable, Refusal3, Refusal6, Refusal7, Refusal14}
+use Rattle.store.specs.Demands.{format, check, count, lookup, remove, put, rowAt, inspect, Made, ok, RefusalKeeps, OutputKept, GoodCode, Mode, CheckExact, LookupIsMap, Refuses, no-code, negative, no-mode, known, absent, prefix-full, pages-full, PutRefused, EitherAsBefore, AcceptedAgain, map-of, answerOf}
 use Rattle.ground.proofs.Sides.{side}
 use Rattle.ground.proofs.Ladders.{each}
 use Rattle.store.proofs.Accepted.Rules.{accepted-whole}
+use Rattle.store.proofs.Demands.Modes.{nothing-there, mode-0, put-each}
 
 -- the result, if it is refused, keeps x
 abbrev Keeps : List ℕ → Out × List ℕ → Type 0
@@ -41,22 +42,8 @@ module _ (S : Shape) (h : List ℕ → ℕ) where
   remove-keeps s c = each (Keeps s) (removeTable S h s c)
       ((λ _ _. row-keeps), (λ _. ((λ _ _. row-keeps), (λ _. ((λ _ _. row-keeps), (λ _ _. ((λ old _ r e. free _ r refl (e .0)), (λ _. row-keeps))))))))
 
-  put-keeps : (s c : List ℕ) (p : Place) (r : Out × List ℕ) → Answers (putTable S h s c p) r → Keeps s r
-  unfolding putTable
-  put-keeps s c p = each (Keeps s) (putTable S h s c p) (
-    (λ _ _. row-keeps),
-    (λ _. (
-      (λ _ _. row-keeps),
-      (λ _. (
-        (λ _ _. row-keeps),
-        (λ _. (
-          (λ _ _. row-keeps),
-          (λ _ _.
-              ((λ old _ r e. free _ r refl (e .0)), (λ _. ((λ _ _. row-keeps), (λ _. ((λ _ _. row-keeps), (λ _ r e. free _ r refl (e .0)))))))),
-        )),
-      )),
-    )),
-  )
+  put-keeps : (s c : List ℕ) (p : Place) (m : ℕ) (r : Out × List ℕ) → Answers (putTable S h s c p m) r → Keeps s r
+  put-keeps s c p m = put-each S h s (Keeps s) c p (record { kept = λ o _ _. refl; over = λ old k t b f. absurd (true≢false f); fresh = λ un n6 n7 t b f. absurd (true≢false f) }) m
 
   row-keeps-out : (s : List ℕ) (n : ℕ) (out : List ℕ) (r : Out × List ℕ) → Answers (rowTable S h s n out) r → Keeps out r
   unfolding rowTable
@@ -74,7 +61,7 @@ module _ (S : Shape) (h : List ℕ → ℕ) where
   refusal-keeps count s o t m = λ _. m .1
   refusal-keeps (lookup c) s o t m = λ _. m .1
   refusal-keeps (remove c) s o t m = remove-keeps s c (o, t) m
-  refusal-keeps (put c p) s o t m = put-keeps s c p (o, t) m
+  refusal-keeps (put c p mode) s o t m = put-keeps s c p mode (o, t) m
   refusal-keeps (rowAt n out) s o t m = λ _. m .1
   refusal-keeps (inspect g n out) s o t m = λ _. m .1
 
@@ -83,10 +70,6 @@ module _ (S : Shape) (h : List ℕ → ℕ) where
   output-kept s n out o out′ (inr m) = inspect-keeps-out s n out (o, out′) m
 
 -- ---- demand 2
-
-pub nothing-there : (o : Option (List ℕ)) → ((b : List ℕ) → o ≡ some b → ⊥) → o ≡ none
-nothing-there none f = refl
-nothing-there (some b) f = absurd (f b refl)
 
 -- a code is refused by its length exactly when it is no code
 pub no-three : (c : List ℕ) → GoodCode c → Refusal3 c → ⊥
@@ -100,6 +83,21 @@ three c n = go (side (length c) 1) (side 64 (length c))
     go (inl a) _ = inl (omega arith)
     go (inr a) (inl b) = inr b
     go (inr a) (inr b) = absurd (n (record { least = a; most = b }))
+
+-- a mode is refused exactly when it is none
+pub no-fourteen : (m : ℕ) → Mode m → Refusal14 m → ⊥
+no-fourteen m (inl e) l = omega arith
+no-fourteen m (inr (inl e)) l = omega arith
+no-fourteen m (inr (inr e)) l = omega arith
+
+pub a-mode : (m : ℕ) → (Refusal14 m → ⊥) → Mode m
+a-mode m n = go (side m 1) (side m 2) (side 2 m)
+  where
+    go : (m < 1) ⊎ (1 ≤ m) → (m < 2) ⊎ (2 ≤ m) → (2 < m) ⊎ (m ≤ 2) → Mode m
+    go (inl a) _ _ = inl (omega arith)
+    go (inr a) (inl b) _ = inr (inl (omega arith))
+    go (inr a) (inr b) (inl l) = absurd (n (omega arith))
+    go (inr a) (inr b) (inr l) = inr (inr (omega arith))
 
 pub good-code : (c : List ℕ) → (Refusal3 c → ⊥) → GoodCode c
 good-code c n = go (side (length c) 1) (side 64 (length c))
@@ -131,41 +129,57 @@ module _ (S : Shape) (h : List ℕ → ℕ) where
     )),
   ) o (m .0)
 
+  -- none of the ways to refuse a put: for a known code only the mode counts, for a new one the mode, 6 and 7
+  pub unrefused : (s c : List ℕ) (p : Place) (m : ℕ) → GoodCode c → (Negative p → ⊥) → Mode m → (m ≡ 1 → (old : List ℕ) → map-of S s c ≡ some old → ⊥)
+      → (map-of S s c ≡ none → (m ≡ 2 → ⊥) × (Refusal6 S h (rowsHeld S s) (record { code = c; place = stored p }) → ⊥) × (Refusal7 S h s (rowsHeld S s) (record { code = c; place = stored p }) → ⊥))
+      → Refuses S h s c p m → ⊥
+  unrefused s c p m g n q k u (no-code x) = x g
+  unrefused s c p m g n q k u (negative x) = n x
+  unrefused s c p m g n q k u (no-mode x) = x q
+  unrefused s c p m g n q k u (known e old x) = k e old x
+  unrefused s c p m g n q k u (absent e x) = u x .0 e
+  unrefused s c p m g n q k u (prefix-full x f) = u x .1 f
+  unrefused s c p m g n q k u (pages-full x f) = u x .2 f
+
   pub put-refused : PutRefused S h
   unfolding putTable
-  put-refused s c p o t a m = each (λ r. (ok (r .0) ≡ false) ↔ Refuses S h s c p (record { code = c; place = stored p })) (putTable S h s c p) (
+  put-refused s c p m o t a made = each (λ r. (ok (r .0) ≡ false) ↔ Refuses S h s c p m) (putTable S h s c p m) (
     (λ _ r. absurd (r (a .long))),
     (λ _. (
-      (λ _ r x e. ((λ _. inl (λ g. no-three c g r)), (λ _. ap (λ q. ok (q .0)) e))),
+      (λ _ r. by (no-code (λ g. no-three c g r))),
       (λ n3. (
-        (λ _ r x e. ((λ _. inr (inl r)), (λ _. ap (λ q. ok (q .0)) e))),
+        (λ _ r. by (negative r)),
         (λ n4. (
-          (λ q b. absurd (accepted-whole S h s a q b)),
-          (λ _ _. (
-            (λ old k x e. ((λ f. absurd (true≢false (sym (ap ok (e .0)) ∙ f))), (λ d. absurd (known old k d (λ _ g. g (good-code c (n3 tt))) n4)))),
-            (λ un. (
-              (λ _ r x e. ((λ _. inr (inr (nothing-there (map-of S s c) un, inl r))), (λ _. ap (λ q. ok (q .0)) e))),
-              (λ n6. (
-                (λ _ r x e. ((λ _. inr (inr (nothing-there (map-of S s c) un, inr r))), (λ _. ap (λ q. ok (q .0)) e))),
-                (λ n7 x e.
-                    ((λ f. absurd (true≢false (sym (ap ok (e .0)) ∙ f))), (λ d. absurd (none-left d (λ _ g. g (good-code c (n3 tt))) n4 n6 n7)))),
+          (λ _ r. by (no-mode (λ g. no-fourteen m g r))),
+          (λ n14. (
+            (λ q b. absurd (accepted-whole S h s a q b)),
+            (λ _ _. (
+              (λ _ r. by (known (r .0) (r .1 .0) (r .1 .1))),
+              (λ n13. (
+                (λ _ r. by (absent (r .0) (r .1))),
+                (λ n5. (
+                  (λ old k x e. stays (x .0) (ap ok (e .0)) (unrefused s c p m (good-code c (n3 tt)) (n4 tt) (a-mode m (n14 tt)) (λ f old q. n13 tt (f, (old, q))) (λ z. absurd (none-some z k)))),
+                  (λ un. (
+                    (λ _ r. by (prefix-full (nothing-there _ un) r)),
+                    (λ n6. (
+                      (λ _ r. by (pages-full (nothing-there _ un) r)),
+                      (λ n7 x e. stays (x .0) (ap ok (e .0)) (unrefused s c p m (good-code c (n3 tt)) (n4 tt) (a-mode m (n14 tt)) (λ f old q. n13 tt (f, (old, q))) (λ z. ((λ f. n5 tt (f, z)), n6 tt, n7 tt)))),
+                    )),
+                  )),
+                )),
               )),
             )),
           )),
         )),
       )),
     )),
-  ) (o, t) m
+  ) (o, t) made
     where
-      known : {A B C : Type 0} (old : List ℕ) → map-of S s c ≡ some old → A ⊎ (B ⊎ ((map-of S s c ≡ none) × C)) → (Unit {0} → A → ⊥) → (Unit {0} → B → ⊥) → ⊥
-      known old k (inl x) f g = f tt x
-      known old k (inr (inl x)) f g = g tt x
-      known old k (inr (inr x)) f g = none-some (x .0) k
+      by : {n : ℕ} {u : List ℕ} → Refuses S h s c p m → (x : Out × List ℕ) → x ≡ (refused n, u) → (ok (x .0) ≡ false) ↔ Refuses S h s c p m
+      by d x e = ((λ _. d), (λ _. ap (λ q. ok (q .0)) e))
 
-      none-left : {A B C D E : Type 0} → A ⊎ (B ⊎ (C × (D ⊎ E))) → (Unit {0} → A → ⊥) → (Unit {0} → B → ⊥) → (Unit {0} → D → ⊥) → (Unit {0} → E → ⊥) → ⊥
-      none-left (inl x) f g i j = f tt x
-      none-left (inr (inl x)) f g i j = g tt x
-      none-left (inr (inr x)) f g i j = ⊎-elim (λ y. i tt y) (λ y. j tt y) (x .1)
+      stays : (o : Out) → ok o ≡ true → (Refuses S h s c p m → ⊥) → (ok o ≡ false) ↔ Refuses S h s c p m
+      stays o f n = ((λ g. absurd (true≢false (sym f ∙ g))), (λ d. absurd (n d)))
 
   -- the store is accepted again, format's apart
   abbrev Again : List ℕ → Out × List ℕ → Type 0
@@ -177,31 +191,30 @@ module _ (S : Shape) (h : List ℕ → ℕ) where
   wrote-again : (s : List ℕ) (o : Out) (gs : List Page) (r : Out × List ℕ) → (r .0 ≡ o) × Becomes S h s gs (r .1) → Again s r
   wrote-again s o gs r e = (e .1 .again, e .1 .long)
 
-  pub put-again : (s c : List ℕ) (p : Place) → Accepted S h s → (r : Out × List ℕ) → Answers (putTable S h s c p) r → Again s r
-  unfolding putTable
-  put-again s c p a = each (Again s) (putTable S h s c p) (
-    (λ _ _. same-again s a),
-    (λ _. (
-      (λ _ _. same-again s a),
-      (λ _. (
-        (λ _ _. same-again s a),
-        (λ _. (
-          (λ _ _. same-again s a),
-          (λ _ _. (
-            (λ old _. wrote-again s _ _),
-            (λ _. (
-              (λ _ _. same-again s a),
-              (λ _. (
-                (λ _ _. same-again s a),
-                (λ _.
-                    wrote-again s _ _),
-              )),
-            )),
-          )),
-        )),
-      )),
-    )),
-  )
+  pub put-again : (s c : List ℕ) (p : Place) (m : ℕ) → Accepted S h s → (r : Out × List ℕ) → Answers (putTable S h s c p m) r → Again s r
+  put-again s c p m a = put-each S h s (Again s) c p (record { kept = λ o _. (a, refl); over = λ old k t b. (b .again, b .long); fresh = λ un n6 n7 t b. (b .again, b .long) }) m
+
+  -- MODE 0 ANSWERS AS BEFORE
+  to-before : (s c : List ℕ) (p : Place) (x : Out × List ℕ) → Answers (putTable S h s c p 0) x → Answers (putBefore S h s c p) x
+  unfolding putTable putBefore
+  to-before s c p x (inl w) = inl w
+  to-before s c p x (inr (n1, inl w)) = inr (n1, inl w)
+  to-before s c p x (inr (n1, inr (n3, inl w))) = inr (n1, inr (n3, inl w))
+  to-before s c p x (inr (n1, inr (n3, inr (n4, inl w)))) = absurd (omega (arith, w .1 .0))
+  to-before s c p x (inr (n1, inr (n3, inr (n4, inr (n14, inl w))))) = inr (n1, inr (n3, inr (n4, inl w)))
+  to-before s c p x (inr (n1, inr (n3, inr (n4, inr (n14, inr (n2, (a, w))))))) = inr (n1, inr (n3, inr (n4, inr (n2, (a, mode-0 S h s _ x .0 w)))))
+
+  from-before : (s c : List ℕ) (p : Place) (x : Out × List ℕ) → Answers (putBefore S h s c p) x → Answers (putTable S h s c p 0) x
+  unfolding putTable putBefore
+  from-before s c p x (inl w) = inl w
+  from-before s c p x (inr (n1, inl w)) = inr (n1, inl w)
+  from-before s c p x (inr (n1, inr (n3, inl w))) = inr (n1, inr (n3, inl w))
+  from-before s c p x (inr (n1, inr (n3, inr (n4, inl w)))) = inr (n1, inr (n3, inr (n4, inr ((λ _ l. omega arith), inl w))))
+  from-before s c p x (inr (n1, inr (n3, inr (n4, inr (n2, (a, w)))))) =
+      inr (n1, inr (n3, inr (n4, inr ((λ _ l. omega arith), inr (n2, (a, mode-0 S h s _ x .1 w))))))
+
+  pub either-as-before : EitherAsBefore S h
+  either-as-before s c p x = (to-before s c p x, from-before s c p x)
 
   pub remove-again : (s c : List ℕ) → Accepted S h s → (r : Out × List ℕ) → Answers (removeTable S h s c) r → Again s r
   unfolding removeTable
@@ -217,6 +230,6 @@ module _ (S : Shape) (h : List ℕ → ℕ) where
   accepted-again f count s o t a m = kept-again s t a (m .1)
   accepted-again f (lookup c) s o t a m = kept-again s t a (m .1)
   accepted-again f (remove c) s o t a m = remove-again s c a (o, t) m
-  accepted-again f (put c p) s o t a m = put-again s c p a (o, t) m
+  accepted-again f (put c p mode) s o t a m = put-again s c p mode a (o, t) m
   accepted-again f (rowAt n out) s o t a m = kept-again s t a (m .1)
   accepted-again f (inspect g n out) s o t a m = kept-again s t a (m .1)

@@ -2,29 +2,26 @@
 -- Assumes nothing.
 use mathlib.Core.Path.{_≡_, refl, sym, ap, subst, _∙_}
 use mathlib.Core.List.{List, map}
-use mathlib.Core.Option.{none}
 use Prim.Native.Nat.{ℕ, _-_, _≤_, _<_}
 use native.Mathlib.Omega.{arith}
 use Rattle.ground.specs.Ladder.{Answers}
 use Rattle.ground.proofs.Ladders.{each}
 use Rattle.page.specs.Page.{Record}
-use Rattle.page.specs.Places.{stored}
+use Rattle.page.specs.Places.{place, stored}
 use Rattle.page.specs.declared.Place.{Place}
 use Rattle.page.proofs.Unique.{unique}
 use Rattle.partition.specs.declared.Shape.{Shape}
 use Rattle.partition.specs.Partition.{Row}
-use Rattle.partition.specs.Listing.{placeOf}
 use Rattle.store.specs.Pages.{pages, page, Page, bucket, read, contents, asRow, rowsHeld}
 use Rattle.store.specs.Accepted.{Stands, unused, used, Accepted}
-use Rattle.store.specs.Moves.{putNew}
-use Rattle.store.specs.Tables.{Out, Refusal6, Refusal7, Becomes, putTable, removeTable}
+use Rattle.store.specs.Tables.{Out, new, replaced, Becomes, putTable, removeTable}
 use Rattle.store.specs.Demands.{Sized, Hash, Call, format, check, count, lookup, remove, put, rowAt, inspect, Made, KeptPages}
 use Rattle.store.proofs.Accepted.Rules.{opened}
 use Rattle.store.proofs.Showing.Shows.{Shows}
 use Rattle.store.proofs.Showing.Shown.{free-not}
 use Rattle.store.proofs.Showing.Rooms.{bucket-one}
 use Rattle.store.proofs.Accepted.Unique.{read-zero, read-bucket, page-long, held}
-use Rattle.store.proofs.Demands.Kept.{nothing-there}
+use Rattle.store.proofs.Demands.Modes.{put-each}
 use Rattle.store.proofs.Accepted.Format.{accepted-always}
 use Rattle.store.proofs.Showing.Showing.{accepted-shows, pages-held}
 use Rattle.store.proofs.Put.PutKept.{Kept, put-kept}
@@ -62,37 +59,15 @@ module _ (S : Shape) (h : List ℕ → ℕ) (sized : Sized S) (hash : Hash h) wh
   written : (s : List ℕ) (x : Out × List ℕ) (gs : List Page) → Becomes S h s gs (x .1) → Kept (contents S s) gs → Keeps s x
   written s x gs b k = subst (Kept (contents S s)) (sym (b .held)) k
 
-  put-keeps : (s c : List ℕ) (p : Place) → Accepted S h s → (x : Out × List ℕ) → Answers (putTable S h s c p) x → Keeps s x
-  unfolding putTable
-  put-keeps s c p a = each (Keeps s) (putTable S h s c p) (
-    (λ _ _ x e. unchanged s a x _ e),
-    (λ _. (
-      (λ _ _ x e. unchanged s a x _ e),
-      (λ _. (
-        (λ _ _ x e. unchanged s a x _ e),
-        (λ _. (
-          (λ _ _ x e. unchanged s a x _ e),
-          (λ _ _. (
-            (λ old k x e. written s x _ (e .1) (over-kept S h (rowsHeld S s) (contents S s) (shown s a) (record { code = c; place = stored p }))),
-            (λ un. (
-              (λ _ _ x e. unchanged s a x _ e),
-              (λ n6. (
-                (λ _ _ x e. unchanged s a x _ e),
-                (λ n7 x e. written s x _ (e .1) (new (nothing-there _ un) (n6 tt) (n7 tt))),
-              )),
-            )),
-          )),
-        )),
-      )),
-    )),
-  )
+  put-keeps : (s c : List ℕ) (p : Place) (m : ℕ) → Accepted S h s → (x : Out × List ℕ) → Answers (putTable S h s c p m) x → Keeps s x
+  put-keeps s c p m a = put-each S h s (Keeps s) c p record {
+    kept = λ o _. same-kept S h (rowsHeld S s) (contents S s) (shown s a);
+    over = λ old k t b. written s (replaced (place old), t) _ b (over-kept S h (rowsHeld S s) (contents S s) (shown s a) r);
+    fresh = λ un n6 n7 t b. written s (new, t) _ b (put-kept S h hash (rowsHeld S s) r (contents S s) (shown s a) un (omega arith) (omega (arith, pages-held S s)));
+  } m
     where
       r : Row
       r = record { code = c; place = stored p }
-
-      new : placeOf (rowsHeld S s) c ≡ none → (Refusal6 S h (rowsHeld S s) r → ⊥) → (Refusal7 S h s (rowsHeld S s) r → ⊥)
-          → Kept (contents S s) (putNew S h (contents S s) r)
-      new un six seven = put-kept S h hash (rowsHeld S s) r (contents S s) (shown s a) un (omega arith) (omega (arith, pages-held S s))
 
   remove-keeps : (s c : List ℕ) → Accepted S h s → (x : Out × List ℕ) → Answers (removeTable S h s c) x → Keeps s x
   unfolding removeTable
@@ -116,7 +91,7 @@ module _ (S : Shape) (h : List ℕ → ℕ) (sized : Sized S) (hash : Hash h) wh
   kept count s o t n a m = unchanged s a (o, t) o (ap (λ y. (o, y)) (m .1))
   kept (lookup c) s o t n a m = unchanged s a (o, t) o (ap (λ y. (o, y)) (m .1))
   kept (remove c) s o t n a m = remove-keeps s c a (o, t) m
-  kept (put c p) s o t n a m = put-keeps s c p a (o, t) m
+  kept (put c p mode) s o t n a m = put-keeps s c p mode a (o, t) m
   kept (rowAt i out) s o t n a m = unchanged s a (o, t) o (ap (λ y. (o, y)) (m .1))
   kept (inspect g i out) s o t n a m = unchanged s a (o, t) o (ap (λ y. (o, y)) (m .1))
 

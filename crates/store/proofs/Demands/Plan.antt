@@ -13,8 +13,8 @@ use Rattle.partition.specs.Listing.{without, placeOf}
 use Rattle.store.specs.Pages.{Page, contents, rowsIn, rowsHeld, dirDepth}
 use Rattle.store.specs.Accepted.{Accepted}
 use Rattle.store.specs.Moves.{pick, overwritten, putNew, removed}
-use Rattle.page.specs.Places.{stored}
-use Rattle.store.specs.Tables.{Out, Refusal6, Refusal7, Becomes, putTable, removeTable, formatTable}
+use Rattle.page.specs.Places.{place, stored}
+use Rattle.store.specs.Tables.{Out, new, replaced, Refusal6, Refusal7, Becomes, putTable, removeTable, formatTable}
 use Rattle.partition.specs.Listing.{Once}
 use Rattle.store.specs.Demands.{Sized, Call, format, check, count, lookup, remove, put, rowAt, inspect, Made, ok, after, surviving, directory, afresh, History, begin, next, AfreshAlways, GoodCode, map-of, update, answerOf, putAnswer, PutIsMap, RemoveIsMap}
 use Rattle.ground.proofs.Ladders.{each}
@@ -24,7 +24,8 @@ use Rattle.partition.proofs.Maps.{cut, cut-none, cut-same, map-remove, map-put}
 use Rattle.partition.proofs.Sorted.{listing-same}
 use Rattle.store.proofs.Showing.Sorted.{afresh-same}
 use Rattle.store.proofs.Accepted.Rules.{accepted-whole}
-use Rattle.store.proofs.Demands.Kept.{nothing-there, no-three, refusal-keeps}
+use Rattle.store.proofs.Demands.Modes.{nothing-there, put-each}
+use Rattle.store.proofs.Demands.Kept.{no-three, refusal-keeps}
 use Rattle.store.proofs.Accepted.Format.{format-accepted, accepted-always, no-rows}
 
 module _ (S : Shape) (h : List ℕ → ℕ) where
@@ -54,7 +55,7 @@ after-same check p = p
 after-same count p = p
 after-same (lookup c) p = p
 after-same (remove c) p = cut-same c p
-after-same (put c pl) p = front _ (cut-same c p)
+after-same (put c pl m) p = front _ (cut-same c p)
 after-same (rowAt n out) p = p
 after-same (inspect g n out) p = p
 
@@ -84,31 +85,15 @@ module _ (S : Shape) (h : List ℕ → ℕ) where
       (subst (λ l. Reordered (rowsIn l) (after c (rowsHeld S s))) (sym (b .held)) p)
 
   module _ (sized : Sized S) (puts : PutRows S h) (over : OverRows S h) (removes : RemoveRows S h) where
-    put-left : (s c : List ℕ) (p : Place) → Accepted S h s → (x : Out × List ℕ) → Answers (putTable S h s c p) x → Left (put c p) s x
-    unfolding putTable
-    put-left s c p a = each (Left (put c p) s) (putTable S h s c p) (
-      (λ _ _ x e. kept (put c p) s x _ e refl),
-      (λ _. (
-        (λ _ _ x e. kept (put c p) s x _ e refl),
-        (λ _. (
-          (λ _ _ x e. kept (put c p) s x _ e refl),
-          (λ _. (
-            (λ _ _ x e. kept (put c p) s x _ e refl),
-            (λ _ _. (
-              (λ old k x e. moved (put c p) s x _ _ (e .0) refl (e .1) (over s (record { code = c; place = stored p }) old a k)),
-              (λ un. (
-                (λ _ _ x e. kept (put c p) s x _ e refl),
-                (λ n6. (
-                  (λ _ _ x e. kept (put c p) s x _ e refl),
-                  (λ n7 x e.
-                      moved (put c p) s x _ _ (e .0) refl (e .1) (to-cut c (rowsHeld S s) _ _ (nothing-there _ un) (puts s (record { code = c; place = stored p }) a (nothing-there _ un) (n6 tt) (n7 tt)))),
-                )),
-              )),
-            )),
-          )),
-        )),
-      )),
-    )
+    put-left : (s c : List ℕ) (p : Place) (m : ℕ) → Accepted S h s → (x : Out × List ℕ) → Answers (putTable S h s c p m) x → Left (put c p m) s x
+    put-left s c p m a = put-each S h s (Left (put c p m) s) c p record {
+      kept = λ o f. kept (put c p m) s (o, s) o refl f;
+      over = λ old k t b. moved (put c p m) s (replaced (place old), t) _ _ refl refl b (over s r old a k);
+      fresh = λ un n6 n7 t b. moved (put c p m) s (new, t) _ _ refl refl b (to-cut c (rowsHeld S s) _ _ un (puts s r a un n6 n7));
+    } m
+      where
+        r : Row
+        r = record { code = c; place = stored p }
 
     remove-left : (s c : List ℕ) → Accepted S h s → (x : Out × List ℕ) → Answers (removeTable S h s c) x → Left (remove c) s x
     unfolding removeTable
@@ -145,7 +130,7 @@ module _ (S : Shape) (h : List ℕ → ℕ) where
     left count s o t a m = reads-left s t (ok o) (m .1)
     left (lookup c) s o t a m = reads-left s t (ok o) (m .1)
     left (remove c) s o t a m = remove-left s c a (o, t) m
-    left (put c p) s o t a m = put-left s c p a (o, t) m
+    left (put c p mode) s o t a m = put-left s c p mode a (o, t) m
     left (rowAt n out) s o t a m = reads-left s t (ok o) (m .1)
     left (inspect g n out) s o t a m = reads-left s t (ok o) (m .1)
 
@@ -180,31 +165,9 @@ unfolding update
 update-put r x rs = map-put r x rs
 
 module _ (S : Shape) (h : List ℕ → ℕ) (sized : Sized S) (fresh : AcceptedIsAfresh S h) (puts : PutRows S h) (over : OverRows S h) (removes : RemoveRows S h) where
-  put-answer : (s c : List ℕ) (p : Place) → Accepted S h s → (x : Out × List ℕ) → Answers (putTable S h s c p) x → ok (x .0) ≡ true → x .0 ≡ putAnswer (map-of S s c)
-  unfolding putTable
-  put-answer s c p a = each (λ x. ok (x .0) ≡ true → x .0 ≡ putAnswer (map-of S s c)) (putTable S h s c p) (
-    (λ _ _ x e f. absurd (true≢false (sym f ∙ ap (λ q. ok (q .0)) e))),
-    (λ _. (
-      (λ _ _ x e f. absurd (true≢false (sym f ∙ ap (λ q. ok (q .0)) e))),
-      (λ _. (
-        (λ _ _ x e f. absurd (true≢false (sym f ∙ ap (λ q. ok (q .0)) e))),
-        (λ _. (
-          (λ _ _ x e f. absurd (true≢false (sym f ∙ ap (λ q. ok (q .0)) e))),
-          (λ _ _. (
-            (λ old k x e f. e .0 ∙ ap putAnswer (sym k)),
-            (λ un. (
-              (λ _ _ x e f. absurd (true≢false (sym f ∙ ap (λ q. ok (q .0)) e))),
-              (λ _. (
-                (λ _ _ x e f. absurd (true≢false (sym f ∙ ap (λ q. ok (q .0)) e))),
-                (λ _ x e f.
-                    e .0 ∙ ap putAnswer (sym (nothing-there _ un))),
-              )),
-            )),
-          )),
-        )),
-      )),
-    )),
-  )
+  put-answer : (s c : List ℕ) (p : Place) (m : ℕ) (x : Out × List ℕ) → Answers (putTable S h s c p m) x → ok (x .0) ≡ true → x .0 ≡ putAnswer (map-of S s c)
+  put-answer s c p m = put-each S h s (λ x. ok (x .0) ≡ true → x .0 ≡ putAnswer (map-of S s c)) c p
+      (record { kept = λ o f g. absurd (true≢false (sym g ∙ f)); over = λ old k t b f. ap putAnswer (sym k); fresh = λ un n6 n7 t b f. ap putAnswer (sym un) }) m
 
   remove-answer : (s c : List ℕ) → Accepted S h s → (x : Out × List ℕ) → Answers (removeTable S h s c) x
       → GoodCode c → x .0 ≡ answerOf (map-of S s c)
@@ -227,9 +190,9 @@ module _ (S : Shape) (h : List ℕ → ℕ) (sized : Sized S) (fresh : AcceptedI
       same-map (left S h sized puts over removes c s o t a m) (fresh t b .0) .1 x ∙ ap (λ k. placeOf (pick k (after c (rowsHeld S s)) (rowsHeld S s)) x) f
 
   pub put-is-map : PutIsMap S h
-  put-is-map s c p o t a m = (
-    (λ f. (put-answer s c p a (o, t) m f, (λ x. map-after (put c p) s o t a m f x ∙ update-put (record { code = c; place = stored p }) x (rowsHeld S s)))),
-    refusal-keeps S h (put c p) s o t m,
+  put-is-map s c p m o t a made = (
+    (λ f. (put-answer s c p m (o, t) made f, (λ x. map-after (put c p m) s o t a made f x ∙ update-put (record { code = c; place = stored p }) x (rowsHeld S s)))),
+    refusal-keeps S h (put c p m) s o t made,
   )
 
   remove-map : (s c : List ℕ) (o : Out) (t : List ℕ) → Accepted S h s → Made S h (remove c) s o t

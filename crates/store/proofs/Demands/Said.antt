@@ -34,7 +34,7 @@ use Rattle.store.proofs.Demands.Given.{Good, slot-good, held-good, memb
 
 -- a refusal; most bounds the page number that 2 carries
 abbrev pub RefusedBelow : ℕ → Out → Type 0
-RefusedBelow most o = ((n : ℕ) × ((n < 10) × (n ≡ 2 → ⊥) × (o ≡ refused n))) ⊎ ((p : ℕ) × ((p < most) × (o ≡ refusedAt 2 p)))
+RefusedBelow most o = ((n : ℕ) × ((n < 15) × (n ≡ 2 → ⊥) × (o ≡ refused n))) ⊎ ((p : ℕ) × ((p < most) × (o ≡ refusedAt 2 p)))
 
 -- a value that carries a place
 abbrev pub Placed : (Place → Out) → Out → Type 0
@@ -57,7 +57,7 @@ abbrev pub Said : ℕ → (Out → Type 0) → Out → Type 0
 Said most Values o = RefusedBelow most o ⊎ Values o
 
 -- rows of a table that refuse: of a call that only answers, and of one that leaves something
-module _ {most : ℕ} (Values : Out → Type 0) (n : ℕ) (l : n < 10) (d : n ≡ 2 → ⊥) where
+module _ {most : ℕ} (Values : Out → Type 0) (n : ℕ) (l : n < 15) (d : n ≡ 2 → ⊥) where
   no : (o : Out) → o ≡ refused n → Said most Values o
   no o e = inl (inl (n, (l, d, e)))
 
@@ -157,21 +157,30 @@ module _ (S : Shape) (h : List ℕ → ℕ) where
       )),
     )
 
-    pub put-said : (s c : List ℕ) (p : Place) (x : Out × List ℕ) → Answers (putTable S h s c p) x → Said (S .entries + 2) Kept (x .0)
+    pub put-said : (s c : List ℕ) (p : Place) (m : ℕ) (x : Out × List ℕ) → Answers (putTable S h s c p m) x → Said (S .entries + 2) Kept (x .0)
     unfolding putTable
-    put-said s c p = each (λ x. Said (S .entries + 2) Kept (x .0)) (putTable S h s c p) (
+    put-said s c p m = each (λ x. Said (S .entries + 2) Kept (x .0)) (putTable S h s c p m) (
       (λ _ _. left Kept 1 (omega arith) (λ z. omega arith)),
       (λ g. (
         (λ _ _. left Kept 3 (omega arith) (λ z. omega arith)),
         (λ _. (
           (λ _ _. left Kept 4 (omega arith) (λ z. omega arith)),
           (λ _. (
-            (λ p b x e. inl (inr (p, (paged s p g b, ap (λ y. y .0) e)))),
-            (λ _ a. (
-              (λ b m x e. inr (inr (b, (mapped s c b a m, e .0)))),
-              (λ _. (
-                (λ _ _. left Kept 6 (omega arith) (λ z. omega arith)),
-                (λ _. ((λ _ _. left Kept 7 (omega arith) (λ z. omega arith)), (λ _ x e. inr (inl (e .0))))),
+            (λ _ _. left Kept 14 (omega arith) (λ z. omega arith)),
+            (λ _. (
+              (λ p b x e. inl (inr (p, (paged s p g b, ap (λ y. y .0) e)))),
+              (λ _ a. (
+                (λ _ _. left Kept 13 (omega arith) (λ z. omega arith)),
+                (λ _. (
+                  (λ _ _. left Kept 5 (omega arith) (λ z. omega arith)),
+                  (λ _. (
+                    (λ b k x e. inr (inr (b, (mapped s c b a k, e .0)))),
+                    (λ _. (
+                      (λ _ _. left Kept 6 (omega arith) (λ z. omega arith)),
+                      (λ _. ((λ _ _. left Kept 7 (omega arith) (λ z. omega arith)), (λ _ x e. inr (inl (e .0))))),
+                    )),
+                  )),
+                )),
               )),
             )),
           )),

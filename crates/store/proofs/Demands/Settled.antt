@@ -4,10 +4,11 @@ use mathlib.Core.List.{List}
 use mathlib.Core.Option.{Option, some}
 use Prim.Native.Nat.{ℕ}
 use Rattle.partition.specs.declared.Shape.{Shape}
+use Rattle.partition.specs.Partition.{Row}
 use Rattle.page.specs.declared.Place.{Place}
 use Rattle.ground.specs.Ladder.{Answers}
 use Rattle.store.specs.Pages.{Page}
-use Rattle.store.specs.Tables.{Out, writes, formatTable, checkTable, countTable, lookupTable, putTable, removeTable, rowTable, inspectTable}
+use Rattle.store.specs.Tables.{Out, writes, formatTable, checkTable, countTable, lookupTable, putByMode, putTable, removeTable, rowTable, inspectTable}
 use Rattle.store.specs.Demands.{Sized}
 use Rattle.ground.proofs.Ladders.{Sure, one}
 use Rattle.store.proofs.Accepted.Rules.{broken-one}
@@ -61,10 +62,15 @@ module _ (S : Shape) where
     inspect-settled g n out = one (inspectTable S h g n out)
         (nothing, (λ _ _. same), (nothing, (λ _ _. same), (nothing, (λ _ _. same), (λ _. (some-one, (λ _ _. same), same)))))
 
-    pub put-settled : Sized S → (s c : List ℕ) (p : Place) (a b : Out × List ℕ) → Answers (putTable S h s c p) a → Answers (putTable S h s c p) b → a ≡ b
+    -- a put on an accepted store, and then on any bytes
+    pub mode-settled : Sized S → (s : List ℕ) (m : ℕ) (r : Row) → Sure (putByMode S h s m r)
+    mode-settled z s m r =
+        (nothing, (λ _ _. same), (nothing, (λ _ _. same), (some-one, (λ _ _. wrote S h s _ _ z), (nothing, (λ _ _. same), (nothing, (λ _ _. same), wrote S h s _ _ z)))))
+
+    pub put-settled : Sized S → (s c : List ℕ) (p : Place) (m : ℕ) (a b : Out × List ℕ) → Answers (putTable S h s c p m) a → Answers (putTable S h s c p m) b → a ≡ b
     unfolding putTable
-    put-settled z s c p = one (putTable S h s c p)
-        (nothing, (λ _ _. same), (nothing, (λ _ _. same), (nothing, (λ _ _. same), (broken-one S h s, (λ _ _. same), (λ _. (some-one, (λ _ _. wrote S h s _ _ z), (nothing, (λ _ _. same), (nothing, (λ _ _. same), wrote S h s _ _ z))))))))
+    put-settled z s c p m = one (putTable S h s c p m)
+        (nothing, (λ _ _. same), (nothing, (λ _ _. same), (nothing, (λ _ _. same), (nothing, (λ _ _. same), (broken-one S h s, (λ _ _. same), (λ _. mode-settled z s m _))))))
 
     pub remove-settled : Sized S → (s c : List ℕ) (a b : Out × List ℕ) → Answers (removeTable S h s c) a → Answers (removeTable S h s c) b → a ≡ b
     unfolding removeTable

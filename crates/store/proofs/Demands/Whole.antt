@@ -1,7 +1,7 @@
 -- The demands, whole: for every page size and every hash of 32 bits, and with nothing left to assume.
 -- Assumes nothing.
 use Rattle.store.specs.Demands.{Demand1, Demand2, Demand3}
-use Rattle.store.proofs.Demands.Kept.{refusal-keeps, output-kept, check-exact, lookup-is-map, put-refused}
+use Rattle.store.proofs.Demands.Kept.{refusal-keeps, output-kept, check-exact, lookup-is-map, put-refused, either-as-before}
 use Rattle.store.proofs.Demands.Order.{refused-in-order, format-succeeds}
 use Rattle.store.proofs.Accepted.Format.{format-accepted, accepted-always}
 use Rattle.store.proofs.Showing.Walked.{listed-once}
@@ -30,6 +30,7 @@ demand-2 S h sized hash =
       place-comes-back S h sized hash,
       accepted-always S h sized,
       format-accepted S h sized,
+      either-as-before S h,
     )
 
 pub demand-3 : Demand3

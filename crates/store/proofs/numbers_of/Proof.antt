@@ -39,6 +39,12 @@ enum-told-7 c = search needs
 enum-told-8 : tie.Need-enum-told-8
 enum-told-8 c = search needs
 
+enum-told-9 : tie.Need-enum-told-9
+enum-told-9 c = search needs
+
+enum-told-10 : tie.Need-enum-told-10
+enum-told-10 c = search needs
+
 returns : tie.Need-returns
 returns c = plain 1 (λ e. omega (arith, e)) (c .enum-told .given .1) refl
 
@@ -66,6 +72,12 @@ returns-8 c = plain 8 (λ e. omega (arith, e)) (c .enum-told7 .given .1) refl
 returns-9 : tie.Need-returns-9
 returns-9 c = plain 9 (λ e. omega (arith, e)) (c .enum-told8 .given .1) refl
 
+returns-10 : tie.Need-returns-10
+returns-10 c = plain 13 (λ e. omega (arith, e)) (c .enum-told9 .given .1) refl
+
+returns-11 : tie.Need-returns-11
+returns-11 c = plain 14 (λ e. omega (arith, e)) (c .enum-told10 .given .1) refl
+
 pub numbers-of-spec : {M : Type 1} → statement M
 numbers-of-spec =
     tie.close
@@ -79,6 +91,8 @@ numbers-of-spec =
     enum-told-6
     enum-told-7
     enum-told-8
+    enum-told-9
+    enum-told-10
     returns
     returns-2
     returns-3
@@ -87,4 +101,6 @@ numbers-of-spec =
     returns-6
     returns-7
     returns-8
-    returns-9)
+    returns-9
+    returns-10
+    returns-11)

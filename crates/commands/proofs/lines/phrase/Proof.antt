@@ -1,20 +1,16 @@
 -- `commands::phrase` meets its contract. Assumes nothing.
-use Prim.Native.Nat.{ℕ}
-use mathlib.Core.Path.{sym, _∙_, ap, subst}
-use mathlib.Core.List.{List, _∷_, _++_}
+use mathlib.Core.Path.{sym, _∙_, subst}
+use native.Mathlib.Omega.{arith}
 use borrow.Author.Needs.{needs}
 use Rattle.ground.proofs.Tests.{untrue}
 use Rattle.commands.specs.Codes.{Decodes}
 use Rattle.commands.proofs.Unasked.{no-lookup, no-remove}
-use Rattle.commands.proofs.Phrases.{after-word, of-line}
+use Rattle.commands.proofs.Phrases.{after-word}
 use Rattle.commands.proofs.lines.phrase.Statement.{statement}
 use Rattle.commands.proofs.lines.phrase.Tie as tie
 
-slice-aggregate-same : tie.Need-slice-aggregate-same
-slice-aggregate-same c = search needs
-
-same-requires : tie.Need-same-requires
-same-requires c κs = search needs
+put-mode-requires : tie.Need-put-mode-requires
+put-mode-requires c κs = search needs
 
 put-requires : tie.Need-put-requires
 put-requires c κs = search needs
@@ -26,13 +22,13 @@ returns : tie.Need-returns
 returns c =
     let p = c .before .before in
     let s = p .before .before in
-    of-line _ _ _ (p .put .result) (ap (λ (v : List ℕ). v ++ (32 ∷ s .before .before .before .before .before .before .args .rest .now)) (s .before .same .ensures .0 (s .if1 .taken))) (p .put .ensures)
+    p .put .ensures _ (s .before .put-mode .ensures .0 (s .if1 .taken))
 
-slice-aggregate-same-2 : tie.Need-slice-aggregate-same-2
-slice-aggregate-same-2 c = search needs
+slice-aggregate-same : tie.Need-slice-aggregate-same
+slice-aggregate-same c = search needs
 
-same-requires-2 : tie.Need-same-requires-2
-same-requires-2 c κs = search needs
+same-requires : tie.Need-same-requires
+same-requires c κs = search needs
 
 decode-requires : tie.Need-decode-requires
 decode-requires c κs = search needs
@@ -48,9 +44,9 @@ same-length-2 c = search needs
 
 returns-2 : tie.Need-returns-2
 returns-2 c =
-    let s = c .before .before .before .before .before .before .before .before .before .before .before .before .before .before .before in
+    let s = c .before .before .before .before .before .before .before .before .before .before .before .before .before .before in
     let d = c .before .before .before .before .decode in
-    no-lookup (s .args .word .now) (s .args .rest .now) (s .pre .0) (s .pre .1) (d .last .1 .0) (subst (Decodes _ _) (c .enum-told .given .1) (d .ensures)) (c .before .before .before .before .before .before .before .same2 .ensures .0 (c .before .before .before .before .before .before .if2 .taken))
+    no-lookup (s .args .word .now) (s .args .rest .now) (s .pre .0) (s .pre .1) (d .last .1 .0) (subst (Decodes _ _) (c .enum-told .given .1) (d .ensures)) (c .before .before .before .before .before .before .before .same .ensures .0 (c .before .before .before .before .before .before .if2 .taken))
 
 same-length-3 : tie.Need-same-length-3
 same-length-3 c = search needs
@@ -60,13 +56,13 @@ returns-3 c =
     let n = c .before in
     let d = n .before .before .before .before in
     let s = d .before .before in
-    after-word _ _ _ _ (s .before .same2 .ensures .0 (s .if2 .taken)) (subst (Decodes _ _) (n .n .given .1) (d .decode .ensures))
+    after-word _ _ _ _ (s .before .same .ensures .0 (s .if2 .taken)) (subst (Decodes _ _) (n .n .given .1) (d .decode .ensures))
 
-slice-aggregate-same-3 : tie.Need-slice-aggregate-same-3
-slice-aggregate-same-3 c = search needs
+slice-aggregate-same-2 : tie.Need-slice-aggregate-same-2
+slice-aggregate-same-2 c = search needs
 
-same-requires-3 : tie.Need-same-requires-3
-same-requires-3 c κs = search needs
+same-requires-2 : tie.Need-same-requires-2
+same-requires-2 c κs = search needs
 
 decode-requires-2 : tie.Need-decode-requires-2
 decode-requires-2 c κs = search needs
@@ -82,9 +78,9 @@ same-length-4 c = search needs
 
 returns-4 : tie.Need-returns-4
 returns-4 c =
-    let s = c .before .before .before .before .before .before .before .before .before .before .before .before .before .before .before .before .before .before in
+    let s = c .before .before .before .before .before .before .before .before .before .before .before .before .before .before .before .before .before in
     let d = c .before .before .before .before .decode2 in
-    no-remove (s .args .word .now) (s .args .rest .now) (s .pre .0) (s .pre .1) (d .last .1 .0) (subst (Decodes _ _) (c .enum-told2 .given .1) (d .ensures)) (c .before .before .before .before .before .before .before .same3 .ensures .0 (c .before .before .before .before .before .before .if3 .taken))
+    no-remove (s .args .word .now) (s .args .rest .now) (s .pre .0) (s .pre .1) (d .last .1 .0) (subst (Decodes _ _) (c .enum-told2 .given .1) (d .ensures)) (c .before .before .before .before .before .before .before .same2 .ensures .0 (c .before .before .before .before .before .before .if3 .taken))
 
 same-length-5 : tie.Need-same-length-5
 same-length-5 c = search needs
@@ -94,12 +90,20 @@ returns-5 c =
     let n = c .before in
     let d = n .before .before .before .before in
     let s = d .before .before in
-    after-word _ _ _ _ (s .before .same3 .ensures .0 (s .if3 .taken)) (subst (Decodes _ _) (n .n2 .given .1) (d .decode2 .ensures))
+    after-word _ _ _ _ (s .before .same2 .ensures .0 (s .if3 .taken)) (subst (Decodes _ _) (n .n2 .given .1) (d .decode2 .ensures))
 
 numbered-requires : tie.Need-numbered-requires
 numbered-requires c κs =
-    let s = c .before .before .before .before .before .before .before .before .before .before .before .before in
-    (s .pre .0, s .pre .1, record { put = λ e. untrue (sym (c .before .before .before .before .before .before .if1 .left) ∙ c .before .before .before .before .before .before .before .same .ensures .1 e); lookup = λ e. untrue (sym (c .before .before .before .if2 .left) ∙ c .before .before .before .before .same2 .ensures .1 e); remove = λ e. untrue (sym (c .if3 .left) ∙ c .before .same3 .ensures .1 e) })
+    let m = c .before .before .before .before .before .before in
+    let s = m .before .before .before .before .before in (
+      s .pre .0,
+      s .pre .1,
+      record {
+        put = m .before .put-mode .ensures .1 (omega (arith, m .if1 .left));
+        lookup = λ e. untrue (sym (c .before .before .before .if2 .left) ∙ c .before .before .before .before .same .ensures .1 e);
+        remove = λ e. untrue (sym (c .if3 .left) ∙ c .before .same2 .ensures .1 e);
+      },
+    )
 
 returns-6 : tie.Need-returns-6
 returns-6 c = c .numbered .ensures _
@@ -108,13 +112,12 @@ pub phrase-spec : {M : Type 1} → statement M
 phrase-spec =
     tie.close
     (tie.spec
-    slice-aggregate-same
-    same-requires
+    put-mode-requires
     put-requires
     same-length
     returns
-    slice-aggregate-same-2
-    same-requires-2
+    slice-aggregate-same
+    same-requires
     decode-requires
     enum-known-n
     enum-told
@@ -122,8 +125,8 @@ phrase-spec =
     returns-2
     same-length-3
     returns-3
-    slice-aggregate-same-3
-    same-requires-3
+    slice-aggregate-same-2
+    same-requires-2
     decode-requires-2
     enum-known-n-2
     enum-told-2

@@ -16,7 +16,7 @@ first-space-requires : tie.Need-first-space-requires
 first-space-requires c κs = search needs
 
 returns : tie.Need-returns
-returns c = put-alone (c .before .before .before .before .args .rest .now) (c .before .before .before .before .args .code .now) (all-spaceless _ _ (c .before .first-space .ensures) (c .if1 .taken))
+returns c = λ w q. put-alone w _ q (c .before .before .before .before .args .rest .now) (c .before .before .before .before .args .code .now) (all-spaceless _ _ (c .before .first-space .ensures) (c .if1 .taken))
 
 add-s : tie.Need-add-s
 add-s c = search needs
@@ -43,7 +43,7 @@ returns-2 : tie.Need-returns-2
 returns-2 c =
     let r = c .before .before .before .before .before .before .before .before .args .rest .now in
     let f = c .before .before .before .before .before .first-space in
-    put-nowhere r (c .before .before .before .before .before .before .before .before .args .code .now) (take (f .result) r) (take (length r - (f .result + 1)) (drop (f .result + 1) r)) (cut _ _ (f .ensures) (c .before .before .before .before .if1 .left)) (first-spaceless _ _ (f .ensures)) (subst (Places _) (c .enum-told .given .1) (c .before .before .read-place .ensures))
+    λ w q. put-nowhere w _ q r (c .before .before .before .before .before .before .before .before .args .code .now) (take (f .result) r) (take (length r - (f .result + 1)) (drop (f .result + 1) r)) (cut _ _ (f .ensures) (c .before .before .before .before .if1 .left)) (first-spaceless _ _ (f .ensures)) (subst (Places _) (c .enum-told .given .1) (c .before .before .read-place .ensures))
 
 slice-aggregate-decode : tie.Need-slice-aggregate-decode
 slice-aggregate-decode c = sym (length-take-le _ _ (c .before .before .before .before .before .before .before .first-space .ensures .within))
@@ -65,7 +65,7 @@ returns-3 c =
     let r = c .before .before .before .before .before .before .before .before .before .before .before .before .before .before .before .before .args .rest .now in
     let f = c .before .before .before .before .before .before .before .before .before .before .before .before .before .first-space in
     let d = c .before .before .before .before .decode in
-    put-wrong r (d .last .1 .0) (take (f .result) r) (take (length r - (f .result + 1)) (drop (f .result + 1) r)) (cut _ _ (f .ensures) (c .before .before .before .before .before .before .before .before .before .before .before .before .if1 .left)) (first-spaceless _ _ (f .ensures)) (subst (Decodes _ _) (c .enum-told2 .given .1) (d .ensures))
+    λ w q. put-wrong w _ q r (d .last .1 .0) (take (f .result) r) (take (length r - (f .result + 1)) (drop (f .result + 1) r)) (cut _ _ (f .ensures) (c .before .before .before .before .before .before .before .before .before .before .before .before .if1 .left)) (first-spaceless _ _ (f .ensures)) (subst (Decodes _ _) (c .enum-told2 .given .1) (d .ensures))
 
 same-length-2 : tie.Need-same-length-2
 same-length-2 c = search needs
@@ -76,13 +76,17 @@ returns-4 c =
     let d = n .before .before .before .before in
     let p = d .before .before .before .before in
     let f = p .before .before .before .before in
-    record {
-      rest = _;
-      line = refl;
-      says = record {
-        code = _;
-        after = record { rest = _; line = cut _ _ (f .before .first-space .ensures) (f .if1 .left); says = subst (Places _) (p .place .given .1) (p .before .before .read-place .ensures) };
-        coded = subst (Decodes _ _) (n .n .given .1) (d .decode .ensures);
+    λ w q. record {
+      word = w;
+      by = q;
+      line = record {
+        rest = _;
+        line = refl;
+        says = record {
+          code = _;
+          after = record { rest = _; line = cut _ _ (f .before .first-space .ensures) (f .if1 .left); says = subst (Places _) (p .place .given .1) (p .before .before .read-place .ensures) };
+          coded = subst (Decodes _ _) (n .n .given .1) (d .decode .ensures);
+        };
       };
     }
 

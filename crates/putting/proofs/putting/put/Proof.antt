@@ -2,7 +2,7 @@
 use Rattle.store.proofs.Accepted.Rules.{accepted-whole}
 use Rattle.store.proofs.Demands.Kept.{three, no-three}
 use Rattle.words.specs.Codes.{GoodCode}
-use Rattle.store.specs.Tables.{putAccepted, putTable, meaning}
+use Rattle.store.specs.Tables.{Refusal14, putByMode, putTable, meaning}
 use Rattle.store.specs.Accepted.{GoodLength}
 use Rattle.store.specs.Demands.{sized-1024}
 use Rattle.store.specs.Pages.{S1024}
@@ -13,6 +13,7 @@ use Rattle.hash.specs.Fnv.{fnv}
 use Rattle.ground.proofs.Tests.{says-true, says-false}
 use Rattle.ground.specs.Ladder.{Answers}
 use denote.Ref.{now}
+use native.Mathlib.Omega.{arith}
 use mathlib.Core.Path.{refl, sym, subst}
 use mathlib.Core.Logic.{inl, inr}
 use borrow.Author.Tests.{not-true, not-false}
@@ -51,6 +52,10 @@ module _ (c : tie.Else3) where
   ranged : InRange (start .args .place)
   ranged = let g = start .good .1 .1 .0 .1 .1 in record { page = g .0 .1; slot = g .1 .0 .1; volume = g .1 .1 .0 .1 }
 
+-- past the mode
+moded : (c : tie.Else4) → Refusal14 (start (c .before) .args .mode) → ⊥
+moded c l = omega (arith, c .if4 .left)
+
 good-length-requires : tie.Need-good-length-requires
 good-length-requires c κs = sized-1024
 
@@ -85,36 +90,17 @@ returns-3 c =
     let d = c .before .before in
     inr ((λ _ n. n (long (first d))), inr ((λ _ r. no-three _ (good d) r), inl (tt, (says-true {P = Negative (z (first d) .args .place)} (c .before .negative .result) (c .if3 .taken) (c .before .negative .ensures), refl))))
 
-first-bad-requires : tie.Need-first-bad-requires
-first-bad-requires c κs = long (first (e (c .before)))
-
 same-length-4 : tie.Need-same-length-4
 same-length-4 c = search needs
 
 returns-4 : tie.Need-returns-4
 unfolding putTable
 returns-4 c =
-    let d = c .before .before .before in
-    inr ((λ _ n. n (long (first (e d)))), inr ((λ _ r. no-three _ (good (e d)) r), inr ((λ _ n. positive d n), inl (c .before .first-bad .result, (c .before .first-bad .ensures .bad (c .if4 .taken), refl)))))
+    let d = c .before in
+    inr ((λ _ n. n (long (first (e d)))), inr ((λ _ r. no-three _ (good (e d)) r), inr ((λ _ n. positive d n), inl (tt, (c .if4 .taken, refl)))))
 
-slice-aggregate-store-place : tie.Need-slice-aggregate-store-place
-slice-aggregate-store-place c = search needs
-
-store-place-requires : tie.Need-store-place-requires
-store-place-requires c κs = (refl, positive (c .before .before .before .before))
-
-slice-aggregate-put-row : tie.Need-slice-aggregate-put-row
-slice-aggregate-put-row c = search needs
-
-put-row-requires : tie.Need-put-row-requires
-put-row-requires c κs =
-    let b = c .before .before .before .before .before in
-    let d = b .before .before .before in
-    record {
-      accepted = b .before .first-bad .ensures .sound (b .if4 .left);
-      good = good (e d);
-      natural = subst Natural (sym (c .before .before .before .store-place .ensures)) (stored-natural (start d .args .place) (positive d) (ranged d));
-    }
+first-bad-requires : tie.Need-first-bad-requires
+first-bad-requires c κs = long (first (e (c .before .before)))
 
 same-length-5 : tie.Need-same-length-5
 same-length-5 c = search needs
@@ -122,10 +108,43 @@ same-length-5 c = search needs
 returns-5 : tie.Need-returns-5
 unfolding putTable
 returns-5 c =
+    let f = c .before .before .before in
+    let d = f .before in
+    inr (
+      (λ _ n. n (long (first (e d)))),
+      inr ((λ _ r. no-three _ (good (e d)) r), inr ((λ _ n. positive d n), inr ((λ _ l. moded f l), inl (c .before .first-bad .result, (c .before .first-bad .ensures .bad (c .if5 .taken), refl))))),
+    )
+
+slice-aggregate-store-place : tie.Need-slice-aggregate-store-place
+slice-aggregate-store-place c = search needs
+
+store-place-requires : tie.Need-store-place-requires
+store-place-requires c κs = (refl, positive (c .before .before .before .before .before))
+
+slice-aggregate-put-row : tie.Need-slice-aggregate-put-row
+slice-aggregate-put-row c = search needs
+
+put-row-requires : tie.Need-put-row-requires
+put-row-requires c κs =
+    let b = c .before .before .before .before .before in
+    let d = b .before .before .before .before in
+    record {
+      accepted = b .before .first-bad .ensures .sound (b .if5 .left);
+      good = good (e d);
+      natural = subst Natural (sym (c .before .before .before .store-place .ensures)) (stored-natural (start d .args .place) (positive d) (ranged d));
+    }
+
+same-length-6 : tie.Need-same-length-6
+same-length-6 c = search needs
+
+returns-6 : tie.Need-returns-6
+unfolding putTable
+returns-6 c =
     let y = c .before .before .before .before .before .before in
     let b = y .before .before in
-    let d = b .before .before .before in
-    let a = b .before .first-bad .ensures .sound (b .if4 .left) in
+    let f = b .before .before .before in
+    let d = f .before in
+    let a = b .before .first-bad .ensures .sound (b .if5 .left) in
     let w = c .before .before .put-row in
     inr (
       (λ _ n. n (long (first (e d)))),
@@ -134,10 +153,13 @@ returns-5 c =
         inr (
           (λ _ n. positive d n),
           inr (
-            accepted-whole S1024 fnv (now (start d .args .s)) a,
-            (
-              a,
-              subst (λ x. Answers (putAccepted S1024 fnv (now (start d .args .s)) (record { code = now (start d .args .key); place = x })) (meaning (w .result), w .last .0)) (y .store-place .ensures) (w .ensures),
+            (λ _ l. moded f l),
+            inr (
+              accepted-whole S1024 fnv (now (start d .args .s)) a,
+              (
+                a,
+                subst (λ x. Answers (putByMode S1024 fnv (now (start d .args .s)) (start d .args .mode) (record { code = now (start d .args .key); place = x })) (meaning (w .result), w .last .0)) (y .store-place .ensures) (w .ensures),
+              ),
             ),
           ),
         ),
@@ -157,12 +179,14 @@ put-spec =
     negative-requires
     same-length-3
     returns-3
-    first-bad-requires
     same-length-4
     returns-4
+    first-bad-requires
+    same-length-5
+    returns-5
     slice-aggregate-store-place
     store-place-requires
     slice-aggregate-put-row
     put-row-requires
-    same-length-5
-    returns-5)
+    same-length-6
+    returns-6)

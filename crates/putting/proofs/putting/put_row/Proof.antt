@@ -1,14 +1,19 @@
--- `putting::put_row` meets its contract, by the entry of the hash. Assumes nothing.
-use Rattle.store.proofs.Accepted.Reading.{entryOf, Naming, lookup-page}
+-- `putting::put_row` meets its contract, by the entry of the hash and the mode. Assumes nothing.
+use Rattle.store.proofs.Accepted.Reading.{entryOf, Naming, lookup-none, lookup-page}
+use Rattle.store.proofs.Demands.Modes.{is-absent, let-new}
 use Rattle.store.proofs.Accepted.Rules.{opened}
 use Rattle.store.specs.Demands.{sized-1024}
-use Rattle.store.specs.Pages.{S1024, dirDepth, entryAt}
+use Rattle.store.specs.Pages.{S1024, dirDepth, entryAt, rowsHeld}
+use Rattle.store.specs.Tables.{meaning}
+use Rattle.partition.specs.Listing.{placeOf}
+use Rattle.partition.specs.Partition.{Row}
 use Rattle.partition.specs.Bits.{top}
 use Rattle.hash.specs.Fnv.{fnv, fnv-lt}
 use denote.Ref.{now}
 use native.Mathlib.Omega.{arith}
 use Prim.Native.Nat.{ℕ}
 use mathlib.Core.List.{List}
+use mathlib.Core.Option.{none}
 use mathlib.Core.Path.{_≡_, sym, ap, subst, _∙_}
 use borrow.Author.Needs.{needs}
 use Rattle.putting.proofs.putting.put_row.Statement.{statement}
@@ -28,6 +33,13 @@ module _ (b : tie.After-entry-of) where
   entry : b .entry-of .result ≡ entryOf S1024 fnv s key
   entry = b .entry-of .ensures .0 ∙ ap (λ x. entryAt S1024 s (top (dirDepth s) x)) (b .before .before .hash .ensures)
 
+  abbrev row : Row
+  row = record { code = key; place = now (z .args .place) }
+
+  -- an entry of 0: the code is not there
+  unnamed : b .entry-of .result ≡ 0 → placeOf (rowsHeld S1024 s) key ≡ none
+  unnamed e = lookup-none S1024 fnv sized-1024 fnv-lt s (z .pre .accepted) key (sym entry ∙ e)
+
 hash-requires : tie.Need-hash-requires
 hash-requires c κs = search needs
 
@@ -36,16 +48,28 @@ entry-of-requires c κs =
     let z = c .before .before .before .before .before in
     (sized-1024, omega (arith, z .pre .accepted .long .least), opened S1024 fnv (now (z .args .s)) (z .pre .accepted) .page0 .depth)
 
-new-bucket-requires : tie.Need-new-bucket-requires
-new-bucket-requires c κs =
-    let b = c .before .before in
-    (z b .pre, b .before .before .hash .ensures, sym (entry b) ∙ c .before .if1 .taken)
-
 same-length : tie.Need-same-length
 same-length c = search needs
 
 returns : tie.Need-returns
-returns c = search needs
+returns c =
+    let b = c .before .before in
+    is-absent S1024 fnv (s b) (z b .args .mode) (row b) (unnamed b (c .before .if1 .taken)) (c .if2 .taken)
+
+new-bucket-requires : tie.Need-new-bucket-requires
+new-bucket-requires c κs =
+    let b = c .before .before .before in
+    (z b .pre, b .before .before .hash .ensures, sym (entry b) ∙ c .before .before .if1 .taken)
+
+same-length-2 : tie.Need-same-length-2
+same-length-2 c = search needs
+
+returns-2 : tie.Need-returns-2
+returns-2 c =
+    let e = c .before .before .before .before in
+    let b = e .before .before in
+    let w = c .before .before .new-bucket in
+    let-new S1024 fnv (s b) (z b .args .mode) (row b) (unnamed b (e .before .if1 .taken)) (e .if2 .left) (meaning (w .result), w .last .0) (w .ensures)
 
 put-on-requires : tie.Need-put-on-requires
 put-on-requires c κs =
@@ -55,11 +79,11 @@ put-on-requires c κs =
           (lookup-page S1024 fnv sized-1024 fnv-lt (s b) (z b .pre .accepted) (key b) (λ q. c .before .if1 .left (entry b ∙ q)) .0),
     )
 
-same-length-2 : tie.Need-same-length-2
-same-length-2 c = search needs
+same-length-3 : tie.Need-same-length-3
+same-length-3 c = search needs
 
-returns-2 : tie.Need-returns-2
-returns-2 c = search needs
+returns-3 : tie.Need-returns-3
+returns-3 c = search needs
 
 pub put-row-spec : {M : Type 1} → statement M
 put-row-spec =
@@ -67,9 +91,11 @@ put-row-spec =
     (tie.spec
     hash-requires
     entry-of-requires
-    new-bucket-requires
     same-length
     returns
-    put-on-requires
+    new-bucket-requires
     same-length-2
-    returns-2)
+    returns-2
+    put-on-requires
+    same-length-3
+    returns-3)
