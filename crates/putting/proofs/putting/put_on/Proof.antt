@@ -1,16 +1,21 @@
 -- `putting::put_on` meets its contract, by where the code stands. Assumes nothing.
-use Rattle.directory.proofs.OnePage.{lent}
+use Rattle.putting.proofs.Puts.{home-page}
+use Rattle.putting.specs.Put.{newRow, Homed}
+use Rattle.store.proofs.Accepted.Unique.{within}
+use Rattle.store.proofs.Paging.Views.{page-lent}
 use Rattle.store.proofs.Accepted.Reading.{Naming}
 use Rattle.store.specs.Tables.{putAccepted, meaning}
-use Rattle.store.specs.Pages.{S1024, page, dirDepth}
+use Rattle.store.specs.Pages.{size, page, dirDepth}
 use Rattle.partition.specs.Bits.{top}
+use Rattle.partition.specs.declared.Shape.{Shape}
 use Rattle.page.specs.Found.{FoundIn}
 use Rattle.page.specs.Page.{Slotted, Belongs, count, free, code}
-use Rattle.hash.specs.Fnv.{fnv}
+use Rattle.hash.specs.Fnv.{fnv, fnv-lt}
 use Rattle.ground.specs.Ladder.{Answers}
 use denote.Ref.{now}
 use native.Mathlib.Omega.{arith}
-use Prim.Native.Nat.{ℕ, _<_}
+use Prim.Native.Nat.{ℕ, _+_, _*_, _≤_, _<_}
+use lib.ListN.{length}
 use mathlib.Core.List.{List}
 use mathlib.Core.Path.{_≡_, sym, ap, subst, _∙_}
 use borrow.Author.Needs.{needs}
@@ -19,7 +24,10 @@ use Rattle.putting.proofs.putting.put_on.Tie as tie
 
 module _ (a : tie.After-find-code) where
   abbrev z : tie.Start
-  z = a .before .before .before .before .before .before
+  z = a .before .before .before .before .before .before .before .before .before .before
+
+  abbrev S : Shape
+  S = z .args .z
 
   abbrev s : List ℕ
   s = now (z .args .s)
@@ -28,10 +36,10 @@ module _ (a : tie.After-find-code) where
   key = now (z .args .key)
 
   abbrev g : List ℕ
-  g = page S1024 s (z .args .p)
+  g = page S s (z .args .p)
 
   found : FoundIn g key (a .find-code .result)
-  found = subst (λ x. FoundIn x key (a .find-code .result)) (lent s (z .args .p)) (a .find-code .ensures)
+  found = subst (λ x. FoundIn x key (a .find-code .result)) (page-lent S s (z .args .p)) (a .find-code .ensures)
 
 -- the code stands at a slot
 module _ (b : tie.After-found) where
@@ -53,13 +61,24 @@ module _ (b : tie.After-get16) where
   belongs = subst (FoundIn (g a2) (key a2)) (b2 .found2 .given .1) (found a2)
 
   room : b .get16 .result ≡ free (g a2)
-  room = b .get16 .ensures .0 ∙ ap free (lent (s a2) (z a2 .args .p))
+  room = b .get16 .ensures .0 ∙ ap free (page-lent (S a2) (s a2) (z a2 .args .p))
+
+-- the page is there
+module _ (z : tie.Start) where
+  home : Naming (z .args .z) fnv (now (z .args .s)) (top (dirDepth (now (z .args .s))) (fnv (now (z .args .key)))) (z .args .p)
+  home = home-page (z .args .z) fnv fnv-lt (now (z .args .s)) (z .args .p) (now (z .args .key)) (now (z .args .place)) (z .pre .0)
+
+  inside : z .args .p * size (z .args .z) + size (z .args .z) ≤ length (now (z .args .s))
+  inside = within (z .args .z) (now (z .args .s)) (z .args .p) (home .to)
+
+add-size : tie.Need-add-size
+add-size c = omega (arith, inside (c .before .before .before .before .before .before .before))
 
 mul-a : tie.Need-mul-a
-mul-a c = search needs
+mul-a c = omega (arith, inside (c .before .before .before .before .before .before .before))
 
 add-e : tie.Need-add-e
-add-e c = search needs
+add-e c = omega (arith, inside (c .before .before .before .before .before .before .before))
 
 sub-find-code : tie.Need-sub-find-code
 sub-find-code c = search needs
@@ -68,10 +87,10 @@ part-find-code-start : tie.Need-part-find-code-start
 part-find-code-start c = search needs
 
 part-find-code-end : tie.Need-part-find-code-end
-part-find-code-end c = search needs
+part-find-code-end c = omega (arith, inside (c .before .before .before .before .before .before .before .before))
 
 find-code-requires : tie.Need-find-code-requires
-find-code-requires c κs = let z = c .before .before .before .before .before in subst Slotted (sym (lent (now (z .args .s)) (z .args .p))) (z .pre .1 .bytes .rules .rules)
+find-code-requires c κs = let z = c .before .before .before .before .before .before .before .before .before in subst Slotted (sym (page-lent (z .args .z) (now (z .args .s)) (z .args .p))) (home z .bytes .rules .rules)
 
 enum-known-found : tie.Need-enum-known-found
 enum-known-found c = search needs
@@ -79,8 +98,8 @@ enum-known-found c = search needs
 replace-requires : tie.Need-replace-requires
 replace-requires c κs =
     let b = c .before .before in
-    let q = z (a1 b) .pre in
-    (q .0 .accepted, subst (λ x. Naming S1024 fnv (s (a1 b)) (top (dirDepth (s (a1 b))) (fnv x)) (z (a1 b) .args .p)) (sym (at b .1)) (q .1), at b .0, q .0 .natural)
+    let q = z (a1 b) in
+    record { row = subst (λ x. Homed (q .args .z) fnv (s (a1 b)) (q .args .p) x (now (q .args .place))) (sym (at b .1)) (q .pre .0); slot = at b .0 }
 
 enum-known-found-2 : tie.Need-enum-known-found-2
 enum-known-found-2 c = search needs
@@ -92,53 +111,66 @@ part-get16-start : tie.Need-part-get16-start
 part-get16-start c = search needs
 
 part-get16-end : tie.Need-part-get16-end
-part-get16-end c = search needs
+part-get16-end c = omega (arith, inside (c .before .before .before .before .before .before .before .before .before .before .before .before .before .before))
 
 get16-requires : tie.Need-get16-requires
-get16-requires c κs = search needs
+get16-requires c κs = let z = c .before .before .before .before .before .before .before .before .before .before .before .before .before .before .before in rw (page-lent (z .args .z) (now (z .args .s)) (z .args .p)) (omega (arith, home z .bytes .rules .rules .least))
 
 add-if1 : tie.Need-add-if1
 add-if1 c = search needs
 
 insert-new-requires : tie.Need-insert-new-requires
 insert-new-requires c κs =
-    let b = c .before .before in
-    let q = z (a2 b) .pre in (
-      q .0 .accepted,
-      q .1,
-      record {
-        page = q .1 .bytes .rules .rules;
+    let b = c .before .before .before in
+    let q = z (a2 b) .pre in
+    record {
+      row = q .0;
+      fits = record {
+        page = home (z (a2 b)) .bytes .rules .rules;
         belongs = belongs b;
-        natural = q .0 .natural;
-        good = q .0 .good;
-        fits = omega (arith, room b, c .before .if1 .taken);
-      },
-    )
+        natural = q .0 .row .natural;
+        good = q .0 .row .good;
+        fits = omega (arith, room b, c .before .before .if1 .taken);
+      };
+      scratch = q .1 .page;
+    }
 
 same-length : tie.Need-same-length
 same-length c = search needs
+
+same-length-2 : tie.Need-same-length-2
+same-length-2 c = search needs
 
 returns : tie.Need-returns
 returns c = search needs
 
 split-requires : tie.Need-split-requires
 split-requires c κs =
-    let b = c .before .before in
+    let b = c .before .before .before .before .before in
     let q = z (a2 b) .pre in
-    (q .0, q .1, belongs b, omega (arith, room b, c .before .if1 .left))
+    (record { row = q .0; belongs = belongs b; tight = omega (arith, room b, c .before .before .before .before .if1 .left) }, q .1)
 
-same-length-2 : tie.Need-same-length-2
-same-length-2 c = search needs
+same-length-3 : tie.Need-same-length-3
+same-length-3 c = search needs
 
 returns-2 : tie.Need-returns-2
 returns-2 c =
     let b = c .before .before .before .before .before in
     let w = c .before .before .replace in
     let q = z (a1 b) .args in
-    subst (λ x. Answers (putAccepted S1024 fnv (s (a1 b)) (record { code = x; place = now (q .place) })) (meaning (w .result), w .last .0)) (at b .1) (w .ensures)
+    subst (λ x. Answers (putAccepted (q .z) fnv (s (a1 b)) (newRow x (now (q .place)))) (meaning (w .result), w .last .0)) (at b .1) (w .ensures)
 
-same-length-3 : tie.Need-same-length-3
-same-length-3 c = search needs
+same-length-4 : tie.Need-same-length-4
+same-length-4 c = search needs
+
+same-length-5 : tie.Need-same-length-5
+same-length-5 c = search needs
+
+same-length-6 : tie.Need-same-length-6
+same-length-6 c = search needs
+
+same-length-7 : tie.Need-same-length-7
+same-length-7 c = search needs
 
 returns-3 : tie.Need-returns-3
 returns-3 c = search needs
@@ -147,6 +179,7 @@ pub put-on-spec : {M : Type 1} → statement M
 put-on-spec =
     tie.close
     (tie.spec
+    add-size
     mul-a
     add-e
     sub-find-code
@@ -163,9 +196,13 @@ put-on-spec =
     add-if1
     insert-new-requires
     same-length
+    same-length-2
     returns
     split-requires
-    same-length-2
-    returns-2
     same-length-3
+    returns-2
+    same-length-4
+    same-length-5
+    same-length-6
+    same-length-7
     returns-3)
