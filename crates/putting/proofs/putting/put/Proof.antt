@@ -2,6 +2,7 @@
 use Rattle.store.proofs.Accepted.Rules.{accepted-whole}
 use Rattle.store.proofs.Demands.Kept.{three, no-three}
 use Rattle.words.specs.Codes.{GoodCode}
+use Rattle.putting.specs.Put.{newRow}
 use Rattle.store.specs.Tables.{Refusal14, putByMode, putTable, meaning}
 use Rattle.store.specs.Accepted.{GoodLength}
 use Rattle.store.specs.Demands.{sized-1024}
@@ -124,15 +125,27 @@ store-place-requires c κs = (refl, positive (c .before .before .before .before 
 slice-aggregate-put-row : tie.Need-slice-aggregate-put-row
 slice-aggregate-put-row c = search needs
 
+slice-aggregate-put-row-2 : tie.Need-slice-aggregate-put-row-2
+slice-aggregate-put-row-2 c = search needs
+
+slice-aggregate-put-row-3 : tie.Need-slice-aggregate-put-row-3
+slice-aggregate-put-row-3 c = search needs
+
+slice-aggregate-put-row-4 : tie.Need-slice-aggregate-put-row-4
+slice-aggregate-put-row-4 c = search needs
+
 put-row-requires : tie.Need-put-row-requires
 put-row-requires c κs =
-    let b = c .before .before .before .before .before in
-    let d = b .before .before .before .before in
-    record {
-      accepted = b .before .first-bad .ensures .sound (b .if5 .left);
-      good = good (e d);
-      natural = subst Natural (sym (c .before .before .before .store-place .ensures)) (stored-natural (start d .args .place) (positive d) (ranged d));
-    }
+    let b = c .before .before .before .before .before .before .before .before in
+    let d = b .before .before .before .before in (
+      record {
+        sized = sized-1024;
+        accepted = b .before .first-bad .ensures .sound (b .if5 .left);
+        good = good (e d);
+        natural = subst Natural (sym (c .before .before .before .before .before .before .store-place .ensures)) (stored-natural (start d .args .place) (positive d) (ranged d));
+      },
+      record { page = refl; hashes = omega arith; weights = omega arith },
+    )
 
 same-length-6 : tie.Need-same-length-6
 same-length-6 c = search needs
@@ -140,12 +153,12 @@ same-length-6 c = search needs
 returns-6 : tie.Need-returns-6
 unfolding putTable
 returns-6 c =
-    let y = c .before .before .before .before .before .before in
+    let y = c .before .before .before .before .before .before .before .before .before .before .before .before in
     let b = y .before .before in
     let f = b .before .before .before in
     let d = f .before in
     let a = b .before .first-bad .ensures .sound (b .if5 .left) in
-    let w = c .before .before .put-row in
+    let w = c .before .before .before .before .before .put-row in
     inr (
       (λ _ n. n (long (first (e d)))),
       inr (
@@ -158,7 +171,7 @@ returns-6 c =
               accepted-whole S1024 fnv (now (start d .args .s)) a,
               (
                 a,
-                subst (λ x. Answers (putByMode S1024 fnv (now (start d .args .s)) (start d .args .mode) (record { code = now (start d .args .key); place = x })) (meaning (w .result), w .last .0)) (y .store-place .ensures) (w .ensures),
+                subst (λ x. Answers (putByMode S1024 fnv (now (start d .args .s)) (start d .args .mode) (newRow (now (start d .args .key)) x)) (meaning (w .result), w .last .0)) (y .store-place .ensures) (w .ensures),
               ),
             ),
           ),
@@ -187,6 +200,9 @@ put-spec =
     slice-aggregate-store-place
     store-place-requires
     slice-aggregate-put-row
+    slice-aggregate-put-row-2
+    slice-aggregate-put-row-3
+    slice-aggregate-put-row-4
     put-row-requires
     same-length-6
     returns-6)
