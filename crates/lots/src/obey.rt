@@ -5,10 +5,12 @@ ghost use Rattle.store.specs.Accepted.{Accepted};
 ghost use Rattle.store.specs.Demands.{ok};
 ghost use Rattle.store.specs.Pages.{S1024};
 ghost use Rattle.store.specs.Tables.{meaning};
+ghost use Rattle.query.specs.Spots.{OnPage};
 ghost use Rattle.lots.specs.Obeys.{Obeys, Outcomes, Untouched};
 use super::say;
 use crate::Outcome;
 use commands::Command;
+use query::Step;
 use store::Answer;
 use store::Refusal;
 
@@ -72,28 +74,37 @@ fn row(s: &[u8], n: usize) -> Outcome
     said(say::answer(a, &code))
 }
 
-// Row n of an accepted store on a line; whether it could be written.
-fn list_row(s: &[u8], n: usize) -> bool
-    requires { ⌜ Accepted S1024 fnv (now s) ⌝ }
+// The row in slot i of the bucket page p on a line; whether it could be written.
+fn list_row(s: &[u8], p: usize, i: usize) -> bool
+    requires { ⌜ OnPage S1024 (now s) p i ⌝ }
 {
     let mut code = [0u8; 64];
-    let a = query::give_row(s, n, &mut code);
+    let a = query::read_row(s, p, i, &mut code);
     say::answer(a, &code)
 }
 
-// The first n rows of an accepted store, and how many they are.
+// The first n rows of an accepted store in one walk, and how many they are.
 fn list_rows(s: &[u8], n: usize) -> Outcome
     requires { ⌜ Accepted S1024 fnv (now s) ⌝ }
     ensures { λ r. ⌜ Untouched r ⌝ }
 {
+    let mut c = query::cursor_at(s, partition::S1024, 0);
     let mut i = 0;
     while i < n {
-        if !list_row(s, i) {
-            return Outcome::Stopped;
+        match query::next_row(s, partition::S1024, c) {
+            Step::Given(p, slot, next) => {
+                if !list_row(s, p, slot) {
+                    return Outcome::Stopped;
+                }
+                c = next;
+                i += 1;
+            }
+            Step::Done => {
+                return said(say::number(b"rows", i));
+            }
         }
-        i += 1;
     }
-    said(say::number(b"rows", n))
+    said(say::number(b"rows", i))
 }
 
 // Every row. The count checks the store, once for all of them.
