@@ -2,6 +2,7 @@
 ghost use mathlib.Core.Path.{_≡_};
 ghost use Prim.Native.Nat.{_≤_};
 ghost use lib.ListN.{length};
+ghost use Rattle.words.specs.Codes.{GoodCode};
 ghost use Rattle.page.specs.Page.{Slotted};
 use super::show::digits;
 use libc::STDOUT_FILENO;
@@ -10,7 +11,7 @@ use store::Answer;
 
 // A row of place (page, 0, 0) goes where its code belongs, if it is new and fits.
 fn add(bucket: &mut [u8], key: &[u8], page: u8)
-    requires { ⌜ Slotted (now bucket) × (length (now bucket) ≡ 1024) × (1 ≤ length (now key)) × (length (now key) ≤ 64) ⌝ }
+    requires { ⌜ Slotted (now bucket) × (length (now bucket) ≡ 1024) × GoodCode (now key) ⌝ }
     ensures { λ _. ⌜ Slotted (now (bucket .exit)) ⌝ }
 {
     let mut scratch = [0u8; 1024];

@@ -6,6 +6,8 @@ use lib.ListN.{length}
 use Rattle.words.specs.Codes.{GoodCode}
 use Rattle.page.specs.Page.{Belongs, Natural, count, free, code}
 use Rattle.page.specs.Packed.{Fitting}
+use Rattle.page.specs.declared.Place.{Place}
+use Rattle.page.specs.Places.{Negative}
 use Rattle.partition.specs.Bits.{top}
 use Rattle.partition.specs.declared.Shape.{Shape}
 use Rattle.partition.specs.Partition.{Row}
@@ -23,6 +25,12 @@ pub record Puttable (S : Shape) (h : List ℕ → ℕ) (s c pl : List ℕ) : Typ
   pub accepted : Accepted S h s
   pub good : GoodCode c
   pub natural : Natural pl
+
+-- such a row, its place not yet in bytes
+pub record Allowed (S : Shape) (h : List ℕ → ℕ) (s c : List ℕ) (p : Place) : Type 0 where
+  pub accepted : Accepted S h s
+  pub good : GoodCode c
+  pub natural : Negative p → ⊥
 
 -- the directory entry of the hash x names page p
 pub record HomeOf (S : Shape) (s : List ℕ) (x p : ℕ) : Type 0 where

@@ -5,6 +5,7 @@ ghost use Rattle.page.specs.Page.{code};
 ghost use Rattle.store.specs.Pages.{S1024, page};
 ghost use Rattle.store.specs.Tables.{putAccepted, putByMode, putTable, meaning};
 ghost use Rattle.putting.specs.Put.{newRow, Puttable, Homeless, Homed, KnownAt, Insertion, Lent};
+use super::checked::put_allowed;
 use super::split::split;
 use super::vacant::vacant_depth;
 use directory::free_pages;
@@ -149,20 +150,5 @@ pub fn put(s: &mut [u8], key: &[u8], place: page::Place, mode: u64) -> store::An
     if p < s.len() / 1024 {
         return store::Answer::Refused(store::Refusal::BadPage(p));
     }
-    let mut bytes = [0u8; 8];
-    page::store_place(&mut bytes, place);
-    let mut scratch = [0u8; 1024];
-    // A page has at most 78 rows, and here comes one more.
-    let mut hs = [0u32; 79];
-    let mut ns = [0u32; 79];
-    put_row(
-        s,
-        partition::S1024,
-        key,
-        &bytes,
-        mode,
-        &mut scratch,
-        &mut hs,
-        &mut ns,
-    )
+    put_allowed(s, key, place, mode)
 }

@@ -17,6 +17,7 @@ use store::Refusal;
 
 mod spots;
 
+pub use spots::count_rows;
 pub use spots::cursor_at;
 pub use spots::entries_of;
 pub use spots::entry_of;

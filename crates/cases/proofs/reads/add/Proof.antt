@@ -53,8 +53,7 @@ insert-row-requires c κs =
         page = s .pre .0;
         belongs = rw (g .1) at (f .find-code .ensures);
         natural = record { long = refl; page = lit< tt; slot = lit< tt; volume = lit< tt };
-        some = s .pre .2;
-        most = s .pre .3;
+        good = s .pre .2;
         fits = omega arith;
       },
       omega arith,

@@ -1,0 +1,47 @@
+// A put on a store that is known to be accepted: the same table, without another check.
+ghost use Rattle.ground.specs.Ladder.{Answers};
+ghost use Rattle.hash.specs.Fnv.{fnv};
+ghost use Rattle.page.specs.Places.{stored};
+ghost use Rattle.store.specs.Pages.{S1024};
+ghost use Rattle.store.specs.Accepted.{Accepted};
+ghost use Rattle.store.specs.Demands.{Mode};
+ghost use Rattle.store.specs.Tables.{putByMode, putTable, meaning};
+ghost use Rattle.putting.specs.Put.{newRow, Allowed};
+use super::putting::put_row;
+
+// A code that is one gets a place with no negative part: the place's bytes and the room to work in are lent.
+pub fn put_allowed(s: &mut [u8], key: &[u8], place: page::Place, mode: u64) -> store::Answer
+    requires { ⌜ Allowed S1024 fnv (now s) (now key) place ⌝ }
+    ensures { λ r. ⌜ Answers (putByMode S1024 fnv (now (s .entry)) mode (newRow (now (key .entry)) (stored place))) (meaning r, now (s .exit)) ⌝ }
+{
+    let mut bytes = [0u8; 8];
+    page::store_place(&mut bytes, place);
+    let mut scratch = [0u8; 1024];
+    // A page has at most 78 rows, and here comes one more.
+    let mut hs = [0u32; 79];
+    let mut ns = [0u32; 79];
+    put_row(
+        s,
+        partition::S1024,
+        key,
+        &bytes,
+        mode,
+        &mut scratch,
+        &mut hs,
+        &mut ns,
+    )
+}
+
+// A code gets a place, if it is what the mode expects.
+pub fn put_checked(s: &mut [u8], key: &[u8], place: page::Place, mode: u64) -> store::Answer
+    requires { ⌜ Accepted S1024 fnv (now s) × Mode mode ⌝ }
+    ensures { λ r. ⌜ Answers (putTable S1024 fnv (now (s .entry)) (now (key .entry)) place mode) (meaning r, now (s .exit)) ⌝ }
+{
+    if !store::good_code(key) {
+        return store::Answer::Refused(store::Refusal::BadCode);
+    }
+    if page::negative(place) {
+        return store::Answer::Refused(store::Refusal::BadPlace);
+    }
+    put_allowed(s, key, place, mode)
+}
