@@ -86,5 +86,6 @@ pub fn remove_known(s: &mut [u8], key: &[u8], known: bool) -> Answer
     if !store::good_code(key) {
         return Answer::Refused(Refusal::BadCode);
     }
-    removal::remove_row(s, key)
+    let mut scratch = [0u8; 1024];
+    removal::remove_row(s, partition::S1024, key, &mut scratch)
 }

@@ -2,10 +2,11 @@
 use borrow.Author.Needs.{needs}
 use borrow.Author.Tests.{not-true, not-false}
 use denote.Ref.{now}
+use mathlib.Core.Path.{refl}
 use Rattle.ground.proofs.Tests.{says-true, says-false}
 use Rattle.hash.specs.Fnv.{fnv}
 use Rattle.store.specs.Accepted.{Accepted}
-use Rattle.store.specs.Demands.{GoodCode}
+use Rattle.store.specs.Demands.{GoodCode, sized-1024}
 use Rattle.store.specs.Pages.{S1024}
 use Rattle.store.proofs.Demands.Unchecked.{removes, removes-3}
 use Rattle.lots.proofs.known.remove_known.Statement.{statement}
@@ -38,8 +39,11 @@ good-code-requires c κs = search needs
 returns-2 : tie.Need-returns-2
 returns-2 c = removes-3 S1024 fnv _ (sound (c .before .before)) _ (uncoded c)
 
+slice-aggregate-remove-row : tie.Need-slice-aggregate-remove-row
+slice-aggregate-remove-row c = search needs
+
 remove-row-requires : tie.Need-remove-row-requires
-remove-row-requires c κs = sound (c .before .before .before)
+remove-row-requires c κs = (record { sized = sized-1024; long = refl }, sound (c .before .before .before .before))
 
 same-length-2 : tie.Need-same-length-2
 same-length-2 c = search needs
@@ -56,6 +60,7 @@ remove-known-spec =
     returns
     good-code-requires
     returns-2
+    slice-aggregate-remove-row
     remove-row-requires
     same-length-2
     returns-3)
