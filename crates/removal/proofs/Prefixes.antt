@@ -45,7 +45,7 @@ within-page h j v g T e = T .rules (λ z. untrue (sym (ap (within h j v) (read-f
 
 -- a sound page may be tested for any prefix that a bucket can have
 pub testable : (S : Shape) → Sized S → (g : List ℕ) (j : ℕ) → SoundPage S g → length g ≡ size S → j ≤ S .deepest → Testable g j
-testable S sized g j w l b = record { there = omega (arith, l); rules = used-page S w; bits = omega (arith, b, twelve S sized) }
+testable S sized g j w l b = record { least = omega (arith, l, sized .least); rules = used-page S w; bits = omega (arith, b, twelve S sized) }
 
 -- page p has the size's bytes
 pub page-whole : (S : Shape) (s : List ℕ) (p : ℕ) → p * size S + size S ≤ length s → length (page S s p) ≡ size S

@@ -97,10 +97,10 @@ pub record Emptied (S : Shape) (h : List ℕ → ℕ) (s : List ℕ) (n j v p : 
   pub below : (q : ℕ) → 2 ≤ q → q < p → page S t q ≡ page S s q
   pub from : (q : ℕ) → p ≤ q → q < n → page S t q ≡ pick (isOf S h j v s q) (replicate (size S) 0) (page S s q)
 
--- a page of the size, lent to gather rows on
+-- a page of the size, all zero, lent to gather rows on
 pub record Scratch (S : Shape) (p : List ℕ) : Type 0 where
   pub sized : Sized S
-  pub long : length p ≡ size S
+  pub blank : p ≡ replicate (size S) 0
 
 -- rows of another code than c to join, and a page of the prefix to hold them
 pub record Joinable (S : Shape) (h : List ℕ → ℕ) (s : List ℕ) (n j v : ℕ) (c : List ℕ) : Type 0 where

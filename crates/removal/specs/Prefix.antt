@@ -13,7 +13,7 @@ use Rattle.store.specs.Accepted.{Accepted}
 
 -- a page that is free or a bucket page, and a prefix of no more bits than the largest size has
 pub record Testable (g : List ℕ) (j : ℕ) : Type 0 where
-  pub there : 0 < length g
+  pub least : 16 ≤ length g
   pub rules : (byte g 0 ≡ 0 → ⊥) → BucketPage g
   pub bits : j ≤ 12
 

@@ -120,10 +120,11 @@ fn clear_all(s: &mut [u8], z: Shape, n: usize, j: u32, v: u64) -> usize
     low
 }
 
-// The rows of the prefix of another code go packed into the lowest-numbered of its pages, and the others are cleared; they are gathered on a page lent.
+// The rows of the prefix of another code go packed into the lowest-numbered of its pages, and the others are cleared; they are gathered on a page lent, which comes back as it was.
 pub fn join(s: &mut [u8], z: Shape, n: usize, j: u32, v: u64, key: &[u8], scratch: &mut [u8])
     requires { ⌜ Scratch z (now scratch) × Joinable z fnv (now s) n j v (now key) ⌝ }
-    ensures { λ _. ⌜ Rejoined z fnv (now (s .entry)) n j v (now (key .entry)) (now (s .exit)) ⌝ }
+    ensures wrote { λ _. ⌜ Rejoined z fnv (now (s .entry)) n j v (now (key .entry)) (now (s .exit)) ⌝ }
+    ensures lent { λ _. ⌜ now (scratch .exit) ≡ now (scratch .entry) ⌝ }
 {
     page::new_page(scratch, j as u8);
     gather(scratch, s, z, n, j, v, key);
@@ -132,4 +133,5 @@ pub fn join(s: &mut [u8], z: Shape, n: usize, j: u32, v: u64, key: &[u8], scratc
     let a = low * size;
     let e = a + size;
     page::pack_into(&mut s[a..e], scratch);
+    page::clear_page(scratch);
 }

@@ -1,4 +1,5 @@
 // A row taken out of an accepted store. Over any page shape; the public call takes pages of 1,024 bytes.
+ghost use mathlib.Core.Path.{_≡_};
 ghost use Rattle.ground.specs.Ladder.{Answers};
 ghost use Rattle.hash.specs.Fnv.{fnv};
 ghost use Rattle.store.specs.Pages.{S1024, contents};
@@ -16,7 +17,8 @@ use query::Spot;
 // The row of the code, which is that of slot i of page p, goes: its page loses the record, is cleared, or is joined with others.
 fn take_out(s: &mut [u8], z: Shape, p: usize, i: usize, key: &[u8], scratch: &mut [u8])
     requires { ⌜ Scratch z (now scratch) × Leaving z fnv (now s) p i (now key) ⌝ }
-    ensures { λ _. ⌜ Becomes z fnv (now (s .entry)) (removed z fnv (contents z (now (s .entry))) (now (key .entry))) (now (s .exit)) ⌝ }
+    ensures wrote { λ _. ⌜ Becomes z fnv (now (s .entry)) (removed z fnv (contents z (now (s .entry))) (now (key .entry))) (now (s .exit)) ⌝ }
+    ensures lent { λ _. ⌜ now (scratch .exit) ≡ now (scratch .entry) ⌝ }
 {
     let size = 8 + z.capacity;
     let n = s.len() / size;
@@ -38,10 +40,11 @@ fn take_out(s: &mut [u8], z: Shape, p: usize, i: usize, key: &[u8], scratch: &mu
     page::remove_slot(&mut s[a..e], i);
 }
 
-// Remove on an accepted store; a page is lent, on which rows that join are gathered.
+// Remove on an accepted store; a page is lent, on which rows that join are gathered, and comes back as it was.
 pub fn remove_row(s: &mut [u8], z: Shape, key: &[u8], scratch: &mut [u8]) -> store::Answer
     requires { ⌜ Scratch z (now scratch) × Accepted z fnv (now s) ⌝ }
-    ensures { λ r. ⌜ Answers (removeAccepted z fnv (now (s .entry)) (now (key .entry))) (meaning r, now (s .exit)) ⌝ }
+    ensures answers { λ r. ⌜ Answers (removeAccepted z fnv (now (s .entry)) (now (key .entry))) (meaning r, now (s .exit)) ⌝ }
+    ensures lent { λ _. ⌜ now (scratch .exit) ≡ now (scratch .entry) ⌝ }
 {
     match query::find_row(s, z, key) {
         Spot::Nowhere => store::Answer::Refused(store::Refusal::NoCode),

@@ -49,7 +49,7 @@ same-length-2 : tie.Need-same-length-2
 same-length-2 c = search needs
 
 returns-3 : tie.Need-returns-3
-returns-3 c = let e = c .before .before .before .before in removes S1024 fnv _ (sound (e .before .before)) _ _ (coded e) (c .before .before .remove-row .ensures)
+returns-3 c = let e = c .before .before .before .before in removes S1024 fnv _ (sound (e .before .before)) _ _ (coded e) (c .before .before .remove-row .ensures .0)
 
 pub remove-known-spec : {M : Type 1} → statement M
 remove-known-spec =

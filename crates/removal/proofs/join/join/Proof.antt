@@ -4,7 +4,7 @@ use mathlib.Core.List.{List}
 use mathlib.Core.Path.{_≡_, refl, sym, ap, subst, _∙_}
 use Prim.Native.Nat.{ℕ, _+_, _-_, _*_, _≤_, _<_}
 use native.Mathlib.Omega.{arith}
-use lib.ListN.{length}
+use lib.ListN.{length, replicate, length-replicate}
 use denote.Ref.{now}
 use Rattle.hash.specs.Fnv.{fnv}
 use Rattle.partition.specs.declared.Shape.{Shape}
@@ -32,6 +32,9 @@ module _ (z : tie.Start) where
   prefixed : Prefixed S s (z .args .n) (z .args .j)
   prefixed = record { sized = z .pre .0 .sized; sound = z .pre .1 .sound; bits = z .pre .1 .bits }
 
+  lent-long : length (now (z .args .scratch)) ≡ size S
+  lent-long = ap length (z .pre .0 .blank) ∙ length-replicate {A = ℕ} (size S) 0
+
   -- the lowest-numbered page of the prefix is there
   bound : 2 + find (within fnv (z .args .j) (z .args .v)) (contents S s) < z .args .n
   bound = low-within S fnv s (z .args .n) (z .args .j) (z .args .v) key (z .pre .1)
@@ -50,18 +53,18 @@ module _ (c : tie.After-clear-all) where
       omega (arith, c .clear-all .ensures .0 .long, z₁ .pre .1 .sound .long, apart (size (S z₁)) low (z₁ .args .n) m)
 
   gathered-long : length (c .before .before .before .before .gather .last .0) ≡ size (S z₁)
-  gathered-long = c .before .before .before .before .gather .ensures .long ∙ c .before .before .before .before .before .before .before .before .before .new-page .ensures .long ∙ z₁ .pre .0 .long
+  gathered-long = c .before .before .before .before .gather .ensures .long ∙ c .before .before .before .before .before .before .before .before .before .new-page .ensures .long ∙ lent-long z₁
 
 cast-new-page : tie.Need-cast-new-page
 cast-new-page c = let z = c .before .before .before .before in record { fits = omega (arith, z .pre .1 .bits, twelve (S z) (z .pre .0 .sized)) }
 
 new-page-requires : tie.Need-new-page-requires
-new-page-requires c κs = let w = c .before .before .before .before .pre .0 in (omega (arith, w .long, w .sized .least), omega (arith, w .long, w .sized .most))
+new-page-requires c κs = let z = c .before .before .before .before in (omega (arith, lent-long z, z .pre .0 .sized .least), omega (arith, lent-long z, z .pre .0 .sized .most))
 
 gather-requires : tie.Need-gather-requires
 gather-requires c κs = let z = c .before .before .before .before .before .before .before .before .before in
     let rs = othersIn fnv (z .args .j) (z .args .v) (key z) (contents (S z) (s z)) in
-    (prefixed z, fresh-taking rs (c .before .before .before .before .new-page .ensures) (subst (λ m. Housed m rs) (sym (z .pre .0 .long)) (z .pre .1 .housed)))
+    (prefixed z, fresh-taking rs (c .before .before .before .before .new-page .ensures) (subst (λ m. Housed m rs) (sym (lent-long z)) (z .pre .1 .housed)))
 
 clear-all-requires : tie.Need-clear-all-requires
 clear-all-requires c κs = prefixed (c .before .before .before .before .before .before .before .before .before .before .before .before .before)
@@ -89,22 +92,27 @@ pack-into-requires c κs = let k = c .before .before .before .before .before in
     let u = k .clear-all .last .0 in
     rw (page-lent (S (z₁ k)) u (low k)) (k .before .before .before .before .gather .ensures .tight .page, page-whole (S (z₁ k)) u (low k) (there k) ∙ sym (gathered-long k))
 
+clear-page-requires : tie.Need-clear-page-requires
+clear-page-requires c κs = search needs
+
 same-length : tie.Need-same-length
 same-length c = search needs
 
 same-length-2 : tie.Need-same-length-2
-same-length-2 c = search needs
+same-length-2 c = let u = c .before .before .before .before .before .before .before .before .before .before .before .before in ap length (c .before .before .clear-page .ensures) ∙ length-replicate {A = ℕ} _ 0 ∙ gathered-long u ∙ sym (lent-long (z₁ u))
 
 returns : tie.Need-returns
-returns c = let u = c .before .before .before .before .before .before .before .before in
+returns c = let u = c .before .before .before .before .before .before .before .before .before .before .before .before in
     let z = z₁ u in
     let t = u .clear-all .last .0 in
-    let k = c .before .before .pack-into in
-    let a = low u * size (S z) in
-    subst (Rejoined (S z) fnv (s z) (z .args .n) (z .args .j) (z .args .v) (key z))
-    (sym (page-back (S z) t (k .last .0) (low u) a (a + size (S z)) refl refl ∙ ap (λ p. setPage (S z) t p (k .last .0)) (u .clear-all .ensures .1)))
-    (rejoined (S z) fnv (s z) (z .args .n) (z .args .j) (z .args .v) (key z) (z .pre .1) (z .pre .0 .long)
-    (u .before .before .before .before .before .before .before .before .before .new-page .ensures) (u .before .before .before .before .gather .ensures) (u .clear-all .ensures .0) (k .ensures))
+    let k = c .before .before .before .before .before .before .pack-into in
+    let a = low u * size (S z) in (
+      subst (Rejoined (S z) fnv (s z) (z .args .n) (z .args .j) (z .args .v) (key z))
+          (sym (page-back (S z) t (k .last .0) (low u) a (a + size (S z)) refl refl ∙ ap (λ p. setPage (S z) t p (k .last .0)) (u .clear-all .ensures .1)))
+          (rejoined (S z) fnv (s z) (z .args .n) (z .args .j) (z .args .v) (key z) (z .pre .1) (lent-long z)
+          (u .before .before .before .before .before .before .before .before .before .new-page .ensures) (u .before .before .before .before .gather .ensures) (u .clear-all .ensures .0) (k .ensures)),
+      c .before .before .clear-page .ensures ∙ ap (λ m. replicate m 0) (gathered-long u) ∙ sym (z .pre .0 .blank),
+    )
 
 pub join-spec : {M : Type 1} → statement M
 join-spec =
@@ -121,6 +129,7 @@ join-spec =
     part-pack-into-start
     part-pack-into-end
     pack-into-requires
+    clear-page-requires
     same-length
     same-length-2
     returns)

@@ -24,7 +24,7 @@ sub-needs-at-most : tie.Need-sub-needs-at-most Inv-loop μ-loop
 sub-needs-at-most c = omega arith
 
 add-needs-at-most : tie.Need-add-needs-at-most Inv-loop μ-loop
-add-needs-at-most c = let z = c .before .before .before .before in omega (arith, z .pre .0 .most, z .pre .1 .one)
+add-needs-at-most c = let z = c .before .before .before .before in omega (arith, z .pre .0, z .pre .1 .one)
 
 needs-at-most-requires : tie.Need-needs-at-most-requires Inv-loop μ-loop
 needs-at-most-requires c κs = let z = c .before .before .before .before in

@@ -70,7 +70,7 @@ slice-aggregate-remove-row : tie.Need-slice-aggregate-remove-row
 slice-aggregate-remove-row c = search needs
 
 remove-row-requires : tie.Need-remove-row-requires
-remove-row-requires c κs = (record { sized = sized-1024; long = refl }, c .before .before .before .first-bad .ensures .sound (c .before .before .if3 .left))
+remove-row-requires c κs = (record { sized = sized-1024; blank = refl }, c .before .before .before .first-bad .ensures .sound (c .before .before .if3 .left))
 
 same-length-4 : tie.Need-same-length-4
 same-length-4 c = search needs
@@ -81,7 +81,7 @@ returns-4 c =
     let b = c .before .before .before .before .before .before in
     let d = b .before .before .before in
     let a = b .before .first-bad .ensures .sound (b .if3 .left) in
-    inr ((λ _ n. n (long (earlier d))), inr ((λ _ r. no-three _ (good d) r), inr (accepted-whole S1024 fnv (now (z (earlier d) .args .s)) a, (a, c .before .before .before .remove-row .ensures))))
+    inr ((λ _ n. n (long (earlier d))), inr ((λ _ r. no-three _ (good d) r), inr (accepted-whole S1024 fnv (now (z (earlier d) .args .s)) a, (a, c .before .before .before .remove-row .ensures .0))))
 
 pub remove-spec : {M : Type 1} → statement M
 remove-spec =

@@ -90,7 +90,7 @@ same-length c = search needs
 returns : tie.Need-returns
 returns c = let z = c .before .before .before .before .before .before .before in
     let w = subst (λ (r : Spot). StandsAt (z .args .z) (now (z .args .s)) (now (z .args .key)) r) (c .enum-told .given .1) (c .before .before .find-row .ensures) in
-    inr ((λ _. none-some w), refl)
+    (inr ((λ _. none-some w), refl), refl)
 
 same-length-2 : tie.Need-same-length-2
 same-length-2 c = search needs
@@ -101,7 +101,7 @@ same-length-3 c = search needs
 returns-2 : tie.Need-returns-2
 returns-2 c = let d = c .before .before .before .before .before .before .before .before .before .before .before .before in
     let old = c .before .before .before .before .before .before .before .read-place .ensures ∙ ap (λ g. Places.place (place g (i d))) (page-lent (S d) (s d) (p d)) in
-    inl (place (page (S d) (s d) (p d)) (i d), (stands d .2, (ap found old, c .before .before .before .before .take-out .ensures)))
+    (inl (place (page (S d) (s d) (p d)) (i d), (stands d .2, (ap found old, c .before .before .before .before .take-out .ensures .0))), c .before .before .before .before .take-out .ensures .1)
 
 pub remove-row-spec : {M : Type 1} → statement M
 remove-row-spec =

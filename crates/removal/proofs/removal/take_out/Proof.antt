@@ -179,7 +179,7 @@ join-requires c κs = let b = c .before .before .before .before in
 
 settle-requires : tie.Need-settle-requires
 settle-requires c κs =
-    let t = c .before .before .before .before .before .join .ensures in
+    let t = c .before .before .before .before .before .join .ensures .0 in
     let z = z₁ (c .before .before .before .before .before .before .before .before .before .before) in
     let P = sound z in
     (sized z, record { long = t .long ∙ P .long; least = P .least; most = P .most; pages = t .sound })
@@ -196,11 +196,13 @@ returns c = let b = c .before .before .before .before .before .before .before .b
     let t = c .before .before .before .before .before .before .before .before .join in
     let v = c .before .before .before .before .before .before .before .before .before .before .top-bits in
     let l = less b (c .before .before .before .before .before .before .before .before .before .before .before .before .if1 .taken) in
-    let R = subst (λ v. Rejoined (S z) fnv (s z) (n z) (j b) v (key z) (t .last .0)) (bits b (v .result) (v .ensures)) (t .ensures) in
-    settles (S z) (sized z) fnv fnv-lt (s z) (p z) (z .args .i) (key z) (L z) (j b) (fits b)
-    (join-written (S z) (sized z) fnv fnv-lt (s z) (p z) (z .args .i) (key z) (L z) (j b) (fits b) l R)
-    (join-holds (S z) (sized z) fnv fnv-lt (s z) (p z) (z .args .i) (key z) (L z) (j b) (fits b) l R)
-    (c .before .before .settle .ensures) (λ m. (c .slice-known6 .given m) .fits)
+    let R = subst (λ v. Rejoined (S z) fnv (s z) (n z) (j b) v (key z) (t .last .0)) (bits b (v .result) (v .ensures)) (t .ensures .0) in (
+      settles (S z) (sized z) fnv fnv-lt (s z) (p z) (z .args .i) (key z) (L z) (j b) (fits b)
+          (join-written (S z) (sized z) fnv fnv-lt (s z) (p z) (z .args .i) (key z) (L z) (j b) (fits b) l R)
+          (join-holds (S z) (sized z) fnv fnv-lt (s z) (p z) (z .args .i) (key z) (L z) (j b) (fits b) l R)
+          (c .before .before .settle .ensures) (λ m. (c .slice-known6 .given m) .fits),
+      t .ensures .1,
+    )
 
 sub-get16 : tie.Need-sub-get16
 sub-get16 c = search needs
@@ -244,9 +246,11 @@ returns-2 c = let d = c .before .before .before .before .before .before .before 
     let z = z₂ d in
     let one : d .get16 .result ≡ 1 = omega (arith, c .before .before .before .before .before .before .before .before .if2 .taken) in
     let w = c .before .before .before .before .before .before .clear-page in
-    let u = c .before .before .settle2 .last .0 in
-    settles (S z) (sized z) fnv fnv-lt (s z) (p z) (z .args .i) (key z) (L z) (j (b₂ d)) (fits (b₂ d)) (cleared d one) (cleared-holds d one)
-    (subst (λ y. Directed (S z) fnv y (deepestIn (contents (S z) y)) (n z) u) (blank z (w .last .0) (w .ensures)) (c .before .before .settle2 .ensures)) (λ m. (c .slice-known8 .given m) .fits)
+    let u = c .before .before .settle2 .last .0 in (
+      settles (S z) (sized z) fnv fnv-lt (s z) (p z) (z .args .i) (key z) (L z) (j (b₂ d)) (fits (b₂ d)) (cleared d one) (cleared-holds d one)
+          (subst (λ y. Directed (S z) fnv y (deepestIn (contents (S z) y)) (n z) u) (blank z (w .last .0) (w .ensures)) (c .before .before .settle2 .ensures)) (λ m. (c .slice-known8 .given m) .fits),
+      refl,
+    )
 
 sub-remove-slot : tie.Need-sub-remove-slot
 sub-remove-slot c = search needs
@@ -269,9 +273,11 @@ returns-3 c = let d = c .before .before .before .before .before in
     let z = z₂ d in
     let r = c .before .before .remove-slot in
     let R : Removed (g z) (z .args .i) (r .last .0) = rw (page-lent (S z) (s z) (p z)) at (r .ensures) in
-    let two : 2 ≤ count (g z) = omega (arith, counted d, c .before .before .before .before .if2 .left, L z .rules .some) in
-    subst (Becomes (S z) fnv (s z) (then z)) (sym (back z (r .last .0)))
-    (loses (S z) (sized z) fnv fnv-lt (s z) (p z) (z .args .i) (key z) (L z) (j (b₂ d)) (fits (b₂ d)) (own d) two (r .last .0) R (λ m. subst (λ y. byte y m < 256) (back z (r .last .0)) ((c .slice-known9 .given m) .fits)))
+    let two : 2 ≤ count (g z) = omega (arith, counted d, c .before .before .before .before .if2 .left, L z .rules .some) in (
+      subst (Becomes (S z) fnv (s z) (then z)) (sym (back z (r .last .0)))
+          (loses (S z) (sized z) fnv fnv-lt (s z) (p z) (z .args .i) (key z) (L z) (j (b₂ d)) (fits (b₂ d)) (own d) two (r .last .0) R (λ m. subst (λ y. byte y m < 256) (back z (r .last .0)) ((c .slice-known9 .given m) .fits))),
+      refl,
+    )
 
 pub take-out-spec : {M : Type 1} → statement M
 take-out-spec =
