@@ -4,8 +4,8 @@ ghost use Rattle.hash.specs.Fnv.{fnv};
 ghost use Rattle.page.specs.Places.{stored};
 ghost use Rattle.store.specs.Pages.{S1024};
 ghost use Rattle.store.specs.Accepted.{Accepted};
-ghost use Rattle.store.specs.Demands.{Mode};
-ghost use Rattle.store.specs.Tables.{putByMode, putTable, meaning};
+ghost use Rattle.store.specs.Demands.{put, Made, Mode};
+ghost use Rattle.store.specs.Tables.{putByMode, meaning};
 ghost use Rattle.putting.specs.Put.{newRow, Allowed};
 use super::putting::put_row;
 
@@ -35,7 +35,7 @@ pub fn put_allowed(s: &mut [u8], key: &[u8], place: page::Place, mode: u64) -> s
 // A code gets a place, if it is what the mode expects.
 pub fn put_checked(s: &mut [u8], key: &[u8], place: page::Place, mode: u64) -> store::Answer
     requires { ⌜ Accepted S1024 fnv (now s) × Mode mode ⌝ }
-    ensures { λ r. ⌜ Answers (putTable S1024 fnv (now (s .entry)) (now (key .entry)) place mode) (meaning r, now (s .exit)) ⌝ }
+    ensures { λ r. ⌜ Made S1024 fnv (put (now (key .entry)) place mode) (now (s .entry)) (meaning r) (now (s .exit)) ⌝ }
 {
     if !store::good_code(key) {
         return store::Answer::Refused(store::Refusal::BadCode);
