@@ -1,11 +1,13 @@
 // A row put on an accepted store.
+ghost use mathlib.Core.Path.{_≡_};
+ghost use lib.ListN.{length};
 ghost use Rattle.ground.specs.Ladder.{Answers};
 ghost use Rattle.hash.specs.Fnv.{fnv};
 ghost use Rattle.page.specs.Page.{code};
-ghost use Rattle.store.specs.Pages.{S1024, page};
+ghost use Rattle.store.specs.Pages.{S1024, size, page};
 ghost use Rattle.store.specs.Tables.{putAccepted, putTable, meaning};
-ghost use Rattle.putting.specs.Put.{newRow, Puttable, Homeless, Homed, KnownAt, Insertion, Lent};
-use super::split::split;
+ghost use Rattle.putting.specs.Put.{newRow, Puttable, Homeless, Homed, KnownAt, Insertion};
+use super::split::split_lent;
 use super::vacant::vacant_depth;
 use directory::free_pages;
 use directory::lowest_free;
@@ -25,7 +27,7 @@ fn replace(s: &mut [u8], z: Shape, p: usize, i: usize, place: &[u8]) -> store::A
     store::Answer::Replaced(old)
 }
 
-// A new code goes to slot i of page p, in which it fits.
+// A new code goes to slot i of page p, in which it fits; scratch is a page to work in.
 fn insert_new(
     s: &mut [u8],
     z: Shape,
@@ -35,7 +37,7 @@ fn insert_new(
     place: &[u8],
     scratch: &mut [u8],
 ) -> store::Answer
-    requires { ⌜ Insertion z fnv (now s) p i (now key) (now place) (now scratch) ⌝ }
+    requires { ⌜ Insertion z fnv (now s) p i (now key) (now place) × (length (now scratch) ≡ size z) ⌝ }
     ensures { λ r. ⌜ Answers (putAccepted z fnv (now (s .entry)) (newRow (now (key .entry)) (now (place .entry)))) (meaning r, now (s .exit)) ⌝ }
 {
     let size = 8 + z.capacity;
@@ -43,6 +45,27 @@ fn insert_new(
     let e = a + size;
     page::insert_row(&mut s[a..e], i, key, place, scratch);
     store::Answer::New
+}
+
+// The same, with a page to work in: of 1,024 bytes where the pages are no longer, so that these pay for no more, else of the largest size.
+fn insert_lent(
+    s: &mut [u8],
+    z: Shape,
+    p: usize,
+    i: usize,
+    key: &[u8],
+    place: &[u8],
+) -> store::Answer
+    requires { ⌜ Insertion z fnv (now s) p i (now key) (now place) ⌝ }
+    ensures { λ r. ⌜ Answers (putAccepted z fnv (now (s .entry)) (newRow (now (key .entry)) (now (place .entry)))) (meaning r, now (s .exit)) ⌝ }
+{
+    let size = 8 + z.capacity;
+    if size <= 1024 {
+        let mut scratch = [0u8; 1024];
+        return insert_new(s, z, p, i, key, place, &mut scratch[0..size]);
+    }
+    let mut scratch = [0u8; 16384];
+    insert_new(s, z, p, i, key, place, &mut scratch[0..size])
 }
 
 // No bucket holds the hash x of the code: a new one takes the lowest free page.
@@ -66,17 +89,8 @@ fn new_bucket(s: &mut [u8], z: Shape, x: u32, key: &[u8], place: &[u8]) -> store
 }
 
 // Page p holds the hash of the code.
-fn put_on(
-    s: &mut [u8],
-    z: Shape,
-    p: usize,
-    key: &[u8],
-    place: &[u8],
-    scratch: &mut [u8],
-    hs: &mut [u32],
-    ns: &mut [u32],
-) -> store::Answer
-    requires { ⌜ Homed z fnv (now s) p (now key) (now place) × Lent z (now scratch) (now hs) (now ns) ⌝ }
+fn put_on(s: &mut [u8], z: Shape, p: usize, key: &[u8], place: &[u8]) -> store::Answer
+    requires { ⌜ Homed z fnv (now s) p (now key) (now place) ⌝ }
     ensures { λ r. ⌜ Answers (putAccepted z fnv (now (s .entry)) (newRow (now (key .entry)) (now (place .entry)))) (meaning r, now (s .exit)) ⌝ }
 {
     let size = 8 + z.capacity;
@@ -88,24 +102,16 @@ fn put_on(
         page::Found::Absent(i) => {
             let room = words::get16(&s[a..e], 6);
             if 12 + key.len() <= room {
-                return insert_new(s, z, p, i, key, place, scratch);
+                return insert_lent(s, z, p, i, key, place);
             }
-            split(s, z, p, i, key, place, scratch, hs, ns)
+            split_lent(s, z, p, i, key, place)
         }
     }
 }
 
 // The row on an accepted store.
-pub fn put_row(
-    s: &mut [u8],
-    z: Shape,
-    key: &[u8],
-    place: &[u8],
-    scratch: &mut [u8],
-    hs: &mut [u32],
-    ns: &mut [u32],
-) -> store::Answer
-    requires { ⌜ Puttable z fnv (now s) (now key) (now place) × Lent z (now scratch) (now hs) (now ns) ⌝ }
+pub fn put_row(s: &mut [u8], z: Shape, key: &[u8], place: &[u8]) -> store::Answer
+    requires { ⌜ Puttable z fnv (now s) (now key) (now place) ⌝ }
     ensures { λ r. ⌜ Answers (putAccepted z fnv (now (s .entry)) (newRow (now (key .entry)) (now (place .entry)))) (meaning r, now (s .exit)) ⌝ }
 {
     let x = hash::hash(key);
@@ -113,7 +119,7 @@ pub fn put_row(
     if p == 0 {
         return new_bucket(s, z, x, key, place);
     }
-    put_on(s, z, p, key, place, scratch, hs, ns)
+    put_on(s, z, p, key, place)
 }
 
 // A code gets a place.
@@ -135,17 +141,5 @@ pub fn put(s: &mut [u8], key: &[u8], place: page::Place) -> store::Answer
     }
     let mut bytes = [0u8; 8];
     page::store_place(&mut bytes, place);
-    let mut scratch = [0u8; 1024];
-    // A page has at most 78 rows, and here comes one more.
-    let mut hs = [0u32; 79];
-    let mut ns = [0u32; 79];
-    put_row(
-        s,
-        partition::S1024,
-        key,
-        &bytes,
-        &mut scratch,
-        &mut hs,
-        &mut ns,
-    )
+    put_row(s, partition::S1024, key, &bytes)
 }

@@ -14,7 +14,6 @@ use Rattle.hash.specs.Fnv.{fnv}
 use Rattle.ground.proofs.Tests.{says-true, says-false}
 use Rattle.ground.specs.Ladder.{Answers}
 use denote.Ref.{now}
-use native.Mathlib.Omega.{arith}
 use mathlib.Core.Path.{refl, sym, subst}
 use mathlib.Core.Logic.{inl, inr}
 use borrow.Author.Tests.{not-true, not-false}
@@ -108,27 +107,16 @@ store-place-requires c κs = (refl, positive (c .before .before .before .before)
 slice-aggregate-put-row : tie.Need-slice-aggregate-put-row
 slice-aggregate-put-row c = search needs
 
-slice-aggregate-put-row-2 : tie.Need-slice-aggregate-put-row-2
-slice-aggregate-put-row-2 c = search needs
-
-slice-aggregate-put-row-3 : tie.Need-slice-aggregate-put-row-3
-slice-aggregate-put-row-3 c = search needs
-
-slice-aggregate-put-row-4 : tie.Need-slice-aggregate-put-row-4
-slice-aggregate-put-row-4 c = search needs
-
 put-row-requires : tie.Need-put-row-requires
 put-row-requires c κs =
-    let b = c .before .before .before .before .before .before .before .before in
-    let d = b .before .before .before in (
-      record {
-        sized = sized-1024;
-        accepted = b .before .first-bad .ensures .sound (b .if4 .left);
-        good = good (e d);
-        natural = subst Natural (sym (c .before .before .before .before .before .before .store-place .ensures)) (stored-natural (start d .args .place) (positive d) (ranged d));
-      },
-      record { page = refl; hashes = omega arith; weights = omega arith },
-    )
+    let b = c .before .before .before .before .before in
+    let d = b .before .before .before in
+    record {
+      sized = sized-1024;
+      accepted = b .before .first-bad .ensures .sound (b .if4 .left);
+      good = good (e d);
+      natural = subst Natural (sym (c .before .before .before .store-place .ensures)) (stored-natural (start d .args .place) (positive d) (ranged d));
+    }
 
 same-length-5 : tie.Need-same-length-5
 same-length-5 c = search needs
@@ -136,11 +124,11 @@ same-length-5 c = search needs
 returns-5 : tie.Need-returns-5
 unfolding putTable
 returns-5 c =
-    let y = c .before .before .before .before .before .before .before .before .before .before .before .before in
+    let y = c .before .before .before .before .before .before in
     let b = y .before .before in
     let d = b .before .before .before in
     let a = b .before .first-bad .ensures .sound (b .if4 .left) in
-    let w = c .before .before .before .before .before .put-row in
+    let w = c .before .before .put-row in
     inr (
       (λ _ n. n (long (first (e d)))),
       inr (
@@ -177,9 +165,6 @@ put-spec =
     slice-aggregate-store-place
     store-place-requires
     slice-aggregate-put-row
-    slice-aggregate-put-row-2
-    slice-aggregate-put-row-3
-    slice-aggregate-put-row-4
     put-row-requires
     same-length-5
     returns-5)

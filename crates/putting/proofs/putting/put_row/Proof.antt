@@ -16,7 +16,7 @@ use Rattle.putting.proofs.putting.put_row.Tie as tie
 -- the entry of the hash
 module _ (b : tie.After-entry-of) where
   abbrev z : tie.Start
-  z = b .before .before .before .before .before .before .before .before .before
+  z = b .before .before .before .before .before .before
 
   abbrev s : List ℕ
   s = now (z .args .s)
@@ -32,14 +32,14 @@ hash-requires c κs = search needs
 
 entry-of-requires : tie.Need-entry-of-requires
 entry-of-requires c κs =
-    let z = c .before .before .before .before .before .before .before .before in
-    let P = z .pre .0 in
+    let z = c .before .before .before .before .before in
+    let P = z .pre in
     (P .sized, omega (arith, long-enough (z .args .z) (P .sized) (now (z .args .s)) (P .accepted)), opened (z .args .z) fnv (now (z .args .s)) (P .accepted) .page0 .depth)
 
 new-bucket-requires : tie.Need-new-bucket-requires
 new-bucket-requires c κs =
     let b = c .before .before in
-    record { row = z b .pre .0; hash = b .before .before .hash .ensures; none = sym (b .entry-of .ensures .0) ∙ c .before .if1 .taken }
+    record { row = z b .pre; hash = b .before .before .hash .ensures; none = sym (b .entry-of .ensures .0) ∙ c .before .if1 .taken }
 
 same-length : tie.Need-same-length
 same-length c = search needs
@@ -49,20 +49,11 @@ returns c = search needs
 
 put-on-requires : tie.Need-put-on-requires
 put-on-requires c κs =
-    let b = c .before .before .before .before .before in
-    (record { row = z b .pre .0; home = record { names = sym (entry b); some = omega (arith, c .before .before .before .before .if1 .left) } }, z b .pre .1)
+    let b = c .before .before in
+    record { row = z b .pre; home = record { names = sym (entry b); some = omega (arith, c .before .if1 .left) } }
 
 same-length-2 : tie.Need-same-length-2
 same-length-2 c = search needs
-
-same-length-3 : tie.Need-same-length-3
-same-length-3 c = search needs
-
-same-length-4 : tie.Need-same-length-4
-same-length-4 c = search needs
-
-same-length-5 : tie.Need-same-length-5
-same-length-5 c = search needs
 
 returns-2 : tie.Need-returns-2
 returns-2 c = search needs
@@ -78,7 +69,4 @@ put-row-spec =
     returns
     put-on-requires
     same-length-2
-    same-length-3
-    same-length-4
-    same-length-5
     returns-2)
