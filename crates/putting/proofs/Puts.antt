@@ -6,6 +6,7 @@ use mathlib.Core.Option.{some, none}
 use Prim.Native.Nat.{ℕ, _+_, _-_, _*_, _≤_, _<_}
 use native.Mathlib.Omega.{arith}
 use lib.ListN.{length, getD, take, drop, set, length-set}
+use lib.Seq.{length-take-le}
 use Rattle.ground.proofs.Tests.{none-some}
 use Rattle.ground.specs.Lists.{byte}
 use Rattle.ground.specs.Ladder.{Answers}
@@ -44,6 +45,10 @@ use Rattle.store.proofs.Accepted.Accepting.{Laid, accepted-laid, laid-becomes}
 use Rattle.store.proofs.Paging.Views.{page-back, set-long}
 use Rattle.directory.proofs.OnePage.{laid-set}
 use Rattle.putting.specs.Put.{newRow, Homed}
+
+-- the first n of the bytes that are lent are n
+pub lent-long : (l : List ℕ) (n : ℕ) → n ≤ length l → length (take (n - 0) (drop 0 l)) ≡ n
+lent-long l n b = let e : n - 0 ≡ n = omega arith in length-take-le (n - 0) l (omega arith) ∙ e
 
 -- the store as it comes back with page p
 pub given-back : (S : Shape) (s : List ℕ) (p : ℕ) (q : List ℕ) → take (p * size S) s ++ (q ++ drop (p * size S + size S - p * size S) (drop (p * size S) s)) ≡ setPage S s p q

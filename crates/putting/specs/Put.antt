@@ -53,11 +53,10 @@ pub record KnownAt (S : Shape) (h : List ℕ → ℕ) (s : List ℕ) (p i : ℕ)
   pub row : Homed S h s p (code (page S s p) i) pl
   pub slot : i < count (page S s p)
 
--- or which fits that page, its code at slot i; t is a page to work in
-pub record Insertion (S : Shape) (h : List ℕ → ℕ) (s : List ℕ) (p i : ℕ) (c pl t : List ℕ) : Type 0 where
+-- or which fits that page, its code at slot i
+pub record Insertion (S : Shape) (h : List ℕ → ℕ) (s : List ℕ) (p i : ℕ) (c pl : List ℕ) : Type 0 where
   pub row : Homed S h s p c pl
   pub fits : Fitting (page S s p) i c pl
-  pub scratch : length t ≡ size S
 
 -- or which belongs at slot i there and does not fit
 pub record Crowded (S : Shape) (h : List ℕ → ℕ) (s : List ℕ) (p i : ℕ) (c pl : List ℕ) : Type 0 where
@@ -65,7 +64,7 @@ pub record Crowded (S : Shape) (h : List ℕ → ℕ) (s : List ℕ) (p i : ℕ)
   pub belongs : Belongs (page S s p) i c
   pub tight : free (page S s p) < 12 + length c
 
--- what a put is lent to work in: a page, and twice a number for each row that a page can have and one for the new row
+-- what a split is lent to work in: a page, and twice a number for each row that a page can have and one for the new row
 pub record Lent (S : Shape) (t hs ns : List ℕ) : Type 0 where
   pub page : length t ≡ size S
   pub hashes : S .capacity / 13 < length hs

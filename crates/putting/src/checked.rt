@@ -9,27 +9,14 @@ ghost use Rattle.store.specs.Tables.{putByMode, meaning};
 ghost use Rattle.putting.specs.Put.{newRow, Allowed};
 use super::putting::put_row;
 
-// A code that is one gets a place with no negative part: the place's bytes and the room to work in are lent.
+// A code that is one gets a place with no negative part.
 pub fn put_allowed(s: &mut [u8], key: &[u8], place: page::Place, mode: u64) -> store::Answer
     requires { ⌜ Allowed S1024 fnv (now s) (now key) place ⌝ }
     ensures { λ r. ⌜ Answers (putByMode S1024 fnv (now (s .entry)) mode (newRow (now (key .entry)) (stored place))) (meaning r, now (s .exit)) ⌝ }
 {
     let mut bytes = [0u8; 8];
     page::store_place(&mut bytes, place);
-    let mut scratch = [0u8; 1024];
-    // A page has at most 78 rows, and here comes one more.
-    let mut hs = [0u32; 79];
-    let mut ns = [0u32; 79];
-    put_row(
-        s,
-        partition::S1024,
-        key,
-        &bytes,
-        mode,
-        &mut scratch,
-        &mut hs,
-        &mut ns,
-    )
+    put_row(s, partition::S1024, key, &bytes, mode)
 }
 
 // A code gets a place, if it is what the mode expects.

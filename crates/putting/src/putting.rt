@@ -1,12 +1,14 @@
 // A row put on an accepted store.
+ghost use mathlib.Core.Path.{_≡_};
+ghost use lib.ListN.{length};
 ghost use Rattle.ground.specs.Ladder.{Answers};
 ghost use Rattle.hash.specs.Fnv.{fnv};
 ghost use Rattle.page.specs.Page.{code};
-ghost use Rattle.store.specs.Pages.{S1024, page};
+ghost use Rattle.store.specs.Pages.{S1024, size, page};
 ghost use Rattle.store.specs.Tables.{putAccepted, putByMode, putTable, meaning};
-ghost use Rattle.putting.specs.Put.{newRow, Puttable, Homeless, Homed, KnownAt, Insertion, Lent};
+ghost use Rattle.putting.specs.Put.{newRow, Puttable, Homeless, Homed, KnownAt, Insertion};
 use super::checked::put_allowed;
-use super::split::split;
+use super::split::split_lent;
 use super::vacant::vacant_depth;
 use directory::free_pages;
 use directory::lowest_free;
@@ -26,7 +28,7 @@ fn replace(s: &mut [u8], z: Shape, p: usize, i: usize, place: &[u8]) -> store::A
     store::Answer::Replaced(old)
 }
 
-// A new code goes to slot i of page p, in which it fits.
+// A new code goes to slot i of page p, in which it fits; scratch is a page to work in.
 fn insert_new(
     s: &mut [u8],
     z: Shape,
@@ -36,7 +38,7 @@ fn insert_new(
     place: &[u8],
     scratch: &mut [u8],
 ) -> store::Answer
-    requires { ⌜ Insertion z fnv (now s) p i (now key) (now place) (now scratch) ⌝ }
+    requires { ⌜ Insertion z fnv (now s) p i (now key) (now place) × (length (now scratch) ≡ size z) ⌝ }
     ensures { λ r. ⌜ Answers (putAccepted z fnv (now (s .entry)) (newRow (now (key .entry)) (now (place .entry)))) (meaning r, now (s .exit)) ⌝ }
 {
     let size = 8 + z.capacity;
@@ -44,6 +46,27 @@ fn insert_new(
     let e = a + size;
     page::insert_row(&mut s[a..e], i, key, place, scratch);
     store::Answer::New
+}
+
+// The same, with a page to work in: of 1,024 bytes where the pages are no longer, so that these pay for no more, else of the largest size.
+fn insert_lent(
+    s: &mut [u8],
+    z: Shape,
+    p: usize,
+    i: usize,
+    key: &[u8],
+    place: &[u8],
+) -> store::Answer
+    requires { ⌜ Insertion z fnv (now s) p i (now key) (now place) ⌝ }
+    ensures { λ r. ⌜ Answers (putAccepted z fnv (now (s .entry)) (newRow (now (key .entry)) (now (place .entry)))) (meaning r, now (s .exit)) ⌝ }
+{
+    let size = 8 + z.capacity;
+    if size <= 1024 {
+        let mut scratch = [0u8; 1024];
+        return insert_new(s, z, p, i, key, place, &mut scratch[0..size]);
+    }
+    let mut scratch = [0u8; 16384];
+    insert_new(s, z, p, i, key, place, &mut scratch[0..size])
 }
 
 // No bucket holds the hash x of the code: a new one takes the lowest free page.
@@ -67,18 +90,8 @@ fn new_bucket(s: &mut [u8], z: Shape, x: u32, key: &[u8], place: &[u8]) -> store
 }
 
 // Page p holds the hash of the code; mode 1 wants a new code, mode 2 a known one.
-fn put_on(
-    s: &mut [u8],
-    z: Shape,
-    p: usize,
-    key: &[u8],
-    place: &[u8],
-    mode: u64,
-    scratch: &mut [u8],
-    hs: &mut [u32],
-    ns: &mut [u32],
-) -> store::Answer
-    requires { ⌜ Homed z fnv (now s) p (now key) (now place) × Lent z (now scratch) (now hs) (now ns) ⌝ }
+fn put_on(s: &mut [u8], z: Shape, p: usize, key: &[u8], place: &[u8], mode: u64) -> store::Answer
+    requires { ⌜ Homed z fnv (now s) p (now key) (now place) ⌝ }
     ensures { λ r. ⌜ Answers (putByMode z fnv (now (s .entry)) mode (newRow (now (key .entry)) (now (place .entry)))) (meaning r, now (s .exit)) ⌝ }
 {
     let size = 8 + z.capacity;
@@ -98,25 +111,16 @@ fn put_on(
             }
             let room = words::get16(&s[a..e], 6);
             if 12 + key.len() <= room {
-                return insert_new(s, z, p, i, key, place, scratch);
+                return insert_lent(s, z, p, i, key, place);
             }
-            split(s, z, p, i, key, place, scratch, hs, ns)
+            split_lent(s, z, p, i, key, place)
         }
     }
 }
 
 // The row on an accepted store.
-pub fn put_row(
-    s: &mut [u8],
-    z: Shape,
-    key: &[u8],
-    place: &[u8],
-    mode: u64,
-    scratch: &mut [u8],
-    hs: &mut [u32],
-    ns: &mut [u32],
-) -> store::Answer
-    requires { ⌜ Puttable z fnv (now s) (now key) (now place) × Lent z (now scratch) (now hs) (now ns) ⌝ }
+pub fn put_row(s: &mut [u8], z: Shape, key: &[u8], place: &[u8], mode: u64) -> store::Answer
+    requires { ⌜ Puttable z fnv (now s) (now key) (now place) ⌝ }
     ensures { λ r. ⌜ Answers (putByMode z fnv (now (s .entry)) mode (newRow (now (key .entry)) (now (place .entry)))) (meaning r, now (s .exit)) ⌝ }
 {
     let x = hash::hash(key);
@@ -127,7 +131,7 @@ pub fn put_row(
         }
         return new_bucket(s, z, x, key, place);
     }
-    put_on(s, z, p, key, place, mode, scratch, hs, ns)
+    put_on(s, z, p, key, place, mode)
 }
 
 // A code gets a place, if it is what the mode expects.

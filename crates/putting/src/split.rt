@@ -63,8 +63,8 @@ fn write_below(
     write_below(s, z, from, i, key, place, hs, ns, k + 1, 2 * v + 1, next)
 }
 
-// The new code, which belongs at slot i of page p, does not fit there: the page is split into the buckets of its rows and the new one.
-pub fn split(
+// The new code, which belongs at slot i of page p, does not fit there: the page is split into the buckets of its rows and the new one. What it works in is lent.
+fn split(
     s: &mut [u8],
     z: Shape,
     p: usize,
@@ -98,4 +98,30 @@ pub fn split(
     write_below(s, z, from, i, key, place, hs, ns, k, v, p);
     settle(s, z, n);
     store::Answer::New
+}
+
+// The same, with what it works in: of a page of 1,024 bytes and its rows where the pages are no longer, else of the largest size.
+pub fn split_lent(
+    s: &mut [u8],
+    z: Shape,
+    p: usize,
+    i: usize,
+    key: &[u8],
+    place: &[u8],
+) -> store::Answer
+    requires { ⌜ Crowded z fnv (now s) p i (now key) (now place) ⌝ }
+    ensures { λ r. ⌜ Answers (putAccepted z fnv (now (s .entry)) (newRow (now (key .entry)) (now (place .entry)))) (meaning r, now (s .exit)) ⌝ }
+{
+    let size = 8 + z.capacity;
+    if size <= 1024 {
+        let mut from = [0u8; 1024];
+        // Such a page has at most 78 rows, one of 16,384 bytes at most 1,259, and here comes one more.
+        let mut hs = [0u32; 79];
+        let mut ns = [0u32; 79];
+        return split(s, z, p, i, key, place, &mut from[0..size], &mut hs, &mut ns);
+    }
+    let mut from = [0u8; 16384];
+    let mut hs = [0u32; 1260];
+    let mut ns = [0u32; 1260];
+    split(s, z, p, i, key, place, &mut from[0..size], &mut hs, &mut ns)
 }

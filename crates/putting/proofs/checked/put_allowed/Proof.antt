@@ -8,7 +8,6 @@ use Rattle.page.specs.Page.{Natural}
 use Rattle.hash.specs.Fnv.{fnv}
 use Rattle.ground.specs.Ladder.{Answers}
 use denote.Ref.{now}
-use native.Mathlib.Omega.{arith}
 use mathlib.Core.Path.{refl, sym, subst}
 use borrow.Author.Needs.{needs}
 use Rattle.putting.specs.Put.{newRow}
@@ -28,35 +27,24 @@ store-place-requires c κs = (refl, c .before .before .before .pre .natural)
 slice-aggregate-put-row : tie.Need-slice-aggregate-put-row
 slice-aggregate-put-row c = search needs
 
-slice-aggregate-put-row-2 : tie.Need-slice-aggregate-put-row-2
-slice-aggregate-put-row-2 c = search needs
-
-slice-aggregate-put-row-3 : tie.Need-slice-aggregate-put-row-3
-slice-aggregate-put-row-3 c = search needs
-
-slice-aggregate-put-row-4 : tie.Need-slice-aggregate-put-row-4
-slice-aggregate-put-row-4 c = search needs
-
 put-row-requires : tie.Need-put-row-requires
 put-row-requires c κs =
-    let w = c .before .before .before .before .before .before in
-    let z = w .before .before .before .before in (
-      record {
-        sized = sized-1024;
-        accepted = z .pre .accepted;
-        good = z .pre .good;
-        natural = subst Natural (sym (w .store-place .ensures)) (stored-natural (z .args .place) (z .pre .natural) (ranged z));
-      },
-      record { page = refl; hashes = omega arith; weights = omega arith },
-    )
+    let w = c .before .before .before in
+    let z = w .before .before .before .before in
+    record {
+      sized = sized-1024;
+      accepted = z .pre .accepted;
+      good = z .pre .good;
+      natural = subst Natural (sym (w .store-place .ensures)) (stored-natural (z .args .place) (z .pre .natural) (ranged z));
+    }
 
 same-length : tie.Need-same-length
 same-length c = search needs
 
 returns : tie.Need-returns
 returns c =
-    let w = c .before .before .before .before .before .put-row in
-    let y = c .before .before .before .before .before .before .before .before .before .before .before .before in
+    let w = c .before .before .put-row in
+    let y = c .before .before .before .before .before .before in
     let z = y .before .before .before .before in
     subst (λ x. Answers (putByMode S1024 fnv (now (z .args .s)) (z .args .mode) (newRow (now (z .args .key)) x)) (meaning (w .result), w .last .0)) (y .store-place .ensures) (w .ensures)
 
@@ -67,9 +55,6 @@ put-allowed-spec =
     slice-aggregate-store-place
     store-place-requires
     slice-aggregate-put-row
-    slice-aggregate-put-row-2
-    slice-aggregate-put-row-3
-    slice-aggregate-put-row-4
     put-row-requires
     same-length
     returns)

@@ -33,7 +33,7 @@ p z = z .args .p
 -- the page is there
 module _ (z : tie.Start) where
   home : Naming (S z) fnv (s z) (top (dirDepth (s z)) (fnv (now (z .args .key)))) (p z)
-  home = home-page (S z) fnv fnv-lt (s z) (p z) (now (z .args .key)) (now (z .args .place)) (z .pre .row)
+  home = home-page (S z) fnv fnv-lt (s z) (p z) (now (z .args .key)) (now (z .args .place)) (z .pre .0 .row)
 
   inside : p z * size (S z) + size (S z) ≤ length (s z)
   inside = within (S z) (s z) (p z) (home .to)
@@ -59,7 +59,7 @@ part-insert-row-end c = omega (arith, inside (c .before .before .before .before 
 insert-row-requires : tie.Need-insert-row-requires
 insert-row-requires c κs =
     let z = c .before .before .before .before .before .before .before in
-    (rw (page-lent (S z) (s z) (p z)) (z .pre .fits), z .pre .scratch ∙ sym (ap length (page-lent (S z) (s z) (p z)) ∙ page-long (S z) (s z) (p z) (home z .to)))
+    (rw (page-lent (S z) (s z) (p z)) (z .pre .0 .fits), z .pre .1 ∙ sym (ap length (page-lent (S z) (s z) (p z)) ∙ page-long (S z) (s z) (p z) (home z .to)))
 
 same-length : tie.Need-same-length
 same-length c = search needs
@@ -73,9 +73,9 @@ returns c =
     let w = c .before .before .before .before .insert-row in
     let q = w .last .0 in
     let back = given-back (S z) (s z) (p z) q in
-    let row = z .pre .row .row in
+    let row = z .pre .0 .row .row in
     subst (λ t. Answers (putAccepted (S z) fnv (s z) (newRow (now (z .args .key)) (now (z .args .place)))) (new, t)) (sym back)
-    (put-fitted (S z) fnv (row .sized) fnv-lt (s z) (row .accepted) (now (z .args .key)) (p z) (home z) (z .args .i) (now (z .args .place)) _ q _ (z .pre .fits) (rw (page-lent (S z) (s z) (p z)) at (w .ensures))
+    (put-fitted (S z) fnv (row .sized) fnv-lt (s z) (row .accepted) (now (z .args .key)) (p z) (home z) (z .args .i) (now (z .args .place)) _ q _ (z .pre .0 .fits) (rw (page-lent (S z) (s z) (p z)) at (w .ensures))
     (λ k. subst (λ t. byte t k < 256) back ((c .before .before .slice-known3 .given k) .fits)))
 
 pub insert-new-spec : {M : Type 1} → statement M

@@ -30,14 +30,14 @@ use Rattle.putting.proofs.putting.put_on.Tie as tie
 -- the page is there
 module _ (z : tie.Start) where
   home : Naming (z .args .z) fnv (now (z .args .s)) (top (dirDepth (now (z .args .s))) (fnv (now (z .args .key)))) (z .args .p)
-  home = home-page (z .args .z) fnv fnv-lt (now (z .args .s)) (z .args .p) (now (z .args .key)) (now (z .args .place)) (z .pre .0)
+  home = home-page (z .args .z) fnv fnv-lt (now (z .args .s)) (z .args .p) (now (z .args .key)) (now (z .args .place)) (z .pre)
 
   inside : z .args .p * size (z .args .z) + size (z .args .z) ≤ length (now (z .args .s))
   inside = within (z .args .z) (now (z .args .s)) (z .args .p) (home .to)
 
 module _ (a : tie.After-find-code) where
   abbrev z : tie.Start
-  z = a .before .before .before .before .before .before .before .before .before .before
+  z = a .before .before .before .before .before .before .before
 
   abbrev S : Shape
   S = z .args .z
@@ -59,7 +59,7 @@ module _ (a : tie.After-find-code) where
 
   -- the map has what the page has
   on-page : placeOf (rowsHeld S s) key ≡ placeOf (map asRow (rows g)) key
-  on-page = let P = z .pre .0 .row in placed S fnv (P .sized) fnv-lt s (P .accepted) key (z .args .p) (home z)
+  on-page = let P = z .pre .row in placed S fnv (P .sized) fnv-lt s (P .accepted) key (z .args .p) (home z)
 
 -- the code stands at a slot
 module _ (b : tie.After-found) where
@@ -92,13 +92,13 @@ module _ (b : tie.After-get16) where
   room = b .get16 .ensures .0 ∙ ap free (page-lent (S (a2 b2)) (s (a2 b2)) (z (a2 b2) .args .p))
 
 add-size : tie.Need-add-size
-add-size c = omega (arith, inside (c .before .before .before .before .before .before .before))
+add-size c = omega (arith, inside (c .before .before .before .before))
 
 mul-a : tie.Need-mul-a
-mul-a c = omega (arith, inside (c .before .before .before .before .before .before .before))
+mul-a c = omega (arith, inside (c .before .before .before .before))
 
 add-e : tie.Need-add-e
-add-e c = omega (arith, inside (c .before .before .before .before .before .before .before))
+add-e c = omega (arith, inside (c .before .before .before .before))
 
 sub-find-code : tie.Need-sub-find-code
 sub-find-code c = search needs
@@ -107,10 +107,10 @@ part-find-code-start : tie.Need-part-find-code-start
 part-find-code-start c = search needs
 
 part-find-code-end : tie.Need-part-find-code-end
-part-find-code-end c = omega (arith, inside (c .before .before .before .before .before .before .before .before))
+part-find-code-end c = omega (arith, inside (c .before .before .before .before .before))
 
 find-code-requires : tie.Need-find-code-requires
-find-code-requires c κs = let z = c .before .before .before .before .before .before .before .before .before in subst Slotted (sym (page-lent (z .args .z) (now (z .args .s)) (z .args .p))) (home z .bytes .rules .rules)
+find-code-requires c κs = let z = c .before .before .before .before .before .before in subst Slotted (sym (page-lent (z .args .z) (now (z .args .s)) (z .args .p))) (home z .bytes .rules .rules)
 
 enum-known-found : tie.Need-enum-known-found
 enum-known-found c = search needs
@@ -127,7 +127,7 @@ replace-requires : tie.Need-replace-requires
 replace-requires c κs =
     let b = c .before .before .before in
     let q = z (a1 b) in
-    record { row = subst (λ x. Homed (q .args .z) fnv (s (a1 b)) (q .args .p) x (now (q .args .place))) (sym (at b .1)) (q .pre .0); slot = at b .0 }
+    record { row = subst (λ x. Homed (q .args .z) fnv (s (a1 b)) (q .args .p) x (now (q .args .place))) (sym (at b .1)) (q .pre); slot = at b .0 }
 
 enum-known-found-2 : tie.Need-enum-known-found-2
 enum-known-found-2 c = search needs
@@ -147,51 +147,46 @@ part-get16-start : tie.Need-part-get16-start
 part-get16-start c = search needs
 
 part-get16-end : tie.Need-part-get16-end
-part-get16-end c = omega (arith, inside (c .before .before .before .before .before .before .before .before .before .before .before .before .before .before .before))
+part-get16-end c = omega (arith, inside (c .before .before .before .before .before .before .before .before .before .before .before .before))
 
 get16-requires : tie.Need-get16-requires
-get16-requires c κs = let z = c .before .before .before .before .before .before .before .before .before .before .before .before .before .before .before .before in rw (page-lent (z .args .z) (now (z .args .s)) (z .args .p)) (omega (arith, home z .bytes .rules .rules .least))
+get16-requires c κs = let z = c .before .before .before .before .before .before .before .before .before .before .before .before .before in rw (page-lent (z .args .z) (now (z .args .s)) (z .args .p)) (omega (arith, home z .bytes .rules .rules .least))
 
 add-if3 : tie.Need-add-if3
 add-if3 c = search needs
 
-insert-new-requires : tie.Need-insert-new-requires
-insert-new-requires c κs =
-    let b = c .before .before .before in
+insert-lent-requires : tie.Need-insert-lent-requires
+insert-lent-requires c κs =
+    let b = c .before .before in
     let q = z (a2 (b2 b)) .pre in
     record {
-      row = q .0;
+      row = q;
       fits = record {
         page = home (z (a2 (b2 b))) .bytes .rules .rules;
         belongs = belongs (b2 b);
-        natural = q .0 .row .natural;
-        good = q .0 .row .good;
-        fits = omega (arith, room b, c .before .before .if3 .taken);
+        natural = q .row .natural;
+        good = q .row .good;
+        fits = omega (arith, room b, c .before .if3 .taken);
       };
-      scratch = q .1 .page;
     }
 
 same-length-3 : tie.Need-same-length-3
 same-length-3 c = search needs
 
-same-length-4 : tie.Need-same-length-4
-same-length-4 c = search needs
-
 returns-3 : tie.Need-returns-3
 returns-3 c =
-    let w = c .before .before .before .before .insert-new in
-    let b = c .before .before .before .before .before .before .before .before in
+    let w = c .before .before .insert-lent in
+    let b = c .before .before .before .before .before in
     let e = a2 (b2 b) in
     let-new (S e) fnv (s e) (z e .args .mode) (row e) (absent (b2 b)) (b .before .before .before .if2 .left) (meaning (w .result), w .last .0) (w .ensures)
 
-split-requires : tie.Need-split-requires
-split-requires c κs =
-    let b = c .before .before .before .before .before in
-    let q = z (a2 (b2 b)) .pre in
-    (record { row = q .0; belongs = belongs (b2 b); tight = omega (arith, room b, c .before .before .before .before .if3 .left) }, q .1)
+split-lent-requires : tie.Need-split-lent-requires
+split-lent-requires c κs =
+    let b = c .before .before in
+    record { row = z (a2 (b2 b)) .pre; belongs = belongs (b2 b); tight = omega (arith, room b, c .before .if3 .left) }
 
-same-length-5 : tie.Need-same-length-5
-same-length-5 c = search needs
+same-length-4 : tie.Need-same-length-4
+same-length-4 c = search needs
 
 returns-4 : tie.Need-returns-4
 returns-4 c =
@@ -202,22 +197,13 @@ returns-4 c =
     let-known (S (a1 b)) fnv (s (a1 b)) (q .mode) (row (a1 b)) _ (there b) (e .if1 .left) (meaning (w .result), w .last .0)
     (subst (λ x. Answers (putAccepted (q .z) fnv (s (a1 b)) (newRow x (now (q .place)))) (meaning (w .result), w .last .0)) (at b .1) (w .ensures))
 
-same-length-6 : tie.Need-same-length-6
-same-length-6 c = search needs
-
-same-length-7 : tie.Need-same-length-7
-same-length-7 c = search needs
-
-same-length-8 : tie.Need-same-length-8
-same-length-8 c = search needs
-
-same-length-9 : tie.Need-same-length-9
-same-length-9 c = search needs
+same-length-5 : tie.Need-same-length-5
+same-length-5 c = search needs
 
 returns-5 : tie.Need-returns-5
 returns-5 c =
-    let w = c .before .before .before .before .before .before .before .before .split in
-    let b = c .before .before .before .before .before .before .before .before .before .before .before .before .before .before in
+    let w = c .before .before .split-lent in
+    let b = c .before .before .before .before .before in
     let e = a2 (b2 b) in
     let-new (S e) fnv (s e) (z e .args .mode) (row e) (absent (b2 b)) (b .before .before .before .if2 .left) (meaning (w .result), w .last .0) (w .ensures)
 
@@ -244,15 +230,11 @@ put-on-spec =
     part-get16-end
     get16-requires
     add-if3
-    insert-new-requires
+    insert-lent-requires
     same-length-3
-    same-length-4
     returns-3
-    split-requires
-    same-length-5
+    split-lent-requires
+    same-length-4
     returns-4
-    same-length-6
-    same-length-7
-    same-length-8
-    same-length-9
+    same-length-5
     returns-5)

@@ -23,7 +23,7 @@ use Rattle.putting.proofs.putting.put_row.Tie as tie
 -- the entry of the hash
 module _ (b : tie.After-entry-of) where
   abbrev z : tie.Start
-  z = b .before .before .before .before .before .before .before .before .before
+  z = b .before .before .before .before .before .before
 
   abbrev s : List ℕ
   s = now (z .args .s)
@@ -39,15 +39,15 @@ module _ (b : tie.After-entry-of) where
 
   -- an entry of 0: the code is not there
   unnamed : b .entry-of .result ≡ 0 → placeOf (rowsHeld (z .args .z) s) key ≡ none
-  unnamed e = let P = z .pre .0 in lookup-none (z .args .z) fnv (P .sized) fnv-lt s (P .accepted) key (sym entry ∙ e)
+  unnamed e = let P = z .pre in lookup-none (z .args .z) fnv (P .sized) fnv-lt s (P .accepted) key (sym entry ∙ e)
 
 hash-requires : tie.Need-hash-requires
 hash-requires c κs = search needs
 
 entry-of-requires : tie.Need-entry-of-requires
 entry-of-requires c κs =
-    let z = c .before .before .before .before .before .before .before .before in
-    let P = z .pre .0 in
+    let z = c .before .before .before .before .before in
+    let P = z .pre in
     (P .sized, omega (arith, long-enough (z .args .z) (P .sized) (now (z .args .s)) (P .accepted)), opened (z .args .z) fnv (now (z .args .s)) (P .accepted) .page0 .depth)
 
 same-length : tie.Need-same-length
@@ -61,7 +61,7 @@ returns c =
 new-bucket-requires : tie.Need-new-bucket-requires
 new-bucket-requires c κs =
     let b = c .before .before .before in
-    record { row = z b .pre .0; hash = b .before .before .hash .ensures; none = sym (b .entry-of .ensures .0) ∙ c .before .before .if1 .taken }
+    record { row = z b .pre; hash = b .before .before .hash .ensures; none = sym (b .entry-of .ensures .0) ∙ c .before .before .if1 .taken }
 
 same-length-2 : tie.Need-same-length-2
 same-length-2 c = search needs
@@ -75,20 +75,11 @@ returns-2 c =
 
 put-on-requires : tie.Need-put-on-requires
 put-on-requires c κs =
-    let b = c .before .before .before .before .before in
-    (record { row = z b .pre .0; home = record { names = sym (entry b); some = omega (arith, c .before .before .before .before .if1 .left) } }, z b .pre .1)
+    let b = c .before .before in
+    record { row = z b .pre; home = record { names = sym (entry b); some = omega (arith, c .before .if1 .left) } }
 
 same-length-3 : tie.Need-same-length-3
 same-length-3 c = search needs
-
-same-length-4 : tie.Need-same-length-4
-same-length-4 c = search needs
-
-same-length-5 : tie.Need-same-length-5
-same-length-5 c = search needs
-
-same-length-6 : tie.Need-same-length-6
-same-length-6 c = search needs
 
 returns-3 : tie.Need-returns-3
 returns-3 c = search needs
@@ -106,7 +97,4 @@ put-row-spec =
     returns-2
     put-on-requires
     same-length-3
-    same-length-4
-    same-length-5
-    same-length-6
     returns-3)
