@@ -43,13 +43,13 @@ slice-aggregate-remove-row : tie.Need-slice-aggregate-remove-row
 slice-aggregate-remove-row c = search needs
 
 remove-row-requires : tie.Need-remove-row-requires
-remove-row-requires c κs = (record { sized = sized-1024; long = refl }, sound (c .before .before .before .before))
+remove-row-requires c κs = (record { sized = sized-1024; blank = refl }, sound (c .before .before .before .before))
 
 same-length-2 : tie.Need-same-length-2
 same-length-2 c = search needs
 
 returns-3 : tie.Need-returns-3
-returns-3 c = let e = c .before .before .before .before in removes S1024 fnv _ (sound (e .before .before)) _ _ (coded e) (c .before .before .remove-row .ensures .0)
+returns-3 c = let e = c .before .before .before .before .before .before in removes S1024 fnv _ (sound (e .before .before)) _ _ (coded e) (c .before .before .before .remove-row .ensures .0)
 
 pub remove-known-spec : {M : Type 1} → statement M
 remove-known-spec =
