@@ -206,7 +206,7 @@ static struct call random_call(size_t many, uint32_t puts) {
     pick(&c, many);
     if (below(200) == 0) c.code_len = below(2) ? 0 : 65 + below(8);
     random_place(&c);
-    c.mode = below(2) ? LOTS_EITHER : below(3);
+    c.mode = below(4) ? LOTS_EITHER : below(3);
     if (below(60) == 0) c.mode = no_modes[below(8)];
     c.n = below(8) ? below(200) : (uint64_t)draw() << below(33);
     c.out_len = below(30) ? 64 + below(20) : below(64);
