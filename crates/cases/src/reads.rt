@@ -1,6 +1,5 @@
 // A page read row by row through the reader: what comes out is its listing, codes in byte order.
 ghost use mathlib.Core.Path.{_≡_};
-ghost use Prim.Native.Nat.{_≤_};
 ghost use lib.ListN.{length};
 ghost use Rattle.words.specs.Codes.{GoodCode};
 ghost use Rattle.page.specs.Page.{Slotted};

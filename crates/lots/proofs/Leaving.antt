@@ -1,24 +1,31 @@
 -- What a line, and a quiet session, leave of the store. Assumes nothing.
-use Prim.Native.Nat.{ℕ, _≤_}
-use mathlib.Core.Path.{_≡_, refl, sym, ap, _∙_}
+use Prim.Native.Nat.{ℕ, _-_, _≤_}
+use mathlib.Core.Path.{_≡_, refl, sym, ap, subst, _∙_}
+use mathlib.Core.Bool.{Bool, true, true≢false}
 use mathlib.Core.List.{List, _++_}
 use mathlib.Core.Logic.{inl, inr}
+use native.Mathlib.Nat.{sub-zero}
 use native.Mathlib.Omega.{arith}
 use lib.ListN.{length, take, drop, take-append-drop}
+use lib.Seq.{take-at, length-take-le}
 use Rattle.commands.specs.declared.Command.{Command}
 use Rattle.commands.specs.declared.Command.the-variants.{Nothing, Unknown, Format, Put, Lookup, Remove, Count, Row, Listing, Check, Inspect}
 use Rattle.ground.specs.Ladder.{Answers}
+use Rattle.ground.specs.Says.{Says}
+use Rattle.ground.proofs.Tests.{says-true}
 use Rattle.hash.specs.Fnv.{fnv}
 use Rattle.store.specs.Accepted.{Accepted}
-use Rattle.store.specs.Demands.{Call, Made, put, remove}
+use Rattle.store.specs.Demands.{Call, Made, put, remove, format, ok, sized-1024}
 use Rattle.store.specs.Pages.{S1024}
-use Rattle.store.specs.Tables.{Out, counted, countTable}
+use Rattle.store.specs.Tables.{Out, counted, formatted, countTable, formatTable}
+use Rattle.store.proofs.Accepted.Format.{accepted-always, format-accepted}
 use Rattle.store.proofs.Demands.Kept.{refusal-keeps}
 use Rattle.lots.specs.declared.Outcome.{Outcome}
 use Rattle.lots.specs.declared.Outcome.the-variants.{Same, Changed, Format as Formats, Stopped}
 use Rattle.lots.specs.declared.Session.{Session}
+use Rattle.lots.specs.Known.{Known}
 use Rattle.lots.specs.Obeys.{Outcomes, Does, Obeys}
-use Rattle.lots.specs.Sessions.{Leaves, After, Kept, Ran}
+use Rattle.lots.specs.Sessions.{Leaves, After, Holds, Kept, Ran}
 
 -- a store whose rows are counted is accepted
 pub counted-accepted : (s : List ℕ) (n : ℕ) → Answers (countTable S1024 fnv s) (counted n) → Accepted S1024 fnv s
@@ -51,6 +58,75 @@ does-leaves k (Inspect n) s o t d l = d .1
 pub leaves : {line s t : List ℕ} {o : Outcome} → Obeys line s o t → Leaves o → t ≡ s
 leaves {line} {s} {t} {o} x = does-leaves (x .code) (x .command) s o t (x .does)
 
+-- the store that a call leaves of one that is known to be accepted: accepted again, and as long
+pub record Still (s t : List ℕ) : Type 0 where
+  pub again : Accepted S1024 fnv t
+  pub long : length t ≡ length s
+
+still-same : (s t : List ℕ) → Accepted S1024 fnv s → t ≡ s → Still s t
+still-same s t a e = record { again = rw e a; long = ap length e }
+
+still-made : (c : Call) (s : List ℕ) (o : Out) (t : List ℕ) → Accepted S1024 fnv s → Made S1024 fnv c s o t → Still s t
+still-made c s o t a m = let x = accepted-always S1024 fnv sized-1024 c s o t a m in record { again = x .0; long = x .1 }
+
+does-still : (k : List ℕ) (c : Command) (s : List ℕ) (o : Outcome) (t : List ℕ) → Does k c s o t → Accepted S1024 fnv s → Still s t
+does-still k (Put n p m) s o t d a = still-made (put (take n k) p m) s (d .answer) t a (d .made)
+does-still k (Remove n) s o t d a = still-made (remove (take n k)) s (d .answer) t a (d .made)
+does-still k (Format n) s o t d a = still-same s t a (d .1)
+does-still k Nothing s o t d a = still-same s t a (d .1)
+does-still k Unknown s o t d a = still-same s t a (d .1)
+does-still k (Lookup n) s o t d a = still-same s t a (d .1)
+does-still k Count s o t d a = still-same s t a (d .1)
+does-still k (Row n) s o t d a = still-same s t a (d .1)
+does-still k Listing s o t d a = still-same s t a (d .1)
+does-still k Check s o t d a = still-same s t a (d .1)
+does-still k (Inspect n) s o t d a = still-same s t a (d .1)
+
+-- the first n bytes, lent and back as ys
+pub front-back : (xs ys : List ℕ) (n : ℕ) → length ys ≡ n → take n (take 0 xs ++ (ys ++ drop (n - 0) (drop 0 xs))) ≡ ys
+front-back xs ys n e = take-at ys (drop (n - 0) (drop 0 xs)) n e
+
+-- then what stands there is accepted, if the call left it so
+pub still-front : (xs ys : List ℕ) (n : ℕ) → n ≤ length xs → Still (take (n - 0) (drop 0 xs)) ys → Accepted S1024 fnv (take n (take 0 xs ++ (ys ++ drop (n - 0) (drop 0 xs))))
+still-front xs ys n l y =
+    let e : length ys ≡ n = y .long ∙ simp sub-zero (length-take-le n xs l) in
+    subst (Accepted S1024 fnv) (sym (front-back xs ys n e)) (y .again)
+
+-- what is known is known of the part that is lent
+pub lent-known : {z : Session} {xs : List ℕ} → Holds z xs → Known (z .known) (take (z .len - 0) (drop 0 xs))
+lent-known {z} {xs} h e = simp sub-zero (h .known e)
+
+-- a line is obeyed on the first bytes of the buffer xs: what was known of them is known
+pub still-holds : {z : Session} {line xs ys : List ℕ} {o : Outcome} → Holds z xs → Obeys line (take (z .len - 0) (drop 0 xs)) o ys
+    → z .len ≤ length (take 0 xs ++ (ys ++ drop (z .len - 0) (drop 0 xs))) → Holds z (take 0 xs ++ (ys ++ drop (z .len - 0) (drop 0 xs)))
+still-holds {z} {line} {xs} {ys} {o} h x l = record {
+  within = l;
+  known = λ e. still-front xs ys (z .len) (h .within) (does-still (x .code) (x .command) _ o ys (x .does) (lent-known {z = z} {xs = xs} h e));
+}
+
+-- a session that begins with what the check says
+pub begun : {z : Session} {xs : List ℕ} (n : ℕ) (b : Bool) → z .len ≡ n → z .known ≡ b → Says b (Accepted S1024 fnv (take (n - 0) (drop 0 xs))) → n ≤ length xs → Holds z xs
+begun {z} {xs} n b e f s l = record {
+  within = omega arith;
+  known = λ k. subst (λ m. Accepted S1024 fnv (take m xs)) (sym e) (simp sub-zero at (says-true b (sym f ∙ k) s));
+}
+
+-- a format that is not refused: accepted, and as long as what was lent
+pub formatted-still : (s : List ℕ) (o : Out) (t : List ℕ) → Made S1024 fnv format s o t → ok o ≡ true → Still s t
+unfolding formatTable
+formatted-still s o t (inl x) e = absurd (true≢false (sym e ∙ ap (λ r. ok (r .0)) (x .1 .1)))
+formatted-still s o t (inr x) e =
+    let f : o ≡ formatted = ap (λ r. r .0) (x .1) in
+    let y = format-accepted S1024 fnv sized-1024 s t (subst (λ a. Made S1024 fnv format s a t) f (inr x)) in
+    record { again = y .0; long = y .2 }
+
+-- an answer that is no refusal, once it is told, is a change
+pub done-loud : (a : Out) (o : Outcome) → Outcomes a o → Leaves o → ok a ≡ true → ⊥
+done-loud a Same r l e = true≢false (sym e ∙ r)
+done-loud a (Formats n) r l e = r
+done-loud a Changed r l e = l
+done-loud a Stopped r l e = l
+
 -- a lent part that comes back as it was
 pub part-back : (xs ys : List ℕ) (a n : ℕ) → ys ≡ take n (drop a xs) → take a xs ++ (ys ++ drop n (drop a xs)) ≡ xs
 part-back xs ys a n e = ap (λ l. take a xs ++ (l ++ drop n (drop a xs))) e ∙ ap (λ l. take a xs ++ l) (take-append-drop n (drop a xs)) ∙ take-append-drop a xs
@@ -61,27 +137,34 @@ then a b = record {
   quiet = λ q. a .quiet (b .quiet q);
   same = λ q. b .same q ∙ a .same (b .quiet q);
   long = λ q. b .long q ∙ a .long (b .quiet q);
-  within = b .within;
+  holds = b .holds;
+}
+
+-- what is held, by another session of the same length that knows the same
+pub holds-as : {z y : Session} {s : List ℕ} → y .len ≡ z .len → y .known ≡ z .known → Holds z s → Holds y s
+holds-as {z} {y} {s} e f h = record {
+  within = omega (arith, e, h .within);
+  known = subst (λ b. Known b (take (y .len) s)) (sym f) (subst (λ n. Known (z .known) (take n s)) (sym e) (h .known));
 }
 
 -- a step that is not about the store
-pub beside : {z y : Session} {s : List ℕ} → y .len ≡ z .len → y .changed ≡ z .changed → y .stopped ≡ z .stopped → z .len ≤ length s → Kept z s y s
-beside e f g h = record {
+pub beside : {z y : Session} {s : List ℕ} → y .len ≡ z .len → y .known ≡ z .known → y .changed ≡ z .changed → y .stopped ≡ z .stopped → Holds z s → Kept z s y s
+beside e k f g h = record {
   quiet = λ q. (sym f ∙ q .0, sym g ∙ q .1);
   same = λ q. refl;
   long = λ q. e;
-  within = omega arith;
+  holds = holds-as e k h;
 }
 
 -- a line's outcome is taken into the session
-pub taken-in : {z r : Session} {o : Outcome} {s t : List ℕ} → After z o r → (Leaves o → t ≡ s) → z .len ≤ length t → Kept z s r t
+pub taken-in : {z r : Session} {o : Outcome} {s t : List ℕ} → After z o r → (Leaves o → t ≡ s) → Holds z t → Kept z s r t
 taken-in a f h = record {
   quiet = a .quiet;
   same = λ q. f (a .leaves q);
   long = λ q. a .len;
-  within = omega (arith, a .len);
+  holds = holds-as (a .len) (a .known) h;
 }
 
 -- the whole input, from a session that begins with len bytes
 pub ran : {z r : Session} {s t : List ℕ} {len : ℕ} → z .len ≡ len → Kept z s r t → Ran len s r t
-ran e k = record { same = k .same; long = λ q. k .long q ∙ e; within = k .within }
+ran e k = record { same = k .same; long = λ q. k .long q ∙ e; holds = k .holds }

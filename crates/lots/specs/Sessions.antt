@@ -3,10 +3,16 @@ use Prim.Native.Nat.{ℕ, _≤_}
 use mathlib.Core.Path.{_≡_}
 use mathlib.Core.Bool.{false}
 use mathlib.Core.List.{List}
-use lib.ListN.{length}
+use lib.ListN.{length, take}
 use Rattle.lots.specs.declared.Outcome.{Outcome}
 use Rattle.lots.specs.declared.Outcome.the-variants.{Same, Changed, Format, Stopped}
 use Rattle.lots.specs.declared.Session.{Session}
+use Rattle.lots.specs.Known.{Known}
+
+-- the store is the first bytes of the buffer s, and what is known of it holds
+pub record Holds (z : Session) (s : List ℕ) : Type 0 where
+  pub within : z .len ≤ length s
+  pub known : Known (z .known) (take (z .len) s)
 
 -- nothing has changed, and every answer could be written
 abbrev pub Quiet : Session → Type 0
@@ -22,6 +28,7 @@ Leaves Stopped = ⊥
 -- a line's outcome taken into the session z: a change or a stop is marked
 pub record After (z : Session) (o : Outcome) (r : Session) : Type 0 where
   pub len : r .len ≡ z .len
+  pub known : r .known ≡ z .known
   pub fill : r .fill ≡ z .fill
   pub quiet : Quiet r → Quiet z
   pub leaves : Quiet r → Leaves o
@@ -31,10 +38,10 @@ pub record Kept (z : Session) (s : List ℕ) (r : Session) (t : List ℕ) : Type
   pub quiet : Quiet r → Quiet z
   pub same : Quiet r → t ≡ s
   pub long : Quiet r → r .len ≡ z .len
-  pub within : r .len ≤ length t
+  pub holds : Holds r t
 
 -- the whole input on the first len bytes of s: where r is quiet, they are as they were
 pub record Ran (len : ℕ) (s : List ℕ) (r : Session) (t : List ℕ) : Type 0 where
   pub same : Quiet r → t ≡ s
   pub long : Quiet r → r .len ≡ len
-  pub within : r .len ≤ length t
+  pub holds : Holds r t

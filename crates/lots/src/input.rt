@@ -2,7 +2,8 @@
 ghost use mathlib.Core.Path.{_≡_};
 ghost use Prim.Native.Nat.{_≤_};
 ghost use lib.ListN.{length};
-ghost use Rattle.lots.specs.Sessions.{After, Kept, Ran};
+ghost use Rattle.lots.specs.Sessions.{After, Holds, Kept, Ran};
+use super::known;
 use super::obey;
 use crate::Outcome;
 use crate::Session;
@@ -39,25 +40,26 @@ fn after(z: Session, o: Outcome) -> Session
 
 // A store of n pages in the place of the old one, unless that is refused.
 fn format(store: &mut [u8], z: Session, n: usize) -> Session
-    requires { ⌜ z .len ≤ length (now store) ⌝ }
+    requires { ⌜ Holds z (now store) ⌝ }
     ensures { λ r. ⌜ Kept z (now (store .entry)) r (now (store .exit)) × (r .fill ≡ z .fill) ⌝ }
 {
     let len = length_of(n, store.len());
-    let o = obey::wrote(directory::format(&mut store[0..len]));
-    let mut y = after(z, o);
-    if let Outcome::Changed = o {
+    let a = directory::format(&mut store[0..len]);
+    let mut y = after(z, obey::wrote(a));
+    if obey::is_done(a) {
         y.len = len;
+        y.known = true;
     }
     y
 }
 
 // A whole line.
 fn turn(store: &mut [u8], z: Session, line: &[u8]) -> Session
-    requires { ⌜ z .len ≤ length (now store) ⌝ }
+    requires { ⌜ Holds z (now store) ⌝ }
     ensures { λ r. ⌜ Kept z (now (store .entry)) r (now (store .exit)) × (r .fill ≡ z .fill) ⌝ }
 {
     let len = z.len;
-    let o = obey::obey(&mut store[0..len], line, z.number);
+    let o = obey::obey(&mut store[0..len], line, z.number, z.known);
     if let Outcome::Format(n) = o {
         return format(store, z, n);
     }
@@ -66,7 +68,7 @@ fn turn(store: &mut [u8], z: Session, line: &[u8]) -> Session
 
 // The session at the start of the next line.
 fn next_line(z: Session) -> Session
-    ensures { λ r. ⌜ (r .len ≡ z .len) × (r .changed ≡ z .changed) × (r .stopped ≡ z .stopped) × (r .fill ≡ 0) ⌝ }
+    ensures { λ r. ⌜ (r .len ≡ z .len) × (r .known ≡ z .known) × (r .changed ≡ z .changed) × (r .stopped ≡ z .stopped) × (r .fill ≡ 0) ⌝ }
 {
     let mut y = z;
     y.number = std::num::wrapping_add_usize(y.number, 1);
@@ -77,7 +79,7 @@ fn next_line(z: Session) -> Session
 
 // The end of a line: it is obeyed, and the next one begins.
 fn end_line(store: &mut [u8], z: Session, line: &[u8]) -> Session
-    requires { ⌜ (z .len ≤ length (now store)) × (z .fill ≤ length (now line)) ⌝ }
+    requires { ⌜ Holds z (now store) × (z .fill ≤ length (now line)) ⌝ }
     ensures { λ r. ⌜ Kept z (now (store .entry)) r (now (store .exit)) × (r .fill ≡ 0) ⌝ }
 {
     let y = next_line(z);
@@ -90,7 +92,7 @@ fn end_line(store: &mut [u8], z: Session, line: &[u8]) -> Session
 
 // One byte of the input.
 fn take(store: &mut [u8], z: Session, line: &mut [u8], b: u8) -> Session
-    requires { ⌜ (z .len ≤ length (now store)) × (z .fill ≤ length (now line)) ⌝ }
+    requires { ⌜ Holds z (now store) × (z .fill ≤ length (now line)) ⌝ }
     ensures { λ r. ⌜ Kept z (now (store .entry)) r (now (store .exit)) × (r .fill ≤ length (now (line .exit))) ⌝ }
 {
     if b == 10 {
@@ -109,7 +111,7 @@ fn take(store: &mut [u8], z: Session, line: &mut [u8], b: u8) -> Session
 
 // A piece of the input.
 fn feed(store: &mut [u8], z: Session, line: &mut [u8], piece: &[u8]) -> Session
-    requires { ⌜ (z .len ≤ length (now store)) × (z .fill ≤ length (now line)) ⌝ }
+    requires { ⌜ Holds z (now store) × (z .fill ≤ length (now line)) ⌝ }
     ensures { λ r. ⌜ Kept z (now (store .entry)) r (now (store .exit)) × (r .fill ≤ length (now (line .exit))) ⌝ }
 {
     let mut y = z;
@@ -126,7 +128,7 @@ fn feed(store: &mut [u8], z: Session, line: &mut [u8], piece: &[u8]) -> Session
 
 // What one read of the input brings.
 fn read(store: &mut [u8], z: Session, line: &mut [u8]) -> Session
-    requires { ⌜ (z .len ≤ length (now store)) × (z .fill ≤ length (now line)) ⌝ }
+    requires { ⌜ Holds z (now store) × (z .fill ≤ length (now line)) ⌝ }
     ensures { λ r. ⌜ Kept z (now (store .entry)) r (now (store .exit)) × (r .fill ≤ length (now (line .exit))) ⌝ }
 {
     let mut y = z;
@@ -147,7 +149,7 @@ fn read(store: &mut [u8], z: Session, line: &mut [u8]) -> Session
 
 // The whole input. A proved loop has to end, and nothing says that the input does: it counts down from a number that no run uses up.
 fn read_all(store: &mut [u8], z: Session, line: &mut [u8]) -> Session
-    requires { ⌜ (z .len ≤ length (now store)) × (z .fill ≤ length (now line)) ⌝ }
+    requires { ⌜ Holds z (now store) × (z .fill ≤ length (now line)) ⌝ }
     ensures { λ r. ⌜ Kept z (now (store .entry)) r (now (store .exit)) × (r .fill ≤ length (now (line .exit))) ⌝ }
 {
     let mut y = z;
@@ -166,12 +168,13 @@ fn read_all(store: &mut [u8], z: Session, line: &mut [u8]) -> Session
 }
 
 // A session before its first line.
-fn begin(len: usize) -> Session
-    ensures { λ r. ⌜ (r .len ≡ len) × (r .fill ≡ 0) ⌝ }
+fn begin(len: usize, known: bool) -> Session
+    ensures { λ r. ⌜ (r .len ≡ len) × (r .fill ≡ 0) × (r .known ≡ known) ⌝ }
 {
     Session {
         len,
         changed: false,
+        known,
         fill: 0,
         over: false,
         number: 0,
@@ -180,13 +183,14 @@ fn begin(len: usize) -> Session
     }
 }
 
-// Every line of the input, on a store that is the first len bytes of the buffer.
+// Every line of the input, on a store that is the first len bytes of the buffer. It is checked once, here.
 pub fn run(store: &mut [u8], len: usize) -> Session
     requires { ⌜ len ≤ length (now store) ⌝ }
     ensures { λ r. ⌜ Ran len (now (store .entry)) r (now (store .exit)) ⌝ }
 {
     let mut line = io::buffer();
-    let y = read_all(store, begin(len), &mut line);
+    let known = known::is_accepted(&store[0..len]);
+    let y = read_all(store, begin(len, known), &mut line);
     if y.stopped {
         return y;
     }

@@ -4,6 +4,7 @@ ghost use lib.ListN.{length};
 
 mod files;
 mod input;
+mod known;
 mod obey;
 mod say;
 
@@ -18,9 +19,10 @@ pub enum Outcome {
 }
 
 pub struct Session {
-    // the store: its length, and whether it has changed since it was read
+    // the store: its length, whether it has changed since it was read, and whether it is known to be accepted
     pub len: usize,
     pub changed: bool,
+    pub known: bool,
     // the line that is being read: how much of it is there, whether it is too long, how many came before it
     pub fill: usize,
     pub over: bool,

@@ -5,10 +5,19 @@ ghost use Rattle.store.specs.Accepted.{Accepted};
 ghost use Rattle.store.specs.Demands.{ok};
 ghost use Rattle.store.specs.Pages.{S1024};
 ghost use Rattle.store.specs.Tables.{meaning};
+ghost use Rattle.query.specs.Spots.{OnPage};
+ghost use Rattle.lots.specs.Known.{Known};
 ghost use Rattle.lots.specs.Obeys.{Obeys, Outcomes, Untouched};
+use super::known::check_known;
+use super::known::count_known;
+use super::known::lookup_known;
+use super::known::put_known;
+use super::known::remove_known;
+use super::known::row_known;
 use super::say;
 use crate::Outcome;
 use commands::Command;
+use query::Step;
 use store::Answer;
 use store::Refusal;
 
@@ -36,7 +45,7 @@ pub fn unknown(number: usize) -> Outcome
 }
 
 // Whether an answer is no refusal.
-fn is_done(a: Answer) -> bool
+pub fn is_done(a: Answer) -> bool
     ensures { λ r. ⌜ r ≡ ok (meaning a) ⌝ }
 {
     match a {
@@ -64,43 +73,54 @@ pub fn wrote(a: Answer) -> Outcome
     Outcome::Same
 }
 
-fn row(s: &[u8], n: usize) -> Outcome
+fn row(s: &[u8], n: usize, known: bool) -> Outcome
+    requires { ⌜ Known known (now s) ⌝ }
     ensures { λ r. ⌜ Untouched r ⌝ }
 {
     let mut code = [0u8; 64];
-    let a = query::row_at(s, n, &mut code);
+    let a = row_known(s, n, &mut code, known);
     said(say::answer(a, &code))
 }
 
-// Row n of an accepted store on a line; whether it could be written.
-fn list_row(s: &[u8], n: usize) -> bool
-    requires { ⌜ Accepted S1024 fnv (now s) ⌝ }
+// The row in slot i of the bucket page p on a line; whether it could be written.
+fn list_row(s: &[u8], p: usize, i: usize) -> bool
+    requires { ⌜ OnPage S1024 (now s) p i ⌝ }
 {
     let mut code = [0u8; 64];
-    let a = query::give_row(s, n, &mut code);
+    let a = query::read_row(s, partition::S1024, p, i, &mut code);
     say::answer(a, &code)
 }
 
-// The first n rows of an accepted store, and how many they are.
+// The first n rows of an accepted store in one walk, and how many they are.
 fn list_rows(s: &[u8], n: usize) -> Outcome
     requires { ⌜ Accepted S1024 fnv (now s) ⌝ }
     ensures { λ r. ⌜ Untouched r ⌝ }
 {
+    let mut c = query::cursor_at(s, partition::S1024, 0);
     let mut i = 0;
     while i < n {
-        if !list_row(s, i) {
-            return Outcome::Stopped;
+        match query::next_row(s, partition::S1024, c) {
+            Step::Given(p, slot, next) => {
+                if !list_row(s, p, slot) {
+                    return Outcome::Stopped;
+                }
+                c = next;
+                i += 1;
+            }
+            Step::Done => {
+                return said(say::number(b"rows", i));
+            }
         }
-        i += 1;
     }
-    said(say::number(b"rows", n))
+    said(say::number(b"rows", i))
 }
 
-// Every row. The count checks the store, once for all of them.
-fn list(s: &[u8]) -> Outcome
+// Every row.
+fn list(s: &[u8], known: bool) -> Outcome
+    requires { ⌜ Known known (now s) ⌝ }
     ensures { λ r. ⌜ Untouched r ⌝ }
 {
-    let a = query::count(s);
+    let a = count_known(s, known);
     if let Answer::Rows(n) = a {
         return list_rows(s, n);
     }
@@ -180,7 +200,8 @@ fn inspect(s: &[u8], p: usize, number: usize) -> Outcome
 }
 
 // The line's command on the store. Format is left to the session, which has room for another length.
-pub fn obey(s: &mut [u8], line: &[u8], number: usize) -> Outcome
+pub fn obey(s: &mut [u8], line: &[u8], number: usize, known: bool) -> Outcome
+    requires { ⌜ Known known (now s) ⌝ }
     ensures { λ r. ⌜ Obeys (now (line .entry)) (now (s .entry)) r (now (s .exit)) ⌝ }
 {
     let mut code = io::buffer();
@@ -189,13 +210,13 @@ pub fn obey(s: &mut [u8], line: &[u8], number: usize) -> Outcome
         Command::Nothing => Outcome::Same,
         Command::Unknown => unknown(number),
         Command::Format(n) => Outcome::Format(n),
-        Command::Put(k, place, mode) => wrote(putting::put(s, &code[0..k], place, mode)),
-        Command::Lookup(k) => told(query::lookup(s, &code[0..k])),
-        Command::Remove(k) => wrote(removal::remove(s, &code[0..k])),
-        Command::Count => told(query::count(s)),
-        Command::Row(n) => row(s, n),
-        Command::Listing => list(s),
-        Command::Check => told(query::check(s)),
+        Command::Put(k, place, mode) => wrote(put_known(s, &code[0..k], place, mode, known)),
+        Command::Lookup(k) => told(lookup_known(s, &code[0..k], known)),
+        Command::Remove(k) => wrote(remove_known(s, &code[0..k], known)),
+        Command::Count => told(count_known(s, known)),
+        Command::Row(n) => row(s, n, known),
+        Command::Listing => list(s, known),
+        Command::Check => told(check_known(s, known)),
         Command::Inspect(p) => inspect(s, p, number),
     }
 }

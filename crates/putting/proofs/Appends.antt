@@ -8,8 +8,8 @@ use lib.ListN.{length, getD, take, drop, length-map, length-drop}
 use lib.Seq.{take-all, take-add, drop-drop, drop-cons}
 use Rattle.ground.specs.Lists.{tab, insertAt}
 use Rattle.ground.proofs.Tables.{length-tab, getD-tab}
-use Rattle.words.specs.Codes.{GoodCode, Before}
-use Rattle.page.specs.Page.{Slotted, Natural, count, code, rows, rowAt}
+use Rattle.words.specs.Codes.{Before}
+use Rattle.page.specs.Page.{Slotted, count, code, rows, rowAt}
 use Rattle.page.specs.Steps.{Insertable, Inserted}
 use Rattle.page.specs.Packed.{Fresh}
 use Rattle.partition.specs.Bits.{top}
@@ -24,7 +24,8 @@ use Rattle.store.specs.Pages.{asRow}
 use Rattle.store.specs.Moves.{packFrom}
 use Rattle.store.proofs.Paging.Slotwise.{pack-rows}
 use Rattle.store.proofs.Paging.PageTies.{rows-tab, row-in, page-once, page-order, found-not, append-fits, appended-rows}
-use Rattle.putting.specs.Split.{slots, Behind, Appended, Source, Bucketed}
+use Rattle.putting.specs.Put.{newRow}
+use Rattle.putting.specs.Split.{slots, withNew, Behind, Appendable, Appended, Source, Bucketed}
 
 -- ---- lists in order
 
@@ -48,7 +49,6 @@ module _ (p : List ℕ) where
   pub behind-left : (ts us : List Row) → Behind p (ts ++ us) → Behind p ts
   behind-left ts us B = record {
     page = B .page;
-    size = B .size;
     packed = B .packed;
     rising = rising-left (rs ++ ts) us (subst (Rising by-code) (sym (append-assoc rs ts us)) (B .rising));
     fits = omega (arith, B .fits, needs-append (rs ++ ts) us, ap needs (append-assoc rs ts us));
@@ -64,10 +64,9 @@ module _ (p : List ℕ) where
     pub behind-next : (us : List Row) → Behind p (ts ++ us) → Behind q us
     behind-next us B = record {
       page = A .page;
-      size = A .size ∙ B .size;
       packed = A .rowsOf ∙ ap (packFrom 8) (sym rows-now);
       rising = subst (Rising by-code) (sym all) (B .rising);
-      fits = subst (λ l. needs l ≤ 1016) (sym all) (B .fits);
+      fits = subst (λ l. 8 + needs l ≤ length q) (sym all) (omega (arith, A .size, B .fits));
     }
       where
         all : map asRow (rows q) ++ us ≡ rs ++ (ts ++ us)
@@ -82,14 +81,16 @@ module _ (p : List ℕ) where
     }
 
   -- one row
-  module _ (c pl : List ℕ) (B : Behind p (record { code = c; place = pl } ∷ [])) where
-    pub ready : Natural pl → GoodCode c → Insertable p (count p) c pl
-    unfolding needs need
-    ready n good = append-fits p rs c pl (B .page) (B .packed)
-        (λ i l. rising-before rs (record { code = c; place = pl }) [] (B .rising) (asRow (rowAt p i)) (row-in p i l))
-        n good (omega (arith, B .fits, B .size, needs-append rs (record { code = c; place = pl } ∷ [])))
+  module _ (c pl : List ℕ) (A : Appendable p c pl) where
+    abbrev B : Behind p (newRow c pl ∷ [])
+    B = A .behind
 
-    pub done : (q : List ℕ) → Inserted p (count p) c pl q → Appended p (record { code = c; place = pl } ∷ []) q
+    pub ready : Insertable p (count p) c pl
+    unfolding needs need
+    ready = append-fits p rs c pl (B .page) (B .packed) (λ i l. rising-before rs (newRow c pl) [] (B .rising) (asRow (rowAt p i)) (row-in p i l))
+        (A .natural) (A .good) (omega (arith, B .fits, needs-append rs (newRow c pl ∷ [])))
+
+    pub done : (q : List ℕ) → Inserted p (count p) c pl q → Appended p (newRow c pl ∷ []) q
     done q I = record { page = I .page; size = I .long; deep = I .deep; rowsOf = appended-rows p rs c pl (B .page) (B .packed) q I }
 
 -- ---- the rows of a prefix
@@ -144,14 +145,14 @@ module _ (g : List ℕ) where
 
 module _ (h : List ℕ → ℕ) (g : List ℕ) (i : ℕ) (c pl : List ℕ) (Z : Source g i c pl) (k v : ℕ) where
   abbrev r : Row
-  r = record { code = c; place = pl }
+  r = newRow c pl
 
   abbrev qs : List Row
   qs = map asRow (rows g)
 
   -- before the new row, the new row, and behind it
   abbrev pub parts : List Row
-  parts = rowsOf h (slots g 0 i) k v ++ (rowsOf h (record { code = c; place = pl } ∷ []) k v ++ rowsOf h (slots g i (count g)) k v)
+  parts = rowsOf h (slots g 0 i) k v ++ (rowsOf h (newRow c pl ∷ []) k v ++ rowsOf h (slots g i (count g)) k v)
 
   once : Once (r ∷ qs)
   once = (found-not g (Z .page) c i (Z .belongs), page-once g (Z .page))
@@ -169,7 +170,7 @@ module _ (h : List ℕ → ℕ) (g : List ℕ) (i : ℕ) (c pl : List ℕ) (Z : 
       ∙ ap (λ l. rowsOf h (slots g 0 i) k v ++ l) (rows-append h (r ∷ []) (slots g i (count g)) k v)
 
   -- an empty page, before the rows are put behind one another
-  module _ (e : List ℕ) (x : List ℕ) (F : Fresh e k x) (size : length e ≡ 1024) (fits : needs (rowsOf h (record { code = c; place = pl } ∷ map asRow (rows g)) k v) ≤ 1016) where
+  module _ (e : List ℕ) (x : List ℕ) (F : Fresh e k x) (fits : 8 + needs (rowsOf h (withNew g (newRow c pl)) k v) ≤ length e) where
     bare : rows x ≡ []
     unfolding tab
     bare = ap (tab (rowAt x)) (F .none)
@@ -178,20 +179,18 @@ module _ (h : List ℕ → ℕ) (g : List ℕ) (i : ℕ) (c pl : List ℕ) (Z : 
     unfolding packFrom
     fresh-behind = record {
       page = F .page;
-      size = F .long ∙ size;
       packed = bare ∙ sym (ap (λ l. packFrom 8 (map asRow l)) bare);
       rising = subst (Rising by-code) all (order-rising (rowsOf h (r ∷ qs) k v) (some-once h k v (r ∷ qs) once));
-      fits = subst (λ l. needs l ≤ 1016) all (omega (arith, fits, needs-same (in-order-reordered (rowsOf h (r ∷ qs) k v))));
+      fits = subst (λ l. 8 + needs l ≤ length x) all (omega (arith, fits, F .long, needs-same (in-order-reordered (rowsOf h (r ∷ qs) k v))));
     }
       where
         all : inOrder (rowsOf h (r ∷ qs) k v) ≡ map asRow (rows x) ++ parts
         all = ordered ∙ ap (λ l. map asRow l ++ parts) (sym bare)
 
-    pub bucketed : 0 < needs (rowsOf h (record { code = c; place = pl } ∷ map asRow (rows g)) k v) → (y : List ℕ) → Appended x parts y
-        → Bucketed h (record { code = c; place = pl } ∷ map asRow (rows g)) k v y
+    pub bucketed : 0 < needs (rowsOf h (withNew g (newRow c pl)) k v) → (y : List ℕ) → Appended x parts y → Bucketed h (withNew g (newRow c pl)) k v e y
     bucketed some y A = record {
       page = record { rules = A .page; some = omega (arith, length-tab (rowAt y) (count y), length-map (rows y) asRow, ap length (ap (map asRow) its ∙ pack-rows (inOrder (rowsOf h (r ∷ qs) k v)) 8), length-same (in-order-reordered (rowsOf h (r ∷ qs) k v)), some-need (rowsOf h (r ∷ qs) k v) .1 some) };
-      size = A .size ∙ F .long ∙ size;
+      size = A .size ∙ F .long;
       deep = A .deep ∙ F .deep;
       rowsOf = its;
     }

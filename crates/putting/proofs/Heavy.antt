@@ -1,10 +1,10 @@
--- PUT of a new code that does not fit the page that holds its hash: refusals 6 and 7 from that page's rows, else the page is split. Over any hash.
+-- PUT of a new code that does not fit the page that holds its hash: refusals 6 and 7 from that page's rows, else the page is split. Over any page size and hash.
 -- Assumes nothing.
 use mathlib.Core.Path.{_≡_, refl, sym, ap, subst, _∙_}
 use mathlib.Core.List.{List, [], _∷_, map, List·Memᴰ, List·Memᴰ·cases-cons}
 use mathlib.Core.Logic.{inl, inr, ⊎-elim, _↔_}
-use mathlib.Core.Option.{some, none}
-use Prim.Native.Nat.{ℕ, suc, _+_, _-_, _/_, _≤_, _<_}
+use mathlib.Core.Option.{none}
+use Prim.Native.Nat.{ℕ, suc, _+_, _-_, _≤_, _<_}
 use native.Mathlib.Omega.{arith}
 use lib.ListN.{length, take, length-map}
 use Rattle.ground.proofs.Tests.{none-some}
@@ -14,15 +14,16 @@ use Rattle.ground.proofs.Sides.{side}
 use Rattle.page.specs.Page.{Slotted, Belongs, depth, rows}
 use Rattle.page.specs.Page as InPage
 use Rattle.partition.specs.Bits.{top}
+use Rattle.partition.specs.declared.Shape.{Shape}
 use Rattle.partition.specs.Partition.{Row, need, needs, rowsOf, buckets}
 use Rattle.partition.specs.Listing.{placeOf}
 use Rattle.partition.proofs.Bits.{top-lt}
 use Rattle.partition.proofs.Rows.{same-load}
-use Rattle.store.specs.Pages.{S1024, pages, page, dirDepth, Page, contents, asRow, rowsHeld, deepestIn}
+use Rattle.store.specs.Pages.{pages, page, dirDepth, Page, contents, asRow, rowsHeld, deepestIn}
 use Rattle.store.specs.Accepted.{Accepted}
 use Rattle.store.specs.Moves.{packed, written, putNew, frees}
 use Rattle.store.specs.Tables.{new, refused, Refusal6, Refusal7, putAccepted}
-use Rattle.store.specs.Demands.{Hash, sized-1024}
+use Rattle.store.specs.Demands.{Sized, Hash}
 use Rattle.store.proofs.Showing.Shows.{prefixOn, Shows}
 use Rattle.store.proofs.Accepted.Rules.{opened}
 use Rattle.store.proofs.Showing.Shown.{page-row}
@@ -34,139 +35,149 @@ use Rattle.store.proofs.Put.PutCases.{here-six, splits-seven, put-splits-is}
 use Rattle.store.proofs.Put.PutRows.{put-shown}
 use Rattle.store.proofs.Put.EveryStep.{Roomy}
 use Rattle.directory.specs.Directory.{Directed}
-use Rattle.putting.specs.Put.{Puttable}
-use Rattle.putting.specs.Split.{keyed, below, Source, pagesBelow, Writable, BucketsWritten}
-use Rattle.putting.proofs.Puts.{begins}
+use Rattle.putting.specs.Put.{newRow, Puttable, Crowded}
+use Rattle.putting.specs.Split.{keyed, withNew, below, Source, pagesBelow, Writable, BucketsWritten}
+use Rattle.putting.proofs.Puts.{home-page, begins}
 use Rattle.putting.proofs.Weighs.{load-any, below-shared, below-all}
 use Rattle.directory.proofs.Settles.{unwritten, settled}
 use Rattle.putting.proofs.Splits.{first-given}
 
-module _ (h : List ℕ → ℕ) (hash : Hash h) (s c pl : List ℕ) (P : Puttable h s c pl) (p : ℕ) (U : Naming S1024 h s (top (dirDepth s) (h c)) p)
-    (i : ℕ) (B : Belongs (page S1024 s p) i c) (tight : InPage.free (page S1024 s p) < 12 + length c) where
-  abbrev A : Accepted S1024 h s
+module _ (S : Shape) (h : List ℕ → ℕ) (hash : Hash h) (s : List ℕ) (p i : ℕ) (c pl : List ℕ) (C : Crowded S h s p i c pl) where
+  abbrev P : Puttable S h s c pl
+  P = C .row .row
+
+  abbrev sized : Sized S
+  sized = P .sized
+
+  abbrev A : Accepted S h s
   A = P .accepted
 
+  pub home : Naming S h s (top (dirDepth s) (h c)) p
+  home = home-page S h hash s p c pl (C .row)
+
+  abbrev B : Belongs (page S s p) i c
+  B = C .belongs
+
   abbrev g : List ℕ
-  g = page S1024 s p
+  g = page S s p
 
   abbrev r : Row
-  r = record { code = c; place = pl }
+  r = newRow c pl
 
   -- the page's rows and the new one
   abbrev rs : List Row
-  rs = r ∷ map asRow (rows g)
+  rs = withNew g r
 
   abbrev gs : List Page
-  gs = contents S1024 s
+  gs = contents S s
 
-  shows : Shows S1024 h (rowsHeld S1024 s) gs
-  shows = accepted-shows S1024 h sized-1024 hash s A
+  shows : Shows S h (rowsHeld S s) gs
+  shows = accepted-shows S h sized hash s A
 
   slotted : Slotted g
-  slotted = U .bytes .rules .rules
+  slotted = home .bytes .rules .rules
 
   starts : prefixOn h (depth g) (rows g) ≡ top (depth g) (h c)
-  starts = begins S1024 h sized-1024 hash s A c p U
+  starts = begins S h sized hash s A c p home
 
-  absent : placeOf (rowsHeld S1024 s) c ≡ none
-  absent = place-on S1024 h (rowsHeld S1024 s) gs shows c (p - 2) (depth g) (rows g) (U .holding) (sym starts) ∙ found-not g slotted c i B
+  absent : placeOf (rowsHeld S s) c ≡ none
+  absent = place-on S h (rowsHeld S s) gs shows c (p - 2) (depth g) (rows g) (home .holding) (sym starts) ∙ found-not g slotted c i B
 
-  heavy : 1016 < needs rs
+  heavy : S .capacity < needs rs
   unfolding need
-  heavy = ⊎-elim (λ l. l) (λ l. absurd (omega (arith, tight, fits-needs g slotted S1024 r (page-long S1024 s p (U .to)) .1 l))) (side 1016 (needs rs))
+  heavy = ⊎-elim (λ l. l) (λ l. absurd (omega (arith, C .tight, fits-needs g slotted S r (page-long S s p (home .to)) .1 l))) (side (S .capacity) (needs rs))
 
-  pub shallow : depth (page S1024 s p) ≤ 8
-  shallow = omega (arith, U .low, opened S1024 h s A .page0 .depth)
+  pub shallow : depth (page S s p) ≤ S .deepest
+  shallow = omega (arith, home .low, opened S h s A .page0 .depth)
 
   -- the page's rows and the new one, whatever its place: they share the page's bits, and so their buckets lie below these
   module _ (o : List ℕ) where
     abbrev os : List Row
-    os = record { code = c; place = o } ∷ map asRow (rows g)
+    os = withNew g (newRow c o)
 
     shared : (q : Row) → List·Memᴰ q os → top (depth g) (h (q .code)) ≡ top (depth g) (h c)
     shared q m = ⊎-elim
         (λ e. ap (λ y. top (depth g) (h (y .code))) e)
-        (λ t. page-row S1024 h (rowsHeld S1024 s) (depth g) (rows g) (shows .page (p - 2) (depth g) (rows g) (U .holding)) q .0 t .1 ∙ starts)
+        (λ t. page-row S h (rowsHeld S s) (depth g) (rows g) (shows .page (p - 2) (depth g) (rows g) (home .holding)) q .0 t .1 ∙ starts)
         (List·Memᴰ·cases-cons m)
 
-    over : 1016 < needs os
+    over : S .capacity < needs os
     unfolding needs need
     over = heavy
 
-    lower : below h os (depth g) (top (depth g) (h c)) ≡ below h os 0 0
-    lower = below-shared h os (h c) (depth g) (hash c) shallow shared over
+    lower : below S h os (depth g) (top (depth g) (h c)) ≡ below S h os 0 0
+    lower = below-shared S h os (h c) (depth g) (hash c) shallow shared over
 
   -- refusal 6
-  deep : needs (rowsOf h (r ∷ rowsHeld S1024 s) 8 (top 8 (h c))) ≡ needs (rowsOf h (keyed c ∷ map asRow (rows g)) 8 (top 8 (h c)))
+  deep : needs (rowsOf h (r ∷ rowsHeld S s) (S .deepest) (top (S .deepest) (h c))) ≡ needs (rowsOf h (withNew g (keyed c)) (S .deepest) (top (S .deepest) (h c)))
   deep =
-      here-six S1024 h hash (rowsHeld S1024 s) gs shows r (p - 2) (depth g) (rows g) (U .holding) starts
-      ∙ load-any h r (keyed c) refl (map asRow (rows g)) (map asRow (rows g)) 8 (top 8 (h c)) refl
+      here-six S h hash (rowsHeld S s) gs shows r (p - 2) (depth g) (rows g) (home .holding) starts
+      ∙ load-any h r (keyed c) refl (map asRow (rows g)) (map asRow (rows g)) (S .deepest) (top (S .deepest) (h c)) refl
 
-  pub heavy-six : 1016 < needs (rowsOf h (keyed c ∷ map asRow (rows (page S1024 s p))) 8 (top 8 (h c))) → Answers (putAccepted S1024 h s (record { code = c; place = pl })) (refused 6, s)
+  pub heavy-six : S .capacity < needs (rowsOf h (withNew (page S s p) (keyed c)) (S .deepest) (top (S .deepest) (h c))) → Answers (putAccepted S h s (newRow c pl)) (refused 6, s)
   heavy-six o = inr ((λ _. none-some absent), inl (tt, (omega (arith, deep, o), refl)))
 
-  module _ (fine : needs (rowsOf h (keyed c ∷ map asRow (rows (page S1024 s p))) 8 (top 8 (h c))) ≤ 1016) where
-    six : Refusal6 S1024 h (rowsHeld S1024 s) r → ⊥
+  module _ (fine : needs (rowsOf h (withNew (page S s p) (keyed c)) (S .deepest) (top (S .deepest) (h c))) ≤ S .capacity) where
+    six : Refusal6 S h (rowsHeld S s) r → ⊥
     six x = omega (arith, deep, fine)
 
     -- refusal 7
-    many : length (buckets S1024 h rs) ≡ length (below h (keyed c ∷ map asRow (rows g)) (depth g) (top (depth g) (h c)))
+    many : length (buckets S h rs) ≡ length (below S h (withNew g (keyed c)) (depth g) (top (depth g) (h c)))
     many =
-        ap length (same-load S1024 h rs (keyed c ∷ map asRow (rows g)) (λ k v. load-any h r (keyed c) refl (map asRow (rows g)) (map asRow (rows g)) k v refl)
-        ∙ sym (below-all h (keyed c ∷ map asRow (rows g))) ∙ sym (lower []))
+        ap length (same-load S h rs (withNew g (keyed c)) (λ k v. load-any h r (keyed c) refl (map asRow (rows g)) (map asRow (rows g)) k v refl)
+        ∙ sym (below-all S h (withNew g (keyed c))) ∙ sym (lower []))
 
-    seven-is : (length (buckets S1024 h (r ∷ rowsHeld S1024 s)) ≤ length gs) ↔ (length (buckets S1024 h rs) ≤ suc (frees gs))
-    seven-is = splits-seven S1024 h hash (rowsHeld S1024 s) gs shows r (p - 2) (depth g) (rows g) (U .holding) starts heavy
+    seven-is : (length (buckets S h (r ∷ rowsHeld S s)) ≤ length gs) ↔ (length (buckets S h rs) ≤ suc (frees gs))
+    seven-is = splits-seven S h hash (rowsHeld S s) gs shows r (p - 2) (depth g) (rows g) (home .holding) starts heavy
 
-    pub heavy-seven : frees (contents S1024 s) + 1 < length (below h (keyed c ∷ map asRow (rows (page S1024 s p))) (depth (page S1024 s p)) (top (depth (page S1024 s p)) (h c))) → Answers (putAccepted S1024 h s (record { code = c; place = pl })) (refused 7, s)
+    pub heavy-seven : frees (contents S s) + 1 < length (below S h (withNew (page S s p) (keyed c)) (depth (page S s p)) (top (depth (page S s p)) (h c))) → Answers (putAccepted S h s (newRow c pl)) (refused 7, s)
     heavy-seven o =
-        let full : pages S1024 s - 2 < length (buckets S1024 h (r ∷ rowsHeld S1024 s)) = ⊎-elim
+        let full : pages S s - 2 < length (buckets S h (r ∷ rowsHeld S s)) = ⊎-elim
         (λ l. l)
-        (λ l. absurd (omega (arith, many, o, seven-is .0 (omega (arith, l, pages-held S1024 s)))))
-        (side (pages S1024 s - 2) (length (buckets S1024 h (r ∷ rowsHeld S1024 s)))) in
+        (λ l. absurd (omega (arith, many, o, seven-is .0 (omega (arith, l, pages-held S s)))))
+        (side (pages S s - 2) (length (buckets S h (r ∷ rowsHeld S s)))) in
         inr ((λ _. none-some absent), inr ((λ _. six), inl (tt, (full, refl))))
 
     -- the buckets that are written
     abbrev ns : List Page
-    ns = pagesBelow h rs (depth g) (top (depth g) (h c))
+    ns = pagesBelow S h rs (depth g) (top (depth g) (h c))
 
-    news : ns ≡ map (packed h rs) (buckets S1024 h rs)
-    news = ap (map (packed h rs)) (lower pl ∙ below-all h rs)
+    news : ns ≡ map (packed h rs) (buckets S h rs)
+    news = ap (map (packed h rs)) (lower pl ∙ below-all S h rs)
 
-    count : length ns ≡ length (buckets S1024 h rs)
-    count = ap length news ∙ length-map (buckets S1024 h rs) (packed h rs)
+    count : length ns ≡ length (buckets S h rs)
+    count = ap length news ∙ length-map (buckets S h rs) (packed h rs)
 
     -- as many as are counted
-    pub as-many : length (pagesBelow h (record { code = c; place = pl } ∷ map asRow (rows (page S1024 s p))) (depth (page S1024 s p)) (top (depth (page S1024 s p)) (h c)))
-        ≡ length (below h (keyed c ∷ map asRow (rows (page S1024 s p))) (depth (page S1024 s p)) (top (depth (page S1024 s p)) (h c)))
+    pub as-many : length (pagesBelow S h (withNew (page S s p) (newRow c pl)) (depth (page S s p)) (top (depth (page S s p)) (h c)))
+        ≡ length (below S h (withNew (page S s p) (keyed c)) (depth (page S s p)) (top (depth (page S s p)) (h c)))
     as-many = count ∙ many
 
-    module _ (room : Roomy (contents S1024 s) (p - 2) (pagesBelow h (record { code = c; place = pl } ∷ map asRow (rows (page S1024 s p))) (depth (page S1024 s p)) (top (depth (page S1024 s p)) (h c)))) where
-      seven : Refusal7 S1024 h s (rowsHeld S1024 s) r → ⊥
-      seven x = omega (arith, seven-is .1 (omega (arith, count, room .many)), pages-held S1024 s)
+    module _ (room : Roomy (contents S s) (p - 2) (pagesBelow S h (withNew (page S s p) (newRow c pl)) (depth (page S s p)) (top (depth (page S s p)) (h c)))) where
+      seven : Refusal7 S h s (rowsHeld S s) r → ⊥
+      seven x = omega (arith, seven-is .1 (omega (arith, count, room .many)), pages-held S s)
 
-      pub source : Source (page S1024 s p) i c pl
+      pub source : Source (page S s p) i c pl
       source = record { page = slotted; belongs = B; natural = P .natural; good = P .good }
 
-      pub writable : Writable h (record { code = c; place = pl } ∷ map asRow (rows (page S1024 s p))) (depth (page S1024 s p)) (top (depth (page S1024 s p)) (h c)) s p
+      pub writable : Writable S h (withNew (page S s p) (newRow c pl)) (depth (page S s p)) (top (depth (page S s p)) (h c)) s p
       writable = record {
-        deep = shallow;
-        prefix = top-lt (h c) (depth g) (hash c);
+        prefix = record { sized = sized; deep = shallow; bits = top-lt (h c) (depth g) (hash c) };
         long = A .long;
-        sound = unwritten S1024 sized-1024 h hash s A;
-        from = λ _. U .from;
-        to = U .to;
-        room = λ m l f. subst (λ j. 0 < frees (written gs j (take m ns))) (sym (first-given gs p (U .from))) (room .step m (f (omega (arith, U .from))) l);
+        sound = unwritten S sized h hash s A;
+        from = λ _. home .from;
+        to = home .to;
+        room = λ m l f. subst (λ j. 0 < frees (written gs j (take m ns))) (sym (first-given gs p (home .from))) (room .step m (f (omega (arith, home .from))) l);
       }
 
-      module _ (t : List ℕ) (n : ℕ) (W : BucketsWritten h (record { code = c; place = pl } ∷ map asRow (rows (page S1024 s p))) (depth (page S1024 s p)) (top (depth (page S1024 s p)) (h c)) s p t n) where
-        holds : contents S1024 t ≡ putNew S1024 h gs r
+      module _ (t : List ℕ) (n : ℕ) (W : BucketsWritten S h (withNew (page S s p) (newRow c pl)) (depth (page S s p)) (top (depth (page S s p)) (h c)) s p t n) where
+        holds : contents S t ≡ putNew S h gs r
         holds =
-            W .held ∙ (λ x. written gs (first-given gs p (U .from) x) (news x))
-            ∙ sym (put-splits-is S1024 h hash (rowsHeld S1024 s) gs shows r (p - 2) (depth g) (rows g) (U .holding) starts heavy)
+            W .held ∙ (λ x. written gs (first-given gs p (home .from) x) (news x))
+            ∙ sym (put-splits-is S h hash (rowsHeld S s) gs shows r (p - 2) (depth g) (rows g) (home .holding) starts heavy)
 
-        pub heavy-new : (u : List ℕ) → Directed S1024 h t (deepestIn (contents S1024 t)) (length s / 1024) u → ((k : ℕ) → byte u k < 256)
-            → Answers (putAccepted S1024 h s (record { code = c; place = pl })) (new, u)
+        pub heavy-new : (u : List ℕ) → Directed S h t (deepestIn (contents S t)) (pages S s) u → ((k : ℕ) → byte u k < 256)
+            → Answers (putAccepted S h s (newRow c pl)) (new, u)
         heavy-new u D b =
             inr (
               (λ _. none-some absent),
@@ -174,7 +185,7 @@ module _ (h : List ℕ → ℕ) (hash : Hash h) (s c pl : List ℕ) (P : Puttabl
                 (λ _. six),
                 inr (
                   (λ _. seven),
-                  (refl, rw (← holds) (settled S1024 sized-1024 h hash s A t (W .pages) u D (r ∷ rowsHeld S1024 s) (rw holds (put-shown S1024 h sized-1024 hash s r A absent six seven)) b)),
+                  (refl, rw (← holds) (settled S sized h hash s A t (W .pages) u D (r ∷ rowsHeld S s) (rw holds (put-shown S h sized hash s r A absent six seven)) b)),
                 ),
               ),
             )

@@ -1,11 +1,10 @@
--- PUT of a new code where no page holds its hash: a bucket of the row alone in the lowest free page, or refusal 7. Assumes nothing.
+-- PUT of a new code where no page holds its hash: a bucket of the row alone in the lowest free page, or refusal 7. Over any page size and hash. Assumes nothing.
 use mathlib.Core.Path.{_≡_, refl, sym, ap, subst, _∙_}
 use mathlib.Core.List.{List, [], _∷_}
 use mathlib.Core.Logic.{inl, inr, ⊎-elim, _↔_}
 use mathlib.Core.Option.{none}
 use Prim.Native.Nat.{ℕ, suc, _+_, _-_, _/_, _^_, _≤_, _<_}
 use native.Mathlib.Omega.{arith}
-use lib.Pow.{pow-mono}
 use lib.ListN.{length, set}
 use Rattle.ground.proofs.Tests.{none-some}
 use Rattle.ground.specs.Lists.{byte}
@@ -14,16 +13,17 @@ use Rattle.ground.proofs.Sides.{side}
 use Rattle.page.specs.Page.{depth}
 use Rattle.page.specs.Packed.{Started}
 use Rattle.partition.specs.Bits.{top}
+use Rattle.partition.specs.declared.Shape.{Shape}
 use Rattle.partition.specs.Partition.{Row, need, needs, rowsOf, buckets}
 use Rattle.partition.specs.Listing.{placeOf}
 use Rattle.partition.proofs.Bits.{top-step}
 use Rattle.partition.proofs.Path.{path-le}
 use Rattle.partition.proofs.Rows.{load, load-mono}
-use Rattle.store.specs.Pages.{S1024, pages, page, dirDepth, entryAt, Page, bucket, contents, rowsHeld, deepestIn, setPage}
+use Rattle.store.specs.Pages.{pages, page, dirDepth, entryAt, Page, bucket, contents, rowsHeld, deepestIn, setPage}
 use Rattle.store.specs.Accepted.{Accepted}
 use Rattle.store.specs.Moves.{find, isFree, record-at, putNew, frees}
 use Rattle.store.specs.Tables.{new, refused, Refusal6, Refusal7, putAccepted}
-use Rattle.store.specs.Demands.{Hash, sized-1024}
+use Rattle.store.specs.Demands.{Sized, Hash}
 use Rattle.store.proofs.Accepted.Rules.{opened}
 use Rattle.store.proofs.Showing.Shows.{Shows}
 use Rattle.store.proofs.Showing.Showing.{accepted-shows, pages-held}
@@ -31,96 +31,106 @@ use Rattle.store.proofs.Accepted.Unique.{page-long}
 use Rattle.store.proofs.Accepted.Reading.{entryOf, lookup-none}
 use Rattle.store.proofs.Put.PutCases.{unheld-six, unheld-seven, put-unheld-is}
 use Rattle.store.proofs.Put.PutRows.{put-shown}
+use Rattle.store_check.proofs.Naming.{room as room-for}
 use Rattle.directory.specs.Directory.{Directed, Rewritten}
-use Rattle.putting.specs.Put.{Puttable, Unset, Vacant}
+use Rattle.putting.specs.Put.{newRow, Puttable, Homeless, Unset, Vacant}
 use Rattle.directory.proofs.Vacancy.{off, set-entry, some-row}
 use Rattle.directory.proofs.Settles.{rewritten-set, set-holds, unwritten, settled}
 
-module _ (h : List ℕ → ℕ) (hash : Hash h) (s c pl : List ℕ) (P : Puttable h s c pl) (unnamed : entryOf S1024 h s c ≡ 0) where
-  abbrev A : Accepted S1024 h s
+module _ (S : Shape) (h : List ℕ → ℕ) (hash : Hash h) (s : List ℕ) (x : ℕ) (c pl : List ℕ) (O : Homeless S h s x c pl) where
+  abbrev P : Puttable S h s c pl
+  P = O .row
+
+  abbrev sized : Sized S
+  sized = P .sized
+
+  abbrev A : Accepted S h s
   A = P .accepted
 
+  unnamed : entryOf S h s c ≡ 0
+  unnamed = ap (λ y. entryAt S s (top (dirDepth s) y)) (sym (O .hash)) ∙ O .none
+
   abbrev r : Row
-  r = record { code = c; place = pl }
+  r = newRow c pl
 
   abbrev gs : List Page
-  gs = contents S1024 s
+  gs = contents S s
 
-  shows : Shows S1024 h (rowsHeld S1024 s) gs
-  shows = accepted-shows S1024 h sized-1024 hash s A
+  shows : Shows S h (rowsHeld S s) gs
+  shows = accepted-shows S h sized hash s A
 
   abbrev d : ℕ
   d = dirDepth s
 
-  d-8 : d ≤ 8
-  d-8 = opened S1024 h s A .page0 .depth
+  low-d : d ≤ S .deepest
+  low-d = opened S h s A .page0 .depth
 
   -- the entry of the hash is the only one that all its bits call for
-  pub own-unset : Unset s (dirDepth s) (dirDepth s) (top (dirDepth s) (h c))
+  pub own-unset : Unset S s (dirDepth s) (dirDepth s) (top (dirDepth s) (h c))
   own-unset i q =
       let z : d - d ≡ 0 = omega arith in
       let e : i / 2 ^ 0 ≡ top d (h c) = subst (λ n. i / 2 ^ n ≡ top d (h c)) z (q .bits) in
       let j : i ≡ top d (h c) = omega (arith, e) in
-      ap (entryAt S1024 s) j ∙ unnamed
+      ap (entryAt S s) j ∙ unnamed
 
   -- a prefix that has no row
-  unset-all : (j : ℕ) → j ≤ d → needs (rowsOf h (rowsHeld S1024 s) j (top j (h c))) ≤ 0 → Unset s d j (top j (h c))
+  unset-all : (j : ℕ) → j ≤ d → needs (rowsOf h (rowsHeld S s) j (top j (h c))) ≤ 0 → Unset S s d j (top j (h c))
   unset-all j l z i q =
-      let b : i < 256 = let m : 2 ^ d ≤ 2 ^ 8 = pow-mono d-8 in omega (arith, q .below) in
-      ⊎-elim (λ p. absurd (omega (arith, some-row S1024 h sized-1024 hash s A c unnamed j i l b q (λ e. omega (arith, p, e))))) (λ p. omega (arith, p)) (side 0 (entryAt S1024 s i))
+      let b : i < S .entries = omega (arith, q .below, room-for S sized d low-d) in
+      ⊎-elim (λ p. absurd (omega (arith, some-row S h sized hash s A c unnamed j i l b q (λ e. omega (arith, p, e))))) (λ p. omega (arith, p)) (side 0 (entryAt S s i))
 
-  absent : placeOf (rowsHeld S1024 s) c ≡ none
-  absent = lookup-none S1024 h sized-1024 hash s A c unnamed
+  absent : placeOf (rowsHeld S s) c ≡ none
+  absent = lookup-none S h sized hash s A c unnamed
 
-  small : need r ≤ 1016
+  small : need r ≤ S .capacity
   unfolding need
-  small = omega (arith, P .good .most)
+  small = omega (arith, P .good .most, sized .least)
 
-  six : Refusal6 S1024 h (rowsHeld S1024 s) r → ⊥
+  six : Refusal6 S h (rowsHeld S s) r → ⊥
   unfolding need
-  six x = omega (arith, unheld-six S1024 h hash (rowsHeld S1024 s) gs shows r (off S1024 h sized-1024 hash s A c unnamed), P .good .most)
+  six x = omega (arith, unheld-six S h hash (rowsHeld S s) gs shows r (off S h sized hash s A c unnamed), P .good .most, sized .least)
 
-  seven : (length (buckets S1024 h (r ∷ rowsHeld S1024 s)) ≤ length gs) ↔ (0 < frees gs)
-  seven = unheld-seven S1024 h hash (rowsHeld S1024 s) gs shows r (off S1024 h sized-1024 hash s A c unnamed) small
+  seven : (length (buckets S h (r ∷ rowsHeld S s)) ≤ length gs) ↔ (0 < frees gs)
+  seven = unheld-seven S h hash (rowsHeld S s) gs shows r (off S h sized hash s A c unnamed) small
 
   -- no page is free
-  pub unheld-full : frees (contents S1024 s) ≡ 0 → Answers (putAccepted S1024 h s (record { code = c; place = pl })) (refused 7, s)
+  pub unheld-full : frees (contents S s) ≡ 0 → Answers (putAccepted S h s (newRow c pl)) (refused 7, s)
   unheld-full e =
-      inr ((λ _. none-some absent), inr ((λ _. six), inl (tt, (⊎-elim (λ l. omega (arith, pages-held S1024 s)) (λ l. absurd (omega (arith, seven .0 (omega (arith, pages-held S1024 s, l)), e))) (side (pages S1024 s - 2) (length (buckets S1024 h (r ∷ rowsHeld S1024 s)))), refl))))
+      inr ((λ _. none-some absent), inr ((λ _. six), inl (tt, (⊎-elim (λ l. omega (arith, pages-held S s)) (λ l. absurd (omega (arith, seven .0 (omega (arith, pages-held S s, l)), e))) (side (pages S s - 2) (length (buckets S h (r ∷ rowsHeld S s)))), refl))))
 
   -- one is
-  module _ (some : 0 < frees (contents S1024 s)) (k : ℕ) (K : Vacant s (dirDepth s) (h c) k) (f : ℕ) (e : f ≡ 2 + find isFree (contents S1024 s)) (to : f < pages S1024 s) (q : List ℕ) (Q : Started (page S1024 s f) k c pl q) where
-    room : Refusal7 S1024 h s (rowsHeld S1024 s) r → ⊥
-    room x = omega (arith, pages-held S1024 s, seven .1 some)
+  module _ (some : 0 < frees (contents S s)) (k : ℕ) (K : Vacant S s (dirDepth s) (h c) k) (f : ℕ) (e : f ≡ 2 + find isFree (contents S s)) (to : f < pages S s) (q : List ℕ) (Q : Started (page S s f) k c pl q) where
+    room : Refusal7 S h s (rowsHeld S s) r → ⊥
+    room x = omega (arith, pages-held S s, seven .1 some)
 
-    bare : needs (rowsOf h (rowsHeld S1024 s) k (top k (h c))) ≡ 0
+    bare : needs (rowsOf h (rowsHeld S s) k (top k (h c))) ≡ 0
     bare = ⊎-elim
-        (λ l. let w = set-entry S1024 h sized-1024 hash s A k (top k (h c)) (K .low) l in absurd (w .2 (K .unset (w .0) (w .1))))
+        (λ l. let w = set-entry S h sized hash s A k (top k (h c)) (K .low) l in absurd (w .2 (K .unset (w .0) (w .1))))
         (λ l. omega arith)
-        (side 0 (needs (rowsOf h (rowsHeld S1024 s) k (top k (h c)))))
+        (side 0 (needs (rowsOf h (rowsHeld S s) k (top k (h c)))))
 
-    above : (i : ℕ) → i < k → 0 < needs (rowsOf h (rowsHeld S1024 s) i (top i (h c)))
+    above : (i : ℕ) → i < k → 0 < needs (rowsOf h (rowsHeld S s) i (top i (h c)))
     above i l =
         let j : k ≡ suc (k - 1) = omega arith in
         ⊎-elim
-        (λ p. omega (arith, p, path-le (λ n. top n (h c)) (top-step (h c)) 1016 (load h (rowsHeld S1024 s)) (load-mono h (rowsHeld S1024 s)) i (k - 1) (omega arith)))
+        (λ p. omega (arith, p, path-le (λ n. top n (h c)) (top-step (h c)) (S .capacity) (load h (rowsHeld S s)) (load-mono h (rowsHeld S s)) i (k - 1) (omega arith)))
         (λ z. absurd (K .above (k - 1) j (unset-all (k - 1) (omega (arith, K .low)) z)))
-        (side 0 (needs (rowsOf h (rowsHeld S1024 s) (k - 1) (top (k - 1) (h c)))))
+        (side 0 (needs (rowsOf h (rowsHeld S s) (k - 1) (top (k - 1) (h c)))))
 
-    is : putNew S1024 h gs r ≡ set gs (find isFree gs) (bucket k (record-at 8 r ∷ []))
-    is = put-unheld-is S1024 h hash (rowsHeld S1024 s) gs shows r (off S1024 h sized-1024 hash s A c unnamed) small k bare above
+    is : putNew S h gs r ≡ set gs (find isFree gs) (bucket k (record-at 8 r ∷ []))
+    is = put-unheld-is S h hash (rowsHeld S s) gs shows r (off S h sized hash s A c unnamed) small k bare above
 
-    pub wrote : Rewritten S1024 s (setPage S1024 s f q)
-    wrote = rewritten-set S1024 s s (unwritten S1024 sized-1024 h hash s A) f (omega arith) to q (Q .page) (Q .long ∙ page-long S1024 s f to) (omega (arith, Q .deep, K .low, d-8))
+    pub wrote : Rewritten S s (setPage S s f q)
+    wrote = rewritten-set S s s (unwritten S sized h hash s A) f (omega arith) to q (Q .page) (Q .long ∙ page-long S s f to) (omega (arith, Q .deep, K .low, low-d))
 
-    holds : contents S1024 (setPage S1024 s f q) ≡ putNew S1024 h gs r
+    holds : contents S (setPage S s f q) ≡ putNew S h gs r
     holds =
         let i : f - 2 ≡ find isFree gs = omega arith in
-        set-holds S1024 s s (unwritten S1024 sized-1024 h hash s A) f (omega arith) to q (Q .page) (Q .long ∙ page-long S1024 s f to) (omega (arith, Q .deep, K .low, d-8))
+        set-holds S s s (unwritten S sized h hash s A) f (omega arith) to q (Q .page) (Q .long ∙ page-long S s f to) (omega (arith, Q .deep, K .low, low-d))
         ∙ (λ x. set gs (i x) (bucket (Q .deep x) (Q .rowsOf x))) ∙ sym is
 
-    pub unheld-new : (u : List ℕ) → Directed S1024 h (setPage S1024 s f q) (deepestIn (contents S1024 (setPage S1024 s f q))) (length s / 1024) u → ((i : ℕ) → byte u i < 256)
-        → Answers (putAccepted S1024 h s (record { code = c; place = pl })) (new, u)
+    pub unheld-new : (u : List ℕ) → Directed S h (setPage S s f q) (deepestIn (contents S (setPage S s f q))) (pages S s) u → ((i : ℕ) → byte u i < 256)
+        → Answers (putAccepted S h s (newRow c pl)) (new, u)
     unheld-new u D b =
         inr (
           (λ _. none-some absent),
@@ -128,7 +138,7 @@ module _ (h : List ℕ → ℕ) (hash : Hash h) (s c pl : List ℕ) (P : Puttabl
             (λ _. six),
             inr (
               (λ _. room),
-              (refl, rw (← holds) (settled S1024 sized-1024 h hash s A (setPage S1024 s f q) wrote u D (r ∷ rowsHeld S1024 s) (rw holds (put-shown S1024 h sized-1024 hash s r A absent six room)) b)),
+              (refl, rw (← holds) (settled S sized h hash s A (setPage S s f q) wrote u D (r ∷ rowsHeld S s) (rw holds (put-shown S h sized hash s r A absent six room)) b)),
             ),
           ),
         )

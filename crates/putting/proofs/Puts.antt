@@ -1,11 +1,12 @@
 -- PUT on an accepted store where a page holds the hash of the code: a known code, and a new one that fits. Over any page size and hash. Assumes nothing.
 use mathlib.Core.Path.{_≡_, refl, sym, ap, subst, _∙_}
-use mathlib.Core.List.{List, _∷_, map, List·Memᴰ, List·Memᴰ·head}
+use mathlib.Core.List.{List, _∷_, _++_, map, List·Memᴰ, List·Memᴰ·head}
 use mathlib.Core.Logic.{inl, inr, ⊎-elim}
 use mathlib.Core.Option.{some, none}
 use Prim.Native.Nat.{ℕ, _+_, _-_, _*_, _≤_, _<_}
 use native.Mathlib.Omega.{arith}
-use lib.ListN.{length, getD, set, length-set}
+use lib.ListN.{length, getD, take, drop, set, length-set}
+use lib.Seq.{length-take-le}
 use Rattle.ground.proofs.Tests.{none-some}
 use Rattle.ground.specs.Lists.{byte}
 use Rattle.ground.specs.Ladder.{Answers}
@@ -32,7 +33,7 @@ use Rattle.store.proofs.Showing.Shows.{prefixOn, Holding, Shows}
 use Rattle.store.proofs.Showing.Shown.{within-pages, page-row, find-only}
 use Rattle.store.proofs.Accepted.Unique.{page-long}
 use Rattle.store.proofs.Showing.Showing.{accepted-shows, pages-held}
-use Rattle.store.proofs.Accepted.Reading.{Naming, place-on}
+use Rattle.store.proofs.Accepted.Reading.{Naming, lookup-page, place-on}
 use Rattle.store.proofs.Put.OverShows.{over-one, prefix-over}
 use Rattle.store.proofs.Remove.MoveRows.{over-shown}
 use Rattle.store.proofs.Paging.PageTies.{slot-of, found-at, found-not, page-order, fits-needs, added-rows, overwritten-rows}
@@ -41,8 +42,23 @@ use Rattle.store.proofs.Showing.Rooms.{set-holds}
 use Rattle.store.proofs.Put.PutCases.{fits-six, fits-seven, put-fits-is}
 use Rattle.store.proofs.Put.PutRows.{put-shown}
 use Rattle.store.proofs.Accepted.Accepting.{Laid, accepted-laid, laid-becomes}
-use Rattle.store.proofs.Paging.Views.{set-long}
+use Rattle.store.proofs.Paging.Views.{page-back, set-long}
 use Rattle.directory.proofs.OnePage.{laid-set}
+use Rattle.putting.specs.Put.{newRow, Homed}
+
+-- the first n of the bytes that are lent are n
+pub lent-long : (l : List ℕ) (n : ℕ) → n ≤ length l → length (take (n - 0) (drop 0 l)) ≡ n
+lent-long l n b = let e : n - 0 ≡ n = omega arith in length-take-le (n - 0) l (omega arith) ∙ e
+
+-- the store as it comes back with page p
+pub given-back : (S : Shape) (s : List ℕ) (p : ℕ) (q : List ℕ) → take (p * size S) s ++ (q ++ drop (p * size S + size S - p * size S) (drop (p * size S) s)) ≡ setPage S s p q
+given-back S s p q = page-back S s q p (p * size S) (p * size S + size S) refl refl
+
+-- the page that the row's hash leads to
+pub home-page : (S : Shape) (h : List ℕ → ℕ) → Hash h → (s : List ℕ) (p : ℕ) (c pl : List ℕ) → Homed S h s p c pl → Naming S h s (top (dirDepth s) (h c)) p
+home-page S h hash s p c pl H =
+    let e = H .home .names in
+    subst (Naming S h s (top (dirDepth s) (h c))) e (lookup-page S h (H .row .sized) hash s (H .row .accepted) c (λ n. omega (arith, n, e, H .home .some)) .0)
 
 module _ (S : Shape) (h : List ℕ → ℕ) (sized : Sized S) (hash : Hash h) (s : List ℕ) (A : Accepted S h s) (c : List ℕ) (p : ℕ) (U : Naming S h s (top (dirDepth s) (h c)) p) where
   abbrev g : List ℕ
@@ -72,10 +88,10 @@ module _ (S : Shape) (h : List ℕ → ℕ) (sized : Sized S) (hash : Hash h) (s
 
   module _ (i : ℕ) (b : i < count g) (e : code g i ≡ c) (pl q : List ℕ) (O : Overwritten g i pl q) where
     abbrev known-row : Row
-    known-row = record { code = c; place = pl }
+    known-row = newRow c pl
 
     known-rows : rows q ≡ map (placeOn known-row) (rows g)
-    known-rows = subst (λ x. rows q ≡ map (placeOn (record { code = x; place = pl })) (rows g)) e (overwritten-rows g i pl q slotted b O)
+    known-rows = subst (λ x. rows q ≡ map (placeOn (newRow x pl)) (rows g)) e (overwritten-rows g i pl q slotted b O)
 
     known-page : BucketPage q
     known-page = record {
@@ -96,7 +112,7 @@ module _ (S : Shape) (h : List ℕ → ℕ) (sized : Sized S) (hash : Hash h) (s
             over-one S h known-row (rowsHeld S s) gs shows ∙ ap (λ j. set gs j (overwriteOn known-row (getD gs j free))) here
             ∙ ap (λ x. set gs (p - 2) (overwriteOn known-row x)) (U .holding) ∙ ap (λ l. set gs (p - 2) (bucket (depth g) l)) (sym known-rows)
 
-    pub put-known : ((k : ℕ) → byte (setPage S s p q) k < 256) → Answers (putAccepted S h s (record { code = c; place = pl })) (replaced (Places.place (place g i)), setPage S s p q)
+    pub put-known : ((k : ℕ) → byte (setPage S s p q) k < 256) → Answers (putAccepted S h s (newRow c pl)) (replaced (Places.place (place g i)), setPage S s p q)
     put-known small =
         let old : placeOf (rowsHeld S s) c ≡ some (place g i) = placed ∙ found-at g slotted c i b e in
         inl (
@@ -115,7 +131,7 @@ module _ (S : Shape) (h : List ℕ → ℕ) (sized : Sized S) (hash : Hash h) (s
 
   module _ (i : ℕ) (pl t q t′ : List ℕ) (F : Fitting g i c pl) (D : Added g i c pl t q t′) where
     abbrev new-row : Row
-    new-row = record { code = c; place = pl }
+    new-row = newRow c pl
 
     -- the page that insertion leaves
     record Page-now : Type 0 where
@@ -167,7 +183,7 @@ module _ (S : Shape) (h : List ℕ → ℕ) (sized : Sized S) (hash : Hash h) (s
         ap (λ l. getD l (p - 2) free) is ∙ set-holds gs (p - 2) (depth g) (rows q) (within-pages gs (p - 2) (depth g) (rows g) (U .holding)) in
         sym (page-row S h (new-row ∷ rowsHeld S s) (depth g) (rows q) (later .page (p - 2) (depth g) (rows q) holding) new-row .0 there .1) ∙ sym begins
 
-    pub put-fitted : ((k : ℕ) → byte (setPage S s p q) k < 256) → Answers (putAccepted S h s (record { code = c; place = pl })) (new, setPage S s p q)
+    pub put-fitted : ((k : ℕ) → byte (setPage S s p q) k < 256) → Answers (putAccepted S h s (newRow c pl)) (new, setPage S s p q)
     put-fitted small =
         let N = page-now in
         let Q : BucketPage q = record { rules = N .page; some = let w = slot-of q new-row there in omega (arith, w .1) } in

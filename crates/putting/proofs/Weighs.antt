@@ -1,4 +1,4 @@
--- What rows of a prefix need, row by row, and the buckets below a prefix, case by case. Over any hash. Assumes nothing.
+-- What rows of a prefix need, row by row, and the buckets below a prefix, case by case. Over any page size and hash. Assumes nothing.
 use mathlib.Core.Path.{_≡_, refl, sym, ap, _∙_}
 use mathlib.Core.Bool.{Bool, true, false}
 use mathlib.Core.List.{List, [], _∷_, _++_, map, append-nil, List·Memᴰ}
@@ -15,6 +15,7 @@ use Rattle.ground.proofs.Tables.{length-tab, getD-tab}
 use Rattle.page.specs.Page.{Slotted, count, code, rows, rowAt}
 use Rattle.page.proofs.Sums.{len-of-code}
 use Rattle.partition.specs.Bits.{top}
+use Rattle.partition.specs.declared.Shape.{Shape}
 use Rattle.partition.specs.Partition.{Row, Grade, bare, fits, over, keep, need, needs, rowsOf, grade, walk, buckets}
 use Rattle.partition.proofs.Tree.{pfx, Means}
 use Rattle.partition.proofs.Rows.{load, mean-of, mean-one}
@@ -25,7 +26,7 @@ use Rattle.partition.proofs.Sum.{rows-halves}
 use Rattle.partition.proofs.Pages.{rows-every}
 use Rattle.partition.proofs.Reorders.{needs-same, needs-append}
 use Rattle.partition.proofs.Splice.{walk-bare, walk-fits}
-use Rattle.store.specs.Pages.{S1024, asRow}
+use Rattle.store.specs.Pages.{asRow}
 use Rattle.store.proofs.Paging.PageTies.{rows-tab}
 use Rattle.store.specs.Moves.{pick}
 use Rattle.store_check.proofs.Fills.{Filled}
@@ -105,82 +106,91 @@ module _ (h : List ℕ → ℕ) where
       let n : i ≡ length (map asRow (rows g)) = e ∙ sym (length-map (rows g) asRow ∙ length-tab (rowAt g) (count g)) in
       ap (λ m. load h (drop m (map asRow (rows g))) k v) n ∙ ap (λ l. load h l k v) (drop-length (map asRow (rows g))) ∙ load-none k v
 
-  -- ---- buckets
+-- ---- buckets
 
-  module _ (rs : List Row) where
-    abbrev G : ℕ → ℕ → Grade
-    G j w = grade 1016 (rowsOf h rs j w)
+module _ (S : Shape) (h : List ℕ → ℕ) (rs : List Row) where
+  abbrev cap : ℕ
+  cap = S .capacity
 
-    graded : (k v : ℕ) (g : Grade) → Means 1016 (load h rs k v) g → G k v ≡ g
-    graded k v g m = mean-one 1016 (load h rs k v) (G k v) g (mean-of 1016 (rowsOf h rs k v)) m
+  abbrev G : ℕ → ℕ → Grade
+  G j w = grade cap (rowsOf h rs j w)
 
-    pub below-none : (k v : ℕ) → load h rs k v ≡ 0 → below h rs k v ≡ []
-    unfolding below
-    below-none k v e = ap (λ g. walk G (8 - k) g k v) (graded k v bare e) ∙ walk-bare G (8 - k) k v
+  graded : (k v : ℕ) (g : Grade) → Means cap (load h rs k v) g → G k v ≡ g
+  graded k v g m = mean-one cap (load h rs k v) (G k v) g (mean-of cap (rowsOf h rs k v)) m
 
-    pub below-one : (k v : ℕ) → 0 < load h rs k v → load h rs k v ≤ 1016 → below h rs k v ≡ pfx k v ∷ []
-    unfolding below
-    below-one k v p l = ap (λ g. walk G (8 - k) g k v) (graded k v fits (p, l)) ∙ walk-fits G (8 - k) k v
+  pub below-none : (k v : ℕ) → load h rs k v ≡ 0 → below S h rs k v ≡ []
+  unfolding below
+  below-none k v e = ap (λ g. walk G (S .deepest - k) g k v) (graded k v bare e) ∙ walk-bare G (S .deepest - k) k v
 
-    pub below-deep : (v : ℕ) → 1016 < load h rs 8 v → below h rs 8 v ≡ []
-    unfolding below
-    below-deep v o = ap (λ g. walk G 0 g 8 v) (graded 8 v over o)
+  pub below-one : (k v : ℕ) → 0 < load h rs k v → load h rs k v ≤ S .capacity → below S h rs k v ≡ pfx k v ∷ []
+  unfolding below
+  below-one k v p l = ap (λ g. walk G (S .deepest - k) g k v) (graded k v fits (p, l)) ∙ walk-fits G (S .deepest - k) k v
 
-    pub below-two : (k v : ℕ) → k < 8 → 1016 < load h rs k v → below h rs k v ≡ below h rs (k + 1) (2 * v) ++ below h rs (k + 1) (2 * v + 1)
-    unfolding below
-    below-two k v l o =
-        let d : 8 - k ≡ suc (8 - (k + 1)) = omega arith in
-        ap (λ g. walk G (8 - k) g k v) (graded k v over o) ∙ ap (λ n. walk G n over k v) d
-        ∙ (λ i. walk G (8 - (k + 1)) (G (sym (add-one k) i) (2 * v)) (sym (add-one k) i) (2 * v) ++ walk G (8 - (k + 1)) (G (sym (add-one k) i) (2 * v + 1)) (sym (add-one k) i) (2 * v + 1))
+  pub below-deep : (k v : ℕ) → S .deepest ≤ k → S .capacity < load h rs k v → below S h rs k v ≡ []
+  unfolding below
+  below-deep k v l o =
+      let z : S .deepest - k ≡ 0 = omega arith in
+      ap (λ n. walk G n (G k v) k v) z ∙ ap (λ g. walk G 0 g k v) (graded k v over o)
 
-    grown : (d : ℕ) (g : Grade) (k v : ℕ) → length (walk G d g k v) ≤ 2 ^ d
-    unfolding walk
-    grown zero bare k v = omega arith
-    grown zero fits k v = omega arith
-    grown zero over k v = omega arith
-    grown (suc d) bare k v = omega arith
-    grown (suc d) fits k v = omega (arith, pow-pos (suc d))
-    grown (suc d) over k v =
-        rw length-append
-        (omega (arith, pow-suc 2 d, grown d (G (suc k) (2 * v)) (suc k) (2 * v), grown d (G (suc k) (2 * v + 1)) (suc k) (2 * v + 1)))
+  pub below-two : (k v : ℕ) → k < S .deepest → S .capacity < load h rs k v → below S h rs k v ≡ below S h rs (k + 1) (2 * v) ++ below S h rs (k + 1) (2 * v + 1)
+  unfolding below
+  below-two k v l o =
+      let d : S .deepest - k ≡ suc (S .deepest - (k + 1)) = omega arith in
+      ap (λ g. walk G (S .deepest - k) g k v) (graded k v over o) ∙ ap (λ n. walk G n over k v) d
+      ∙ (λ i. walk G (S .deepest - (k + 1)) (G (sym (add-one k) i) (2 * v)) (sym (add-one k) i) (2 * v)
+      ++ walk G (S .deepest - (k + 1)) (G (sym (add-one k) i) (2 * v + 1)) (sym (add-one k) i) (2 * v + 1))
 
-    pub below-most : (k v : ℕ) → length (below h rs k v) ≤ 256
-    unfolding below
-    below-most k v = let l : 8 - k ≤ 8 = omega arith in let m : 2 ^ (8 - k) ≤ 2 ^ 8 = pow-mono l in omega (arith, grown (8 - k) (G k v) k v)
+  grown : (d : ℕ) (g : Grade) (k v : ℕ) → length (walk G d g k v) ≤ 2 ^ d
+  unfolding walk
+  grown zero bare k v = omega arith
+  grown zero fits k v = omega arith
+  grown zero over k v = omega arith
+  grown (suc d) bare k v = omega arith
+  grown (suc d) fits k v = omega (arith, pow-pos (suc d))
+  grown (suc d) over k v =
+      rw length-append
+      (omega (arith, pow-suc 2 d, grown d (G (suc k) (2 * v)) (suc k) (2 * v), grown d (G (suc k) (2 * v + 1)) (suc k) (2 * v + 1)))
 
-    -- ---- rows that share their first bits
+  pub below-most : (k v : ℕ) → length (below S h rs k v) ≤ 2 ^ S .deepest
+  unfolding below
+  below-most k v =
+      let l : S .deepest - k ≤ S .deepest = omega arith in
+      let m : 2 ^ (S .deepest - k) ≤ 2 ^ S .deepest = pow-mono l in
+      omega (arith, grown (S .deepest - k) (G k v) k v)
 
-    halved : (k v : ℕ) → load h rs k v ≡ load h rs (k + 1) (2 * v) + load h rs (k + 1) (2 * v + 1)
-    halved k v =
-        needs-same (rows-halves h rs k v) ∙ needs-append (rowsOf h rs (suc k) (2 * v)) (rowsOf h rs (suc k) (2 * v + 1))
-        ∙ (λ i. load h rs (sym (add-one k) i) (2 * v) + load h rs (sym (add-one k) i) (2 * v + 1))
+  -- ---- rows that share their first bits
 
-    -- where one half has all that do not fit, the buckets are that half's
-    one-half : (k v u : ℕ) → k < 8 → u / 2 ≡ v → 1016 < load h rs k v → load h rs (k + 1) u ≡ load h rs k v → below h rs k v ≡ below h rs (k + 1) u
-    one-half k v u l e o s = ⊎-elim
-        (λ a.
-        let q : u ≡ 2 * v = omega arith in
-        let z : load h rs (k + 1) (2 * v + 1) ≡ 0 = omega (arith, halved k v, s, ap (load h rs (k + 1)) q) in
-        below-two k v l o ∙ ap (λ b. below h rs (k + 1) (2 * v) ++ b) (below-none (k + 1) (2 * v + 1) z) ∙ append-nil (below h rs (k + 1) (2 * v)) ∙ ap (below h rs (k + 1)) (sym q))
-        (λ a.
-        let q : u ≡ 2 * v + 1 = omega arith in
-        let z : load h rs (k + 1) (2 * v) ≡ 0 = omega (arith, halved k v, s, ap (load h rs (k + 1)) q) in
-        below-two k v l o ∙ ap (λ b. b ++ below h rs (k + 1) (2 * v + 1)) (below-none (k + 1) (2 * v) z) ∙ ap (below h rs (k + 1)) (sym q))
-        (side u (2 * v + 1))
+  halved : (k v : ℕ) → load h rs k v ≡ load h rs (k + 1) (2 * v) + load h rs (k + 1) (2 * v + 1)
+  halved k v =
+      needs-same (rows-halves h rs k v) ∙ needs-append (rowsOf h rs (suc k) (2 * v)) (rowsOf h rs (suc k) (2 * v + 1))
+      ∙ (λ i. load h rs (sym (add-one k) i) (2 * v) + load h rs (sym (add-one k) i) (2 * v + 1))
 
-    -- where all share k bits and do not fit together, all buckets are those below these bits
-    pub below-shared : (x k : ℕ) → x < 2 ^ 32 → k ≤ 8 → ((q : Row) → List·Memᴰ q rs → top k (h (q .code)) ≡ top k x) → 1016 < needs rs → below h rs k (top k x) ≡ below h rs 0 0
-    below-shared x zero m l s o = let z : top 0 x < 1 = top-lt x 0 m in let e : top 0 x ≡ 0 = omega arith in ap (below h rs 0) e
-    below-shared x (suc k) m l s o =
-        let f : (q : Row) → List·Memᴰ q rs → top k (h (q .code)) ≡ top k x = λ q b. share-fewer (h (q .code)) x k (suc k) (omega arith) (s q b) in
-        let a : load h rs k (top k x) ≡ needs rs = ap needs (rows-every h rs k (top k x) f) in
-        let b : load h rs (k + 1) (top (suc k) x) ≡ needs rs = ap (λ n. load h rs n (top (suc k) x)) (add-one k) ∙ ap needs (rows-every h rs (suc k) (top (suc k) x) s) in
-        ap (λ n. below h rs n (top (suc k) x)) (sym (add-one k))
-        ∙ sym (one-half k (top k x) (top (suc k) x) (omega arith) (top-step x k) (omega (arith, a, o)) (b ∙ sym a)) ∙ below-shared x k m (omega arith) f o
+  -- where one half has all that do not fit, the buckets are that half's
+  one-half : (k v u : ℕ) → k < S .deepest → u / 2 ≡ v → S .capacity < load h rs k v → load h rs (k + 1) u ≡ load h rs k v → below S h rs k v ≡ below S h rs (k + 1) u
+  one-half k v u l e o s = ⊎-elim
+      (λ a.
+      let q : u ≡ 2 * v = omega arith in
+      let z : load h rs (k + 1) (2 * v + 1) ≡ 0 = omega (arith, halved k v, s, ap (load h rs (k + 1)) q) in
+      below-two k v l o ∙ ap (λ b. below S h rs (k + 1) (2 * v) ++ b) (below-none (k + 1) (2 * v + 1) z) ∙ append-nil (below S h rs (k + 1) (2 * v)) ∙ ap (below S h rs (k + 1)) (sym q))
+      (λ a.
+      let q : u ≡ 2 * v + 1 = omega arith in
+      let z : load h rs (k + 1) (2 * v) ≡ 0 = omega (arith, halved k v, s, ap (load h rs (k + 1)) q) in
+      below-two k v l o ∙ ap (λ b. b ++ below S h rs (k + 1) (2 * v + 1)) (below-none (k + 1) (2 * v) z) ∙ ap (below S h rs (k + 1)) (sym q))
+      (side u (2 * v + 1))
 
-    pub below-all : below h rs 0 0 ≡ buckets S1024 h rs
-    unfolding below buckets
-    below-all = refl
+  -- where all share k bits and do not fit together, all buckets are those below these bits
+  pub below-shared : (x k : ℕ) → x < 2 ^ 32 → k ≤ S .deepest → ((q : Row) → List·Memᴰ q rs → top k (h (q .code)) ≡ top k x) → S .capacity < needs rs → below S h rs k (top k x) ≡ below S h rs 0 0
+  below-shared x zero m l s o = let z : top 0 x < 1 = top-lt x 0 m in let e : top 0 x ≡ 0 = omega arith in ap (below S h rs 0) e
+  below-shared x (suc k) m l s o =
+      let f : (q : Row) → List·Memᴰ q rs → top k (h (q .code)) ≡ top k x = λ q b. share-fewer (h (q .code)) x k (suc k) (omega arith) (s q b) in
+      let a : load h rs k (top k x) ≡ needs rs = ap needs (rows-every h rs k (top k x) f) in
+      let b : load h rs (k + 1) (top (suc k) x) ≡ needs rs = ap (λ n. load h rs n (top (suc k) x)) (add-one k) ∙ ap needs (rows-every h rs (suc k) (top (suc k) x) s) in
+      ap (λ n. below S h rs n (top (suc k) x)) (sym (add-one k))
+      ∙ sym (one-half k (top k x) (top (suc k) x) (omega arith) (top-step x k) (omega (arith, a, o)) (b ∙ sym a)) ∙ below-shared x k m (omega arith) f o
+
+  pub below-all : below S h rs 0 0 ≡ buckets S h rs
+  unfolding below buckets
+  below-all = let e : S .deepest - 0 ≡ S .deepest = omega arith in ap (λ n. walk G n (G 0 0) 0 0) e
 
 pub double : (k : ℕ) → 2 ^ (k + 1) ≡ 2 * 2 ^ k
 double k = ap (λ n. 2 ^ n) (add-one k) ∙ pow-suc 2 k ∙ omega arith

@@ -1,21 +1,27 @@
--- What the steps of a split ask and answer. Assumes nothing.
+-- What the steps of a split ask and answer. Over any page size and hash. Assumes nothing.
 use mathlib.Core.Path.{_≡_}
 use mathlib.Core.List.{List, [], _∷_, _++_, map}
 use Prim.Native.Nat.{ℕ, zero, suc, _+_, _-_, _^_, _≤_, _<_}
 use lib.ListN.{length, getD, take, drop}
-use Rattle.ground.specs.Lists.{byte}
 use Rattle.words.specs.Codes.{GoodCode}
-use Rattle.page.specs.Page.{Slotted, BucketPage, Belongs, Natural, depth, count, code, rows}
+use Rattle.page.specs.Page.{Slotted, BucketPage, Belongs, Natural, depth, count, code, rows, rowAt}
+use Rattle.partition.specs.declared.Shape.{Shape}
 use Rattle.partition.specs.Partition.{Row, Prefix, needs, rowsOf, grade, walk}
 use Rattle.partition.specs.Listing.{inOrder, Rising}
-use Rattle.store.specs.Pages.{S1024, pages, page, Page, contents, asRow}
+use Rattle.store.specs.Pages.{pages, Page, contents, asRow}
 use Rattle.store.specs.Accepted.{GoodLength}
+use Rattle.store.specs.Demands.{Sized}
 use Rattle.store.specs.Moves.{find, isFree, frees, packFrom, packed, written}
 use Rattle.directory.specs.Directory.{Rewritten}
+use Rattle.putting.specs.Put.{newRow}
 
 -- a row of the code, its place left aside
 abbrev pub keyed : List ℕ → Row
-keyed c = record { code = c; place = [] }
+keyed c = newRow c []
+
+-- the rows of the page g and the new row
+abbrev pub withNew : List ℕ → Row → List Row
+withNew g r = r ∷ map asRow (rows g)
 
 -- what a row of the code needs
 abbrev pub weight : List ℕ → ℕ
@@ -31,10 +37,30 @@ pub record Told (f : List ℕ → ℕ) (g c l : List ℕ) : Type 0 where
   pub rows : Each f g l
   pub new : getD l (count g) 0 ≡ f c
 
+-- there is room for the hashes and needs of the rows of the page g and of a row of the code c
+pub record Weighable (g c hs ns : List ℕ) : Type 0 where
+  pub page : Slotted g
+  pub good : GoodCode c
+  pub hashes : count g < length hs
+  pub weights : count g < length ns
+
+-- hs and ns have them
+pub record Weighed (h : List ℕ → ℕ) (g c hs ns : List ℕ) : Type 0 where
+  pub page : Slotted g
+  pub good : GoodCode c
+  pub hashes : Told h g c hs
+  pub weights : Told weight g c ns
+
+-- v is a prefix of k bits, at most the deepest depth
+pub record PrefixIn (S : Shape) (k v : ℕ) : Type 0 where
+  pub sized : Sized S
+  pub deep : k ≤ S .deepest
+  pub bits : v < 2 ^ k
+
 -- the buckets of rows at the prefix v of k bits and below it, in prefix order
-unfoldable pub below : (List ℕ → ℕ) → List Row → ℕ → ℕ → List Prefix
+unfoldable pub below : Shape → (List ℕ → ℕ) → List Row → ℕ → ℕ → List Prefix
 unfolding walk grade rowsOf
-below h rs k v = walk (λ j w. grade 1016 (rowsOf h rs j w)) (8 - k) (grade 1016 (rowsOf h rs k v)) k v
+below S h rs k v = walk (λ j w. grade (S .capacity) (rowsOf h rs j w)) (S .deepest - k) (grade (S .capacity) (rowsOf h rs k v)) k v
 
 -- the rows of a page's slots from a up to b
 abbrev pub slots : List ℕ → ℕ → ℕ → List Row
@@ -43,10 +69,9 @@ slots g a b = take (b - a) (drop a (map asRow (rows g)))
 -- the rows ts can go behind those of the packed page p: in code order, and all fit
 pub record Behind (p : List ℕ) (ts : List Row) : Type 0 where
   pub page : Slotted p
-  pub size : length p ≡ 1024
   pub packed : rows p ≡ packFrom 8 (map asRow (rows p))
   pub rising : Rising (λ r. r .code) (map asRow (rows p) ++ ts)
-  pub fits : needs (map asRow (rows p) ++ ts) ≤ 1016
+  pub fits : 8 + needs (map asRow (rows p) ++ ts) ≤ length p
 
 -- q is p with the rows ts behind its own
 pub record Appended (p : List ℕ) (ts : List Row) (q : List ℕ) : Type 0 where
@@ -55,6 +80,37 @@ pub record Appended (p : List ℕ) (ts : List Row) (q : List ℕ) : Type 0 where
   pub deep : depth q ≡ depth p
   pub rowsOf : rows q ≡ packFrom 8 (map asRow (rows p) ++ ts)
 
+-- a new row that can go behind those of the packed page p
+pub record Appendable (p c pl : List ℕ) : Type 0 where
+  pub behind : Behind p (newRow c pl ∷ [])
+  pub natural : Natural pl
+  pub good : GoodCode c
+
+-- the same, if its hash x begins with the k bits of v
+pub record AppendableIf (h : List ℕ → ℕ) (p c pl : List ℕ) (x k v : ℕ) : Type 0 where
+  pub behind : Behind p (rowsOf h (newRow c pl ∷ []) k v)
+  pub hash : x ≡ h c
+  pub deep : k ≤ 12
+  pub natural : Natural pl
+  pub good : GoodCode c
+
+-- the same of the row in slot i of the page g
+pub record SlotAppendable (h : List ℕ → ℕ) (p g : List ℕ) (i x k v : ℕ) : Type 0 where
+  pub behind : Behind p (rowsOf h (asRow (rowAt g i) ∷ []) k v)
+  pub page : Slotted g
+  pub slot : i < count g
+  pub hash : x ≡ h (code g i)
+  pub deep : k ≤ 12
+
+-- and of the rows in its slots from a up to b, whose hashes are in hs
+pub record SlotsAppendable (h : List ℕ → ℕ) (p g hs : List ℕ) (a b k v : ℕ) : Type 0 where
+  pub behind : Behind p (rowsOf h (slots g a b) k v)
+  pub page : Slotted g
+  pub hashes : Each h g hs
+  pub from : a ≤ b
+  pub to : b ≤ count g
+  pub deep : k ≤ 12
+
 -- the page that is split, and the new row, whose code belongs at slot i
 pub record Source (g : List ℕ) (i : ℕ) (c pl : List ℕ) : Type 0 where
   pub page : Slotted g
@@ -62,43 +118,64 @@ pub record Source (g : List ℕ) (i : ℕ) (c pl : List ℕ) : Type 0 where
   pub natural : Natural pl
   pub good : GoodCode c
 
--- q is a bucket written packed: of the rows rs those whose hashes begin with the k bits of v, in code order
-pub record Bucketed (h : List ℕ → ℕ) (rs : List Row) (k v : ℕ) (q : List ℕ) : Type 0 where
+-- of these rows those whose hashes, in hs, begin with the k bits of v fit the page p, and there is one
+pub record Bucketable (h : List ℕ → ℕ) (g : List ℕ) (i : ℕ) (c pl hs : List ℕ) (k v : ℕ) (p : List ℕ) : Type 0 where
+  pub source : Source g i c pl
+  pub hashes : Told h g c hs
+  pub deep : k ≤ 12
+  pub least : 16 ≤ length p
+  pub most : length p ≤ 16384
+  pub some : 0 < needs (rowsOf h (withNew g (newRow c pl)) k v)
+  pub fits : 8 + needs (rowsOf h (withNew g (newRow c pl)) k v) ≤ length p
+
+-- q is a bucket written packed over p: of the rows rs those whose hashes begin with the k bits of v, in code order
+pub record Bucketed (h : List ℕ → ℕ) (rs : List Row) (k v : ℕ) (p q : List ℕ) : Type 0 where
   pub page : BucketPage q
-  pub size : length q ≡ 1024
+  pub size : length q ≡ length p
   pub deep : depth q ≡ k
   pub rowsOf : rows q ≡ packFrom 8 (inOrder (Rattle.partition.specs.Partition.rowsOf h rs k v))
 
 -- the place in the list of the page that is taken next: page at, or the lowest free page where at is 0
-abbrev pub first : List Page → ℕ → ℕ
-first gs zero = find isFree gs
-first gs (suc p) = suc p - 2
+abbrev pub takenNext : List Page → ℕ → ℕ
+takenNext gs zero = find isFree gs
+takenNext gs (suc p) = suc p - 2
 
 -- page at is for the first of ns: what is left of it then, 0 where that is written
-abbrev pub left : ℕ → List Page → ℕ
-left at [] = at
-left at (n ∷ ns) = 0
+abbrev pub untaken : ℕ → List Page → ℕ
+untaken at [] = at
+untaken at (n ∷ ns) = 0
+
+-- page at is a bucket's, or it is 0 and a page is free
+pub record PageComing (S : Shape) (s : List ℕ) (at : ℕ) : Type 0 where
+  pub from : 0 < at → 2 ≤ at
+  pub to : at < pages S s
+  pub free : at ≡ 0 → 0 < frees (contents S s)
 
 -- at every step, m of ns written and one to come, a page is free; but not for the first, where page at takes it
 abbrev pub Room : List Page → ℕ → List Page → Type 0
-Room gs at ns = (m : ℕ) → m < length ns → (0 < at → 0 < m) → 0 < frees (written gs (first gs at) (take m ns))
+Room gs at ns = (m : ℕ) → m < length ns → (0 < at → 0 < m) → 0 < frees (written gs (takenNext gs at) (take m ns))
 
 -- the buckets of rs at the prefix v of k bits and below it, written packed
-abbrev pub pagesBelow : (List ℕ → ℕ) → List Row → ℕ → ℕ → List Page
-pagesBelow h rs k v = map (packed h rs) (below h rs k v)
+abbrev pub pagesBelow : Shape → (List ℕ → ℕ) → List Row → ℕ → ℕ → List Page
+pagesBelow S h rs k v = map (packed h rs) (below S h rs k v)
 
 -- there is room for them in the store s, the first in page at unless that is 0
-pub record Writable (h : List ℕ → ℕ) (rs : List Row) (k v : ℕ) (s : List ℕ) (at : ℕ) : Type 0 where
-  pub deep : k ≤ 8
-  pub prefix : v < 2 ^ k
-  pub long : GoodLength S1024 s
-  pub sound : Rewritten S1024 s s
+pub record Writable (S : Shape) (h : List ℕ → ℕ) (rs : List Row) (k v : ℕ) (s : List ℕ) (at : ℕ) : Type 0 where
+  pub prefix : PrefixIn S k v
+  pub long : GoodLength S s
+  pub sound : Rewritten S s s
   pub from : 0 < at → 2 ≤ at
-  pub to : at < pages S1024 s
-  pub room : Room (contents S1024 s) at (pagesBelow h rs k v)
+  pub to : at < pages S s
+  pub room : Room (contents S s) at (pagesBelow S h rs k v)
+
+-- and the rows are those of the page g, whose hashes and needs are in hs and ns, and the new row, which belongs at slot i
+pub record Spread (S : Shape) (h : List ℕ → ℕ) (s g : List ℕ) (i : ℕ) (c pl hs ns : List ℕ) (k v at : ℕ) : Type 0 where
+  pub source : Source g i c pl
+  pub weighed : Weighed h g c hs ns
+  pub writable : Writable S h (withNew g (newRow c pl)) k v s at
 
 -- and t is s with them, the first in page at unless that is 0, each next in the lowest free page; p is what is left of page at
-pub record BucketsWritten (h : List ℕ → ℕ) (rs : List Row) (k v : ℕ) (s : List ℕ) (at : ℕ) (t : List ℕ) (p : ℕ) : Type 0 where
-  pub pages : Rewritten S1024 s t
-  pub held : contents S1024 t ≡ written (contents S1024 s) (first (contents S1024 s) at) (pagesBelow h rs k v)
-  pub then : p ≡ left at (pagesBelow h rs k v)
+pub record BucketsWritten (S : Shape) (h : List ℕ → ℕ) (rs : List Row) (k v : ℕ) (s : List ℕ) (at : ℕ) (t : List ℕ) (p : ℕ) : Type 0 where
+  pub pages : Rewritten S s t
+  pub held : contents S t ≡ written (contents S s) (takenNext (contents S s) at) (pagesBelow S h rs k v)
+  pub then : p ≡ untaken at (pagesBelow S h rs k v)

@@ -1,79 +1,109 @@
 // A row put on an accepted store.
 ghost use mathlib.Core.Path.{_≡_};
-ghost use Prim.Native.Nat.{_+_, _<_};
+ghost use lib.ListN.{length};
 ghost use Rattle.ground.specs.Ladder.{Answers};
 ghost use Rattle.hash.specs.Fnv.{fnv};
-ghost use Rattle.page.specs.Page.{Natural, count, code};
-ghost use Rattle.page.specs.Packed.{Fitting};
-ghost use Rattle.partition.specs.Bits.{top};
-ghost use Rattle.store.specs.Pages.{S1024, page, dirDepth};
-ghost use Rattle.store.specs.Accepted.{Accepted};
+ghost use Rattle.page.specs.Page.{code};
+ghost use Rattle.store.specs.Pages.{S1024, size, page};
 ghost use Rattle.store.specs.Tables.{putAccepted, putByMode, putTable, meaning};
-ghost use Rattle.store.proofs.Accepted.Reading.{Naming, entryOf};
-ghost use Rattle.putting.specs.Put.{Puttable};
-use super::split::split;
+ghost use Rattle.putting.specs.Put.{newRow, Puttable, Homeless, Homed, KnownAt, Insertion};
+use super::checked::put_allowed;
+use super::split::split_lent;
 use super::vacant::vacant_depth;
 use directory::free_pages;
 use directory::lowest_free;
 use directory::settle;
+use partition::Shape;
 
 // The code in slot i of page p gets another place.
-fn replace(s: &mut [u8], p: usize, i: usize, place: &[u8]) -> store::Answer
-    requires { ⌜ Accepted S1024 fnv (now s) × Naming S1024 fnv (now s) (top (dirDepth (now s)) (fnv (code (page S1024 (now s) p) i))) p × (i < count (page S1024 (now s) p)) × Natural (now place) ⌝ }
-    ensures { λ r. ⌜ Answers (putAccepted S1024 fnv (now (s .entry)) (record { code = code (page S1024 (now (s .entry)) p) i; place = now (place .entry) })) (meaning r, now (s .exit)) ⌝ }
+fn replace(s: &mut [u8], z: Shape, p: usize, i: usize, place: &[u8]) -> store::Answer
+    requires { ⌜ KnownAt z fnv (now s) p i (now place) ⌝ }
+    ensures { λ r. ⌜ Answers (putAccepted z fnv (now (s .entry)) (newRow (code (page z (now (s .entry)) p) i) (now (place .entry)))) (meaning r, now (s .exit)) ⌝ }
 {
-    let a = p * 1024;
-    let e = a + 1024;
+    let size = 8 + z.capacity;
+    let a = p * size;
+    let e = a + size;
     let old = page::read_place(&s[a..e], i);
     page::set_place(&mut s[a..e], i, place);
     store::Answer::Replaced(old)
 }
 
-// A new code goes to slot i of page p, in which it fits.
-fn insert_new(s: &mut [u8], p: usize, i: usize, key: &[u8], place: &[u8]) -> store::Answer
-    requires { ⌜ Accepted S1024 fnv (now s) × Naming S1024 fnv (now s) (top (dirDepth (now s)) (fnv (now key))) p × Fitting (page S1024 (now s) p) i (now key) (now place) ⌝ }
-    ensures { λ r. ⌜ Answers (putAccepted S1024 fnv (now (s .entry)) (record { code = now (key .entry); place = now (place .entry) })) (meaning r, now (s .exit)) ⌝ }
+// A new code goes to slot i of page p, in which it fits; scratch is a page to work in.
+fn insert_new(
+    s: &mut [u8],
+    z: Shape,
+    p: usize,
+    i: usize,
+    key: &[u8],
+    place: &[u8],
+    scratch: &mut [u8],
+) -> store::Answer
+    requires { ⌜ Insertion z fnv (now s) p i (now key) (now place) × (length (now scratch) ≡ size z) ⌝ }
+    ensures { λ r. ⌜ Answers (putAccepted z fnv (now (s .entry)) (newRow (now (key .entry)) (now (place .entry)))) (meaning r, now (s .exit)) ⌝ }
 {
-    let a = p * 1024;
-    let e = a + 1024;
-    let mut scratch = [0u8; 1024];
-    page::insert_row(&mut s[a..e], i, key, place, &mut scratch);
+    let size = 8 + z.capacity;
+    let a = p * size;
+    let e = a + size;
+    page::insert_row(&mut s[a..e], i, key, place, scratch);
     store::Answer::New
 }
 
-// No bucket holds the hash x of the code: a new one takes the lowest free page.
-fn new_bucket(s: &mut [u8], x: u32, key: &[u8], place: &[u8]) -> store::Answer
-    requires { ⌜ Puttable fnv (now s) (now key) (now place) × (x ≡ fnv (now key)) × (entryOf S1024 fnv (now s) (now key) ≡ 0) ⌝ }
-    ensures { λ r. ⌜ Answers (putAccepted S1024 fnv (now (s .entry)) (record { code = now (key .entry); place = now (place .entry) })) (meaning r, now (s .exit)) ⌝ }
+// The same, with a page to work in: of 1,024 bytes where the pages are no longer, so that these pay for no more, else of the largest size.
+fn insert_lent(
+    s: &mut [u8],
+    z: Shape,
+    p: usize,
+    i: usize,
+    key: &[u8],
+    place: &[u8],
+) -> store::Answer
+    requires { ⌜ Insertion z fnv (now s) p i (now key) (now place) ⌝ }
+    ensures { λ r. ⌜ Answers (putAccepted z fnv (now (s .entry)) (newRow (now (key .entry)) (now (place .entry)))) (meaning r, now (s .exit)) ⌝ }
 {
-    let n = s.len() / 1024;
-    if free_pages(s, partition::S1024, n, 1) < 1 {
+    let size = 8 + z.capacity;
+    if size <= 1024 {
+        let mut scratch = [0u8; 1024];
+        return insert_new(s, z, p, i, key, place, &mut scratch[0..size]);
+    }
+    let mut scratch = [0u8; 16384];
+    insert_new(s, z, p, i, key, place, &mut scratch[0..size])
+}
+
+// No bucket holds the hash x of the code: a new one takes the lowest free page.
+fn new_bucket(s: &mut [u8], z: Shape, x: u32, key: &[u8], place: &[u8]) -> store::Answer
+    requires { ⌜ Homeless z fnv (now s) x (now key) (now place) ⌝ }
+    ensures { λ r. ⌜ Answers (putAccepted z fnv (now (s .entry)) (newRow (now (key .entry)) (now (place .entry)))) (meaning r, now (s .exit)) ⌝ }
+{
+    let size = 8 + z.capacity;
+    let n = s.len() / size;
+    if free_pages(s, z, n, 1) < 1 {
         return store::Answer::Refused(store::Refusal::PagesFull);
     }
-    let p = lowest_free(s, partition::S1024);
+    let p = lowest_free(s, z);
     let d = words::get32(s, 16) as u32;
-    let k = vacant_depth(s, x, d);
-    let a = p * 1024;
-    let e = a + 1024;
+    let k = vacant_depth(s, z, x, d);
+    let a = p * size;
+    let e = a + size;
     page::start_page(&mut s[a..e], k as u8, key, place);
-    settle(s, partition::S1024, n);
+    settle(s, z, n);
     store::Answer::New
 }
 
 // Page p holds the hash of the code; mode 1 wants a new code, mode 2 a known one.
-fn put_on(s: &mut [u8], p: usize, key: &[u8], place: &[u8], mode: u64) -> store::Answer
-    requires { ⌜ Puttable fnv (now s) (now key) (now place) × Naming S1024 fnv (now s) (top (dirDepth (now s)) (fnv (now key))) p ⌝ }
-    ensures { λ r. ⌜ Answers (putByMode S1024 fnv (now (s .entry)) mode (record { code = now (key .entry); place = now (place .entry) })) (meaning r, now (s .exit)) ⌝ }
+fn put_on(s: &mut [u8], z: Shape, p: usize, key: &[u8], place: &[u8], mode: u64) -> store::Answer
+    requires { ⌜ Homed z fnv (now s) p (now key) (now place) ⌝ }
+    ensures { λ r. ⌜ Answers (putByMode z fnv (now (s .entry)) mode (newRow (now (key .entry)) (now (place .entry)))) (meaning r, now (s .exit)) ⌝ }
 {
-    let a = p * 1024;
-    let e = a + 1024;
+    let size = 8 + z.capacity;
+    let a = p * size;
+    let e = a + size;
     let found = page::find_code(&s[a..e], key);
     match found {
         page::Found::At(i) => {
             if mode == 1 {
                 return store::Answer::Refused(store::Refusal::KnownCode);
             }
-            replace(s, p, i, place)
+            replace(s, z, p, i, place)
         }
         page::Found::Absent(i) => {
             if mode == 2 {
@@ -81,27 +111,27 @@ fn put_on(s: &mut [u8], p: usize, key: &[u8], place: &[u8], mode: u64) -> store:
             }
             let room = words::get16(&s[a..e], 6);
             if 12 + key.len() <= room {
-                return insert_new(s, p, i, key, place);
+                return insert_lent(s, z, p, i, key, place);
             }
-            split(s, p, i, key, place)
+            split_lent(s, z, p, i, key, place)
         }
     }
 }
 
 // The row on an accepted store.
-pub fn put_row(s: &mut [u8], key: &[u8], place: &[u8], mode: u64) -> store::Answer
-    requires { ⌜ Puttable fnv (now s) (now key) (now place) ⌝ }
-    ensures { λ r. ⌜ Answers (putByMode S1024 fnv (now (s .entry)) mode (record { code = now (key .entry); place = now (place .entry) })) (meaning r, now (s .exit)) ⌝ }
+pub fn put_row(s: &mut [u8], z: Shape, key: &[u8], place: &[u8], mode: u64) -> store::Answer
+    requires { ⌜ Puttable z fnv (now s) (now key) (now place) ⌝ }
+    ensures { λ r. ⌜ Answers (putByMode z fnv (now (s .entry)) mode (newRow (now (key .entry)) (now (place .entry)))) (meaning r, now (s .exit)) ⌝ }
 {
     let x = hash::hash(key);
-    let p = query::entry_of(s, partition::S1024, x);
+    let p = query::entry_of(s, z, x);
     if p == 0 {
         if mode == 2 {
             return store::Answer::Refused(store::Refusal::NoCode);
         }
-        return new_bucket(s, x, key, place);
+        return new_bucket(s, z, x, key, place);
     }
-    put_on(s, p, key, place, mode)
+    put_on(s, z, p, key, place, mode)
 }
 
 // A code gets a place, if it is what the mode expects.
@@ -124,7 +154,5 @@ pub fn put(s: &mut [u8], key: &[u8], place: page::Place, mode: u64) -> store::An
     if p < s.len() / 1024 {
         return store::Answer::Refused(store::Refusal::BadPage(p));
     }
-    let mut bytes = [0u8; 8];
-    page::store_place(&mut bytes, place);
-    put_row(s, key, &bytes, mode)
+    put_allowed(s, key, place, mode)
 }

@@ -1,18 +1,12 @@
 // A page that is split.
 ghost use mathlib.Core.Path.{_≡_};
-ghost use mathlib.Core.List.{_∷_, map};
-ghost use Prim.Native.Nat.{_+_, _≤_, _<_};
-ghost use lib.ListN.{length};
+ghost use Prim.Native.Nat.{_+_, _<_};
 ghost use Rattle.ground.specs.Ladder.{Answers};
 ghost use Rattle.hash.specs.Fnv.{fnv};
-ghost use Rattle.page.specs.Page.{Belongs, free, rows};
-ghost use Rattle.partition.specs.Bits.{top};
-ghost use Rattle.store.specs.Pages.{S1024, pages, page, dirDepth, contents, asRow};
+ghost use Rattle.store.specs.Pages.{pages, contents};
 ghost use Rattle.store.specs.Tables.{putAccepted, meaning};
-ghost use Rattle.store.proofs.Accepted.Reading.{Naming};
-ghost use Rattle.store.specs.Moves.{frees};
-ghost use Rattle.putting.specs.Put.{Puttable};
-ghost use Rattle.putting.specs.Split.{Source, weight, Told, first, Writable, BucketsWritten};
+ghost use Rattle.putting.specs.Put.{newRow, Crowded, Lent};
+ghost use Rattle.putting.specs.Split.{withNew, takenNext, PageComing, Spread, BucketsWritten};
 use super::bucket::write_bucket;
 use super::weigh::count_below;
 use super::weigh::gather;
@@ -20,14 +14,15 @@ use super::weigh::load;
 use directory::free_pages;
 use directory::lowest_free;
 use directory::settle;
+use partition::Shape;
 
 // The page that the next bucket takes: page at, or the lowest free page where at is 0.
-fn next_page(s: &[u8], at: usize) -> usize
-    requires { ⌜ (0 < at → 2 ≤ at) × (at < pages S1024 (now s)) × (at ≡ 0 → 0 < frees (contents S1024 (now s))) ⌝ }
-    ensures { λ r. ⌜ (r ≡ 2 + first (contents S1024 (now (s .entry))) at) × (r < pages S1024 (now (s .entry))) ⌝ }
+fn next_page(s: &[u8], z: Shape, at: usize) -> usize
+    requires { ⌜ PageComing z (now s) at ⌝ }
+    ensures { λ r. ⌜ (r ≡ 2 + takenNext (contents z (now (s .entry))) at) × (r < pages z (now (s .entry))) ⌝ }
 {
     if at == 0 {
-        return lowest_free(s, partition::S1024);
+        return lowest_free(s, z);
     }
     at
 }
@@ -35,6 +30,7 @@ fn next_page(s: &[u8], at: usize) -> usize
 // The buckets at the prefix v of k bits and below it are written packed, the first to page at unless that is 0, each next to the lowest free page. Page at where none is written, else 0.
 fn write_below(
     s: &mut [u8],
+    z: Shape,
     from: &[u8],
     i: usize,
     key: &[u8],
@@ -45,52 +41,87 @@ fn write_below(
     v: u64,
     at: usize,
 ) -> usize
-    requires { ⌜ Source (now from) i (now key) (now place) × Told fnv (now from) (now key) (now hs) × Told weight (now from) (now key) (now ns) × Writable fnv (record { code = now key; place = now place } ∷ map asRow (rows (now from))) k v (now s) at ⌝ }
-    ensures { λ r. ⌜ BucketsWritten fnv (record { code = now (key .entry); place = now (place .entry) } ∷ map asRow (rows (now (from .entry)))) k v (now (s .entry)) at (now (s .exit)) r ⌝ }
+    requires { ⌜ Spread z fnv (now s) (now from) i (now key) (now place) (now hs) (now ns) k v at ⌝ }
+    ensures { λ r. ⌜ BucketsWritten z fnv (withNew (now (from .entry)) (newRow (now (key .entry)) (now (place .entry)))) k v (now (s .entry)) at (now (s .exit)) r ⌝ }
 {
     let need = load(from, key, hs, ns, k, v);
     if need == 0 {
         return at;
     }
-    if need <= 1016 {
-        let p = next_page(s, at);
-        let a = p * 1024;
-        let e = a + 1024;
+    if need <= z.capacity {
+        let p = next_page(s, z, at);
+        let size = 8 + z.capacity;
+        let a = p * size;
+        let e = a + size;
         write_bucket(&mut s[a..e], from, i, key, place, hs, k, v);
         return 0;
     }
-    if k == 8 {
+    if k as usize == z.deepest {
         return at;
     }
-    let next = write_below(s, from, i, key, place, hs, ns, k + 1, 2 * v, at);
-    write_below(s, from, i, key, place, hs, ns, k + 1, 2 * v + 1, next)
+    let next = write_below(s, z, from, i, key, place, hs, ns, k + 1, 2 * v, at);
+    write_below(s, z, from, i, key, place, hs, ns, k + 1, 2 * v + 1, next)
 }
 
-// The new code, which belongs at slot i of page p, does not fit there: the page is split into the buckets of its rows and the new one.
-pub fn split(s: &mut [u8], p: usize, i: usize, key: &[u8], place: &[u8]) -> store::Answer
-    requires { ⌜ Puttable fnv (now s) (now key) (now place) × Naming S1024 fnv (now s) (top (dirDepth (now s)) (fnv (now key))) p × Belongs (page S1024 (now s) p) i (now key) × (free (page S1024 (now s) p) < 12 + length (now key)) ⌝ }
-    ensures { λ r. ⌜ Answers (putAccepted S1024 fnv (now (s .entry)) (record { code = now (key .entry); place = now (place .entry) })) (meaning r, now (s .exit)) ⌝ }
+// The new code, which belongs at slot i of page p, does not fit there: the page is split into the buckets of its rows and the new one. What it works in is lent.
+fn split(
+    s: &mut [u8],
+    z: Shape,
+    p: usize,
+    i: usize,
+    key: &[u8],
+    place: &[u8],
+    from: &mut [u8],
+    hs: &mut [u32],
+    ns: &mut [u32],
+) -> store::Answer
+    requires { ⌜ Crowded z fnv (now s) p i (now key) (now place) × Lent z (now from) (now hs) (now ns) ⌝ }
+    ensures { λ r. ⌜ Answers (putAccepted z fnv (now (s .entry)) (newRow (now (key .entry)) (now (place .entry)))) (meaning r, now (s .exit)) ⌝ }
 {
-    let a = p * 1024;
-    let e = a + 1024;
-    let mut from = [0u8; 1024];
-    words::copy_at(&mut from, 0, &s[a..e]);
-    // A page has at most 78 rows, and here comes one more.
-    let mut hs = [0u32; 79];
-    let mut ns = [0u32; 79];
-    gather(&from, key, &mut hs, &mut ns);
+    let size = 8 + z.capacity;
+    let a = p * size;
+    let e = a + size;
+    words::copy_at(from, 0, &s[a..e]);
+    gather(from, key, hs, ns);
     let x = hash::hash(key);
-    if 1016 < load(&from, key, &hs, &ns, 8, partition::top_bits(x, 8)) {
+    let deepest = z.deepest as u32;
+    if z.capacity < load(from, key, hs, ns, deepest, partition::top_bits(x, deepest)) {
         return store::Answer::Refused(store::Refusal::PrefixFull);
     }
-    let n = s.len() / 1024;
+    let n = s.len() / size;
     let k = from[1] as u32;
     let v = partition::top_bits(x, k);
-    let m = count_below(&from, key, &hs, &ns, k, v);
-    if free_pages(s, partition::S1024, n, m) + 1 < m {
+    let m = count_below(from, z, key, hs, ns, k, v);
+    if free_pages(s, z, n, m) + 1 < m {
         return store::Answer::Refused(store::Refusal::PagesFull);
     }
-    write_below(s, &from, i, key, place, &hs, &ns, k, v, p);
-    settle(s, partition::S1024, n);
+    write_below(s, z, from, i, key, place, hs, ns, k, v, p);
+    settle(s, z, n);
     store::Answer::New
+}
+
+// The same, with what it works in: of a page of 1,024 bytes and its rows where the pages are no longer, else of the largest size.
+pub fn split_lent(
+    s: &mut [u8],
+    z: Shape,
+    p: usize,
+    i: usize,
+    key: &[u8],
+    place: &[u8],
+) -> store::Answer
+    requires { ⌜ Crowded z fnv (now s) p i (now key) (now place) ⌝ }
+    ensures { λ r. ⌜ Answers (putAccepted z fnv (now (s .entry)) (newRow (now (key .entry)) (now (place .entry)))) (meaning r, now (s .exit)) ⌝ }
+{
+    let size = 8 + z.capacity;
+    if size <= 1024 {
+        let mut from = [0u8; 1024];
+        // Such a page has at most 78 rows, one of 16,384 bytes at most 1,259, and here comes one more.
+        let mut hs = [0u32; 79];
+        let mut ns = [0u32; 79];
+        return split(s, z, p, i, key, place, &mut from[0..size], &mut hs, &mut ns);
+    }
+    let mut from = [0u8; 16384];
+    let mut hs = [0u32; 1260];
+    let mut ns = [0u32; 1260];
+    split(s, z, p, i, key, place, &mut from[0..size], &mut hs, &mut ns)
 }

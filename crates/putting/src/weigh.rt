@@ -1,21 +1,19 @@
 // A page's rows and a new row together: their hashes and needs, what those of a prefix need, and how many buckets they make.
 ghost use mathlib.Core.Path.{_≡_};
-ghost use mathlib.Core.List.{_∷_, map};
-ghost use Prim.Native.Nat.{_^_, _≤_, _<_};
+ghost use Prim.Native.Nat.{_≤_};
 ghost use lib.Dec.{eqb};
 ghost use lib.ListN.{length};
 ghost use Rattle.hash.specs.Fnv.{fnv};
-ghost use Rattle.page.specs.Page.{Slotted, count, rows};
 ghost use Rattle.partition.specs.Bits.{top};
 ghost use Rattle.partition.specs.Partition.{needs, rowsOf};
-ghost use Rattle.store.specs.Pages.{asRow};
 ghost use Rattle.store.specs.Moves.{pick};
-ghost use Rattle.putting.specs.Split.{weight, keyed, below, Told};
+ghost use Rattle.putting.specs.Split.{keyed, withNew, below, Weighable, Weighed, PrefixIn};
+use partition::Shape;
 
 // The hashes and needs of the page's rows, slot by slot, and then of a row of the code.
 pub fn gather(page: &[u8], key: &[u8], hs: &mut [u32], ns: &mut [u32])
-    requires { ⌜ Slotted (now page) × (length (now key) ≤ 64) × (count (now page) < 79) × (length (now hs) ≡ 79) × (length (now ns) ≡ 79) ⌝ }
-    ensures { λ _. ⌜ Told fnv (now (page .entry)) (now (key .entry)) (now (hs .exit)) × Told weight (now (page .entry)) (now (key .entry)) (now (ns .exit)) ⌝ }
+    requires { ⌜ Weighable (now page) (now key) (now hs) (now ns) ⌝ }
+    ensures { λ _. ⌜ Weighed fnv (now (page .entry)) (now (key .entry)) (now (hs .exit)) (now (ns .exit)) ⌝ }
 {
     let n = words::get16(page, 2);
     let mut i = 0;
@@ -31,7 +29,7 @@ pub fn gather(page: &[u8], key: &[u8], hs: &mut [u32], ns: &mut [u32])
 
 // The need w of a row of the hash x, 0 where the hash does not begin with the k bits of v.
 fn need_of(x: u32, w: u32, k: u32, v: u64) -> u32
-    requires { ⌜ k ≤ 8 ⌝ }
+    requires { ⌜ k ≤ 12 ⌝ }
     ensures { λ r. ⌜ (r ≡ pick (eqb (top k x) v) w 0) × (r ≤ w) ⌝ }
 {
     if partition::top_bits(x, k) != v {
@@ -41,9 +39,9 @@ fn need_of(x: u32, w: u32, k: u32, v: u64) -> u32
 }
 
 // What the page's rows and a row of the code need whose hashes begin with the k bits of v.
-pub fn load(page: &[u8], key: &[u8], hs: &[u32], ns: &[u32], k: u32, v: u64) -> u32
-    requires { ⌜ (k ≤ 8) × Slotted (now page) × (length (now key) ≤ 64) × Told fnv (now page) (now key) (now hs) × Told weight (now page) (now key) (now ns) ⌝ }
-    ensures { λ r. ⌜ r ≡ needs (rowsOf fnv (keyed (now (key .entry)) ∷ map asRow (rows (now (page .entry)))) k v) ⌝ }
+pub fn load(page: &[u8], key: &[u8], hs: &[u32], ns: &[u32], k: u32, v: u64) -> usize
+    requires { ⌜ Weighed fnv (now page) (now key) (now hs) (now ns) × (k ≤ 12) ⌝ }
+    ensures { λ r. ⌜ r ≡ needs (rowsOf fnv (withNew (now (page .entry)) (keyed (now (key .entry)))) k v) ⌝ }
 {
     let n = words::get16(page, 2);
     let mut sum = need_of(hs[n], ns[n], k, v);
@@ -52,25 +50,33 @@ pub fn load(page: &[u8], key: &[u8], hs: &[u32], ns: &[u32], k: u32, v: u64) -> 
         sum += need_of(hs[i], ns[i], k, v);
         i += 1;
     }
-    sum
+    sum as usize
 }
 
 // The number of buckets at the prefix v of k bits and below it.
-pub fn count_below(page: &[u8], key: &[u8], hs: &[u32], ns: &[u32], k: u32, v: u64) -> usize
-    requires { ⌜ (k ≤ 8) × (v < 2 ^ k) × Slotted (now page) × (length (now key) ≤ 64) × Told fnv (now page) (now key) (now hs) × Told weight (now page) (now key) (now ns) ⌝ }
-    ensures { λ r. ⌜ r ≡ length (below fnv (keyed (now (key .entry)) ∷ map asRow (rows (now (page .entry)))) k v) ⌝ }
+pub fn count_below(
+    page: &[u8],
+    z: Shape,
+    key: &[u8],
+    hs: &[u32],
+    ns: &[u32],
+    k: u32,
+    v: u64,
+) -> usize
+    requires { ⌜ Weighed fnv (now page) (now key) (now hs) (now ns) × PrefixIn z k v ⌝ }
+    ensures { λ r. ⌜ r ≡ length (below z fnv (withNew (now (page .entry)) (keyed (now (key .entry)))) k v) ⌝ }
 {
     let n = load(page, key, hs, ns, k, v);
     if n == 0 {
         return 0;
     }
-    if n <= 1016 {
+    if n <= z.capacity {
         return 1;
     }
-    if k == 8 {
+    if k as usize == z.deepest {
         return 0;
     }
-    let left = count_below(page, key, hs, ns, k + 1, 2 * v);
-    let right = count_below(page, key, hs, ns, k + 1, 2 * v + 1);
+    let left = count_below(page, z, key, hs, ns, k + 1, 2 * v);
+    let right = count_below(page, z, key, hs, ns, k + 1, 2 * v + 1);
     left + right
 }

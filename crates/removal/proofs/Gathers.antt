@@ -65,7 +65,7 @@ once-left : (a b : List Row) → Once (a ++ b) → Once a
 once-left [] b o = tt
 once-left (r ∷ a) b o = (none-left a b (r .code) (o .0), once-left a b (o .1))
 
-pub housed-left : (a b : List Row) {t : List Row} → Reordered (a ++ b) t → Housed t → Housed a
+pub housed-left : {n : ℕ} (a b : List Row) {t : List Row} → Reordered (a ++ b) t → Housed n t → Housed n a
 housed-left a b {t} e k = record {
   once = once-left a b (same-map (turned e) (k .once) .0);
   fit = omega (arith, needs-append a b, needs-same e, k .fit);
@@ -75,25 +75,26 @@ housed-left a b {t} e k = record {
 
 -- q has the rows of p and all but rest of the rows rs
 pub record Coming (p : List ℕ) (rs rest : List Row) (q : List ℕ) : Type 0 where
+  pub long : length q ≡ length p
   pub tight : Tight q
   pub deep : depth q ≡ depth p
   pub all : Reordered (rowsAt q ++ rest) (rowsAt p ++ rs)
 
 pub coming-all : {p : List ℕ} {rs : List Row} → Taking p rs → Coming p rs rs p
-coming-all {p} {rs} t = record { tight = t .tight; deep = refl; all = same-order (rowsAt p ++ rs) }
+coming-all {p} {rs} t = record { long = refl; tight = t .tight; deep = refl; all = same-order (rowsAt p ++ rs) }
 
 pub coming-none : {p q : List ℕ} {rs : List Row} → Coming p rs [] q → Gathered p rs q
-coming-none {p} {q} {rs} k = record { tight = k .tight; deep = k .deep; all = subst (λ l. Reordered l (rowsAt p ++ rs)) (append-nil (rowsAt q)) (k .all) }
+coming-none {p} {q} {rs} k = record { long = k .long; tight = k .tight; deep = k .deep; all = subst (λ l. Reordered l (rowsAt p ++ rs)) (append-nil (rowsAt q)) (k .all) }
 
 module _ {p q : List ℕ} {rs : List Row} (xs rest : List Row) (k : Coming p rs (xs ++ rest) q) where
   split : Reordered ((rowsAt q ++ xs) ++ rest) (rowsAt p ++ rs)
   split = subst (λ l. Reordered l (rowsAt p ++ rs)) (sym (append-assoc (rowsAt q) xs rest)) (k .all)
 
   pub next-taking : Taking p rs → Taking q xs
-  next-taking t = record { tight = k .tight; all = housed-left (rowsAt q ++ xs) rest split (t .all) }
+  next-taking t = record { tight = k .tight; all = subst (λ n. Housed n (rowsAt q ++ xs)) (sym (k .long)) (housed-left (rowsAt q ++ xs) rest split (t .all)) }
 
   pub next-coming : {u : List ℕ} → Gathered q xs u → Coming p rs rest u
-  next-coming {u} g = record { tight = g .tight; deep = g .deep ∙ k .deep; all = chain (append-same (g .all) (same-order rest)) split }
+  next-coming {u} g = record { long = g .long ∙ k .long; tight = g .tight; deep = g .deep ∙ k .deep; all = chain (append-same (g .all) (same-order rest)) split }
 
 -- ---- one row
 
@@ -127,7 +128,7 @@ module _ (p c pl : List ℕ) (K : Storable c pl) (T : Taking p (rowOf c pl ∷ [
 
   fits : 12 + length c ≤ spare p
   unfolding needs need
-  fits = omega (arith, T .all .fit, needs-same last-first, page-needs p P, T .tight .long)
+  fits = omega (arith, T .all .fit, needs-same last-first, page-needs p P)
 
   pub row-fits : (i : ℕ) → Belongs p i c → Insertable p i c pl
   row-fits i b = record {
@@ -136,13 +137,14 @@ module _ (p c pl : List ℕ) (K : Storable c pl) (T : Taking p (rowOf c pl ∷ [
     natural = K .natural;
     good = K .good;
     fits = fits;
-    room = omega (arith, fits, T .tight .full, T .tight .long);
+    room = omega (arith, fits, T .tight .full);
   }
 
   pub row-added : (i : ℕ) (q : List ℕ) → Belongs p i c → Inserted p i c pl q → Gathered p (r ∷ []) q
   unfolding atFrontier needs need end-of
   row-added i q b I = record {
-    tight = record { page = I .page; long = I .long ∙ T .tight .long; full = full };
+    long = I .long;
+    tight = record { page = I .page; full = full };
     deep = I .deep;
     all = chain (subst (λ l. Reordered l (r ∷ rowsAt p)) (sym put) (in-order-reordered (r ∷ rowsAt p))) (turned last-first);
   }
@@ -155,12 +157,12 @@ module _ (p c pl : List ℕ) (K : Storable c pl) (T : Taking p (rowOf c pl ∷ [
           ap (map asRow) its ∙ insert-map (λ x. x .code) (λ x. x .code) asRow (λ x. refl) (record-at (frontierOf (rows p)) r) (rows p)
           ∙ ap (insert by-code r) (sym (page-order p P)) ∙ sym (order-put r (rowsAt p))
 
-      full : frontier q + 4 * count q + spare q ≡ 1024
+      full : frontier q + 4 * count q + spare q ≡ length q
       full =
           let f : frontier q ≡ max (frontier p + (8 + length c)) (frontier p) =
           page-frontier q (I .page) ∙ ap frontierOf its ∙ front-insert (record-at (frontierOf (rows p)) r) (rows p) ∙ ap (λ n. max (n + (8 + length c)) n) (sym (page-frontier p P)) in
           let n : needs (rowsAt q) ≡ needs (r ∷ rowsAt p) = ap needs put ∙ needs-same (in-order-reordered (r ∷ rowsAt p)) in
-          omega (arith, f, n, fits, count-more p i c pl q I (b .within), page-needs p P, page-needs q (I .page), I .long, T .tight .long, T .tight .full)
+          omega (arith, f, n, fits, count-more p i c pl q I (b .within), page-needs p P, page-needs q (I .page), I .long, T .tight .full)
 
   pub row-known : (i : ℕ) → i < count p → code p i ≡ c → ⊥
   row-known i l e = none-some not-there (found-at p P c i l e)
@@ -192,7 +194,7 @@ slots-end c g =
     ap (λ k. cut c (drop k (rowsAt g))) (sym n) ∙ ap (cut c) (drop-length (rowsAt g))
 
 pub none-added : {p : List ℕ} → Tight p → Gathered p [] p
-none-added {p} t = record { tight = t; deep = refl; all = subst (Reordered (rowsAt p)) (sym (append-nil (rowsAt p))) (same-order (rowsAt p)) }
+none-added {p} t = record { long = refl; tight = t; deep = refl; all = subst (Reordered (rowsAt p)) (sym (append-nil (rowsAt p))) (same-order (rowsAt p)) }
 
 -- ---- the pages of a prefix
 

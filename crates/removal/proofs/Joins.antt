@@ -1,9 +1,10 @@
--- The gathered rows, packed into the lowest-numbered page of the prefix. Assumes nothing.
-use mathlib.Core.Path.{_≡_, sym, ap, subst, _∙_}
+-- The gathered rows, packed into the lowest-numbered page of the prefix. Over any page size. Assumes nothing.
+use mathlib.Core.Path.{_≡_, sym, ap, subst, subst₂, _∙_}
 use mathlib.Core.Logic.{⊎-elim}
 use mathlib.Core.List.{List, [], _++_, map}
-use Prim.Native.Nat.{ℕ, _+_, _-_, _≤_, _<_}
+use Prim.Native.Nat.{ℕ, _+_, _-_, _*_, _/_, _≤_, _<_}
 use native.Mathlib.Omega.{arith}
+use native.Mathlib.Nat.{mul-le-mul-right}
 use native.Mathlib.Decide.{ℕ-discrete}
 use lib.ListN.{length, set}
 use Rattle.ground.specs.Lists.{tab}
@@ -14,13 +15,14 @@ use Rattle.partition.specs.Partition.{Row, needs, Reordered}
 use Rattle.partition.specs.Listing.{inOrder}
 use Rattle.partition.proofs.Reorders.{needs-same}
 use Rattle.partition.proofs.Sorted.{order-same}
-use Rattle.store.specs.Pages.{S1024, pages, Page, bucket, page, read, contents, asRow, setPage}
+use Rattle.partition.specs.declared.Shape.{Shape}
+use Rattle.store.specs.Pages.{size, pages, Page, bucket, page, read, contents, asRow, setPage}
 use Rattle.store.specs.Moves.{find, within, packFrom}
 use Rattle.store.proofs.Paging.PageTies.{page-needs, page-once, page-order, packed-rows, read-slotted}
 use Rattle.store.proofs.Paging.Views.{set-long, set-same, set-other, set-below, set-contents}
-use Rattle.directory.specs.Directory.{SoundPage, used, Settling}
+use Rattle.directory.specs.Directory.{SoundPage, used}
 use Rattle.removal.specs.Join.{Housed, Taking, Gathered, rowsAt, othersIn, Emptied, Joinable, Rejoined}
-use Rattle.removal.proofs.Prefixes.{listed}
+use Rattle.removal.proofs.Prefixes.{many, listed}
 use Rattle.removal.proofs.Empties.{emptied-sound, emptied-holds}
 
 no-rows : (g : List ℕ) → count g ≡ 0 → rowsAt g ≡ []
@@ -28,28 +30,27 @@ unfolding tab
 no-rows g e = ap (λ n. map asRow (tab (rowAt g) n)) e
 
 -- a page of no rows takes any that go on one page
-pub fresh-taking : {p : List ℕ} {d : ℕ} {q : List ℕ} (rs : List Row) → length p ≡ 1024 → Fresh p d q → Housed rs → Taking q rs
+pub fresh-taking : {p : List ℕ} {d : ℕ} {q : List ℕ} (rs : List Row) → Fresh p d q → Housed (length p) rs → Taking q rs
 unfolding needs
-fresh-taking {p} {d} {q} rs l F h = record {
+fresh-taking {p} {d} {q} rs F h = record {
   tight = record {
     page = F .page;
-    long = F .long ∙ l;
-    full = omega (arith, F .none, F .page .empty (F .none), page-needs q (F .page), ap needs (no-rows q (F .none)), F .long, l);
+    full = omega (arith, F .none, F .page .empty (F .none), page-needs q (F .page), F .page .least, ap needs (no-rows q (F .none)));
   };
-  all = subst (λ x. Housed (x ++ rs)) (sym (no-rows q (F .none))) h;
+  all = subst₂ (λ m x. Housed m (x ++ rs)) (sym (F .long)) (sym (no-rows q (F .none))) h;
 }
 
-module _ (h : List ℕ → ℕ) (s : List ℕ) (n j v : ℕ) (c : List ℕ) (P : Settling S1024 s n) (shallow : j ≤ 8) (J : Joinable h s j v c) where
+module _ (S : Shape) (h : List ℕ → ℕ) (s : List ℕ) (n j v : ℕ) (c : List ℕ) (J : Joinable S h s n j v c) where
   abbrev gs : List Page
-  gs = contents S1024 s
+  gs = contents S s
 
   abbrev low : ℕ
   low = 2 + find (within h j v) gs
 
   pub low-within : low < n
-  low-within = omega (arith, J .there, listed s n P)
+  low-within = omega (arith, J .there, listed S s n (J .sound))
 
-  module _ {p q g u k : List ℕ} (l : length p ≡ 1024) (F : Fresh p j q) (G : Gathered q (othersIn h j v c gs) g) (E : Emptied h s n j v 2 u) (K : Packed g k) where
+  module _ {p q g u k : List ℕ} (l : length p ≡ size S) (F : Fresh p j q) (G : Gathered q (othersIn h j v c gs) g) (E : Emptied S h s n j v 2 u) (K : Packed g k) where
     all : Reordered (rowsAt g) (othersIn h j v c gs)
     all = subst (λ x. Reordered (rowsAt g) (x ++ othersIn h j v c gs)) (no-rows q (F .none)) (G .all)
 
@@ -72,23 +73,23 @@ module _ (h : List ℕ → ℕ) (s : List ℕ) (n j v : ℕ) (c : List ℕ) (P :
     deep : depth k ≡ j
     deep = K .deep ∙ G .deep ∙ F .deep
 
-    long : length k ≡ 1024
-    long = K .long ∙ G .tight .long
+    long : length k ≡ size S
+    long = K .long ∙ G .long ∙ F .long ∙ l
 
-    there : low < pages S1024 u
-    there = omega (arith, low-within, E .long, P .long)
+    there : low < pages S u
+    there = subst (λ m. low < m) (sym (ap (λ m. m / size S) (E .long) ∙ many S s n (J .sound))) low-within
 
-    pub rejoined : Rejoined h s n j v c (setPage S1024 u low k)
+    pub rejoined : Rejoined S h s n j v c (setPage S u low k)
     rejoined = record {
-      long = set-long S1024 u low k there long ∙ E .long;
-      low = λ i b. set-below S1024 u low k there long i (omega arith) ∙ E .low i b;
+      long = set-long S u low k there long ∙ E .long;
+      low = λ i b. let m : 2 * size S ≤ low * size S = mul-le-mul-right (size S) (omega arith) in set-below S u low k there long i (omega (arith, m)) ∙ E .low i b;
       sound = λ x a b. go x a b (ℕ-discrete x low);
-      holds = set-contents S1024 u low k there long (omega arith) ∙ (λ i. set (emptied-holds h s n j v P u E i) (at i) (now-reads i));
+      holds = set-contents S u low k there long (omega arith) ∙ (λ i. set (emptied-holds S h s n j v (J .sound) u E i) (at i) (now-reads i));
     }
       where
-        go : (x : ℕ) → 2 ≤ x → x < n → Dec (x ≡ low) → SoundPage S1024 (page S1024 (setPage S1024 u low k) x)
-        go x a b (yes e) = subst (SoundPage S1024) (sym (ap (page S1024 (setPage S1024 u low k)) e ∙ set-same S1024 u low k there long)) (used its (omega (arith, deep)))
-        go x a b (no ne) = subst (SoundPage S1024) (sym (set-other S1024 u low k there long x ne)) (emptied-sound h s n j v P u E x a b)
+        go : (x : ℕ) → 2 ≤ x → x < n → Dec (x ≡ low) → SoundPage S (page S (setPage S u low k) x)
+        go x a b (yes e) = subst (SoundPage S) (sym (ap (page S (setPage S u low k)) e ∙ set-same S u low k there long)) (used its (omega (arith, deep, J .bits)))
+        go x a b (no ne) = subst (SoundPage S) (sym (set-other S u low k there long x ne)) (emptied-sound S h s n j v (J .sound) u E x a b)
 
         at : low - 2 ≡ find (within h j v) gs
         at = omega arith

@@ -1,10 +1,11 @@
--- REMOVE on an accepted store: where the code's row stands, what is left of its prefix, and the three writes. Over any hash. Assumes nothing.
+-- REMOVE on an accepted store: where the code's row stands, what is left of its prefix, and the three writes. Over any page size and hash. Assumes nothing.
 use mathlib.Core.Path.{_≡_, refl, sym, ap, subst, subst₂, _∙_}
 use mathlib.Core.List.{List, [], _∷_, _++_, map, List·Memᴰ}
 use mathlib.Core.Logic.{⊎-elim}
 use mathlib.Core.Option.{some}
-use Prim.Native.Nat.{ℕ, suc, _+_, _-_, _/_, _≤_, _<_}
+use Prim.Native.Nat.{ℕ, suc, _+_, _-_, _*_, _≤_, _<_}
 use native.Mathlib.Omega.{arith}
+use native.Mathlib.Nat.{mul-le-mul-right}
 use native.Mathlib.Decide.{ℕ-discrete}
 use lib.ListN.{length, getD, set, replicate, length-replicate, length-map}
 use Rattle.ground.specs.Lists.{byte}
@@ -24,11 +25,12 @@ use Rattle.partition.proofs.Reorders.{needs-same, rows-same}
 use Rattle.partition.proofs.Rising.{tab-in, tab-member, without-member, without-map}
 use Rattle.partition.proofs.Rows.{load, load-mono, rows-on, some-need}
 use Rattle.partition.proofs.Sorted.{by-code, order-same, some-none, some-once}
-use Rattle.store.specs.Pages.{S1024, pages, Page, free, bucket, page, contents, asRow, rowsHeld, deepestIn, setPage}
+use Rattle.partition.specs.declared.Shape.{Shape}
+use Rattle.store.specs.Pages.{size, pages, Page, free, bucket, page, contents, asRow, rowsHeld, deepestIn, setPage}
 use Rattle.store.specs.Accepted.{Bucket, Stands, unused, used}
 use Rattle.store.specs.Moves.{pick, find, holds, within, packFrom, packed, clearedOn, removed}
 use Rattle.store.specs.Tables.{Becomes}
-use Rattle.store.specs.Demands.{Hash, sized-1024}
+use Rattle.store.specs.Demands.{Sized, Hash}
 use Rattle.store.proofs.Accepted.Rules.{opened}
 use Rattle.store.proofs.Showing.Shows.{firstCode, prefixOn, Holding, Shows}
 use Rattle.store.proofs.Showing.Shown.{within-on, within-pages, find-least}
@@ -43,26 +45,26 @@ use Rattle.store.proofs.Showing.Within.{one-depth, rows-within}
 use Rattle.store.proofs.Accepted.Accepting.{Laid, accepted-laid, laid-becomes}
 use Rattle.store.proofs.Paging.PageTies.{row-in, zeros, read-cleared, page-once, found-at, removed-rows}
 use Rattle.store.proofs.Paging.Views.{set-long, set-same, set-other, set-below, set-contents}
-use Rattle.directory.specs.Directory.{Directed, SoundPage, free as vacant, Rewritten}
+use Rattle.directory.specs.Directory.{Directed, SoundPage, free as vacant, used as occupied, Rewritten}
 use Rattle.removal.specs.Prefix.{Climbed}
 use Rattle.removal.specs.Join.{othersIn, Joinable, Rejoined}
-use Rattle.removal.specs.Remove.{Leaving, left, Fits}
+use Rattle.removal.specs.Remove.{Leaving, rowsLeft, Fits}
 use Rattle.directory.proofs.OnePage.{laid-set}
-use Rattle.directory.proofs.Settles.{unwritten, settled}
+use Rattle.directory.proofs.Settles.{unwritten, settling, settled}
 use Rattle.removal.proofs.Gathers.{cut-append, cut-same as cut-key}
 
-module _ (h : List ℕ → ℕ) (hash : Hash h) (s : List ℕ) (p i : ℕ) (c : List ℕ) (L : Leaving h s p i c) where
+module _ (S : Shape) (sized : Sized S) (h : List ℕ → ℕ) (hash : Hash h) (s : List ℕ) (p i : ℕ) (c : List ℕ) (L : Leaving S h s p i c) where
   abbrev g : List ℕ
-  g = page S1024 s p
+  g = page S s p
 
   abbrev k : ℕ
   k = depth g
 
   abbrev gs : List Page
-  gs = contents S1024 s
+  gs = contents S s
 
   abbrev rs : List Row
-  rs = rowsHeld S1024 s
+  rs = rowsHeld S s
 
   abbrev x : ℕ
   x = h c
@@ -70,26 +72,26 @@ module _ (h : List ℕ → ℕ) (hash : Hash h) (s : List ℕ) (p i : ℕ) (c : 
   abbrev old : List ℕ
   old = place g i
 
-  shows : Shows S1024 h rs gs
-  shows = accepted-shows S1024 h sized-1024 hash s (L .accepted)
+  shows : Shows S h rs gs
+  shows = accepted-shows S h sized hash s (L .accepted)
 
   slotted : Slotted g
   slotted = L .rules .rules
 
-  long : length g ≡ 1024
-  long = page-long S1024 s p (L .to)
+  long : length g ≡ size S
+  long = page-long S s p (L .to)
 
   holding : Holding gs (p - 2) k (rows g)
-  holding = held S1024 s p (L .from) (L .to) ∙ read-used g (L .rules)
+  holding = held S s p (L .from) (L .to) ∙ read-used g (L .rules)
 
   -- the page found for the code's hash
   pub here : find (holds h x) gs ≡ p - 2
   here =
       ap (λ y. find (holds h (h y)) gs) (sym (L .coded))
-      ∙ only-page S1024 h rs gs shows (p - 2) k (rows g) holding (asRow (rowAt g i)) (row-in g i (L .slot))
+      ∙ only-page S h rs gs shows (p - 2) k (rows g) holding (asRow (rowAt g i)) (row-in g i (L .slot))
 
-  abbrev its : Known S1024 h rs gs shows c old
-  its = Cases.its S1024 h rs gs c old shows (L .known)
+  abbrev its : Known S h rs gs shows c old
+  its = Cases.its S h rs gs c old shows (L .known)
 
   same : (its .depth ≡ k) × (its .records ≡ rows g)
   same = bucket-one (sym (its .there) ∙ ap (λ j. getD gs j free) here ∙ holding)
@@ -97,19 +99,24 @@ module _ (h : List ℕ → ℕ) (hash : Hash h) (s : List ℕ) (p i : ℕ) (c : 
   begins : prefixOn h k (rows g) ≡ top k x
   begins = subst₂ (λ d r. prefixOn h d r ≡ top d x) (same .0) (same .1) (its .begins)
 
+  -- a bucket page is not deeper than there can be
+  pub page-shallow : SoundPage S (page S s p) → depth (page S s p) ≤ S .deepest
+  page-shallow (vacant z) = absurd (omega (arith, z 0, slotted .one))
+  page-shallow (occupied b d) = d
+
   -- ---- going up
 
-  sum : (j : ℕ) → needs (rowsOf h rs j (top j x)) ≡ 12 + length c + needs (rowsOf h (left s c) j (top j x))
-  sum = Cases.needs-left S1024 h rs gs c old shows (L .known)
+  sum : (j : ℕ) → needs (rowsOf h rs j (top j x)) ≡ 12 + length c + needs (rowsOf h (rowsLeft S s c) j (top j x))
+  sum = Cases.needs-left S h rs gs c old shows (L .known)
 
-  pub its-bucket : IsBucket S1024 h (rowsHeld S1024 s) (depth (page S1024 s p)) (top (depth (page S1024 s p)) (h c))
-  its-bucket = Holder.its-bucket S1024 h rs gs shows x (p - 2) k (rows g) holding begins
+  pub its-bucket : IsBucket S h (rowsHeld S s) (depth (page S s p)) (top (depth (page S s p)) (h c))
+  its-bucket = Holder.its-bucket S h rs gs shows x (p - 2) k (rows g) holding begins
 
-  pub climbed-fits : (need j : ℕ) → need ≡ 12 + length c → Climbed h (rowsHeld S1024 s) (h c) (depth (page S1024 s p)) need j → Fits h s c j
+  pub climbed-fits : (need j : ℕ) → need ≡ 12 + length c → Climbed S h (rowsHeld S s) (h c) (depth (page S s p)) need j → Fits S h s c j
   climbed-fits need j e C = record {
     fit = ⊎-elim
         (λ l. omega (arith, C .fit l, sum j))
-        (λ l. let q : its .depth ≡ j = omega (arith, same .0, C .most) in subst (λ d. needs (rowsOf h (left s c) d (top d x)) ≤ 1016) q (Cases.fits-here S1024 h rs gs c old shows (L .known)))
+        (λ l. let q : its .depth ≡ j = omega (arith, same .0, C .most) in subst (λ d. needs (rowsOf h (rowsLeft S s c) d (top d x)) ≤ S .capacity) q (Cases.fits-here S h rs gs c old shows (L .known)))
         (side j k);
     over = λ m q. omega (arith, C .over m q, sum m);
   }
@@ -126,28 +133,28 @@ module _ (h : List ℕ → ℕ) (hash : Hash h) (s : List ℕ) (p i : ℕ) (c : 
   many = sym (length-map (rows g) asRow ∙ length-tab (rowAt g) (count g)) ∙ cut-length c old (map asRow (rows g)) (page-once g slotted) found
 
   -- the rows left of the page's prefix are those left on the page
-  rest-needs : needs (rowsOf h (left s c) k (top k x)) ≡ needs rest
+  rest-needs : needs (rowsOf h (rowsLeft S s c) k (top k x)) ≡ needs rest
   unfolding need needs
   rest-needs =
       let w = sum k in
-      let y : needs (map asRow (rows g)) ≡ needs (rowsOf h rs k (top k x)) = needs-same (Holder.its-rows S1024 h rs gs shows x (p - 2) k (rows g) holding begins) in
+      let y : needs (map asRow (rows g)) ≡ needs (rowsOf h rs k (top k x)) = needs-same (Holder.its-rows S h rs gs shows x (p - 2) k (rows g) holding begins) in
       let z : needs (map asRow (rows g)) ≡ 12 + length c + needs rest = needs-same (cut-front c old (map asRow (rows g)) (page-once g slotted) found) in
       omega arith
 
   bucket-page : Bucket h g
-  bucket-page = go (opened S1024 h s (L .accepted) .stands p (L .from) (L .to))
+  bucket-page = go (opened S h s (L .accepted) .stands p (L .from) (L .to))
     where
-      go : Stands S1024 h s p → Bucket h g
+      go : Stands S h s p → Bucket h g
       go (unused z _) = absurd (omega (arith, z 0, slotted .one))
       go (used b _ _) = b
 
-  module _ (j : ℕ) (F : Fits h s c j) where
-    shallow : Shallowest S1024 h (left s c) x j
+  module _ (j : ℕ) (F : Fits S h s c j) where
+    shallow : Shallowest S h (rowsLeft S s c) x j
     shallow = record { fit = F .fit; above = F .over }
 
     -- the pages then
-    after : Shows S1024 h (left s c) (removed S1024 h gs c)
-    after = remove-shown S1024 h sized-1024 hash s c old (L .accepted) (L .known)
+    after : Shows S h (rowsLeft S s c) (removed S h gs c)
+    after = remove-shown S h sized hash s c old (L .accepted) (L .known)
 
     -- ---- rows left at the page's own depth: the record goes
 
@@ -174,62 +181,62 @@ module _ (h : List ℕ → ℕ) (hash : Hash h) (s : List ℕ) (p i : ℕ) (c : 
           ∙ bucket-page .share (w .0) 0 (w .1) (omega (arith, L .slot))
           ∙ sym (first-code h g (L .rules))
 
-      written : removed S1024 h gs c ≡ set gs (p - 2) (bucket k (rows q))
+      written : removed S h gs c ≡ set gs (p - 2) (bucket k (rows q))
       written =
-          Cases.removed-loses S1024 h rs gs c old shows (L .known) hash j shallow positive (own ∙ sym (same .0))
+          Cases.removed-loses S h rs gs c old shows (L .known) hash j shallow positive (own ∙ sym (same .0))
           ∙ ap (λ m. set gs m (clearedOn c (getD gs m free))) here
           ∙ ap (λ y. set gs (p - 2) (clearedOn c y)) holding
           ∙ ap (λ l. set gs (p - 2) (bucket k l)) (sym rows-left)
         where
-          positive : 0 < needs (rowsOf h (left s c) j (top j x))
-          positive = omega (arith, ap (λ d. needs (rowsOf h (left s c) d (top d x))) own, rest-needs, some-need rest .0 (omega (arith, many)))
+          positive : 0 < needs (rowsOf h (rowsLeft S s c) j (top j x))
+          positive = omega (arith, ap (λ d. needs (rowsOf h (rowsLeft S s c) d (top d x))) own, rest-needs, some-need rest .0 (omega (arith, many)))
 
-      pub loses : ((m : ℕ) → byte (setPage S1024 s p q) m < 256) → Becomes S1024 h s (removed S1024 h gs c) (setPage S1024 s p q)
+      pub loses : ((m : ℕ) → byte (setPage S s p q) m < 256) → Becomes S h s (removed S h gs c) (setPage S s p q)
       loses small =
-          laid-becomes S1024 h sized-1024 hash (setPage S1024 s p q) (left s c) (removed S1024 h gs c)
-          (subst (Laid S1024 h (setPage S1024 s p q)) (sym written)
-          (laid-set S1024 h sized-1024 s gs (accepted-laid S1024 h sized-1024 hash s (L .accepted)) p k (rows g) (L .from) (L .to) holding q kept (R .long ∙ long) (R .deep) still))
-          after s (set-long S1024 s p q (L .to) (R .long ∙ long)) small
+          laid-becomes S h sized hash (setPage S s p q) (rowsLeft S s c) (removed S h gs c)
+          (subst (Laid S h (setPage S s p q)) (sym written)
+          (laid-set S h sized s gs (accepted-laid S h sized hash s (L .accepted)) p k (rows g) (L .from) (L .to) holding q kept (R .long ∙ long) (R .deep) still))
+          after s (set-long S s p q (L .to) (R .long ∙ long)) small
 
     -- pages written anew and settled
-    module _ (n : ℕ) (pages-are : n ≡ length s / 1024) {t u : List ℕ} (W : Rewritten S1024 s t) (holds-then : contents S1024 t ≡ removed S1024 h gs c) (D : Directed S1024 h t (deepestIn (contents S1024 t)) n u) where
-      pub settles : ((m : ℕ) → byte u m < 256) → Becomes S1024 h s (removed S1024 h gs c) u
+    module _ {t u : List ℕ} (W : Rewritten S s t) (holds-then : contents S t ≡ removed S h gs c) (D : Directed S h t (deepestIn (contents S t)) (pages S s) u) where
+      pub settles : ((m : ℕ) → byte u m < 256) → Becomes S h s (removed S h gs c) u
       settles small =
-          subst (λ l. Becomes S1024 h s l u) holds-then
-          (settled S1024 sized-1024 h hash s (L .accepted) t W u (subst (λ m. Directed S1024 h t (deepestIn (contents S1024 t)) m u) pages-are D) (left s c) (subst (Shows S1024 h (left s c)) (sym holds-then) after) small)
+          subst (λ l. Becomes S h s l u) holds-then
+          (settled S sized h hash s (L .accepted) t W u D (rowsLeft S s c) (subst (Shows S h (rowsLeft S s c)) (sym holds-then) after) small)
 
     -- ---- nothing left on the page: it is cleared
 
     module _ (own : j ≡ k) (one : count g ≡ 1) where
       abbrev t : List ℕ
-      t = setPage S1024 s p (replicate 1024 0)
+      t = setPage S s p (replicate (size S) 0)
 
-      zero-long : length (replicate {A = ℕ} 1024 0) ≡ 1024
-      zero-long = length-replicate {A = ℕ} 1024 0
+      zero-long : length (replicate {A = ℕ} (size S) 0) ≡ size S
+      zero-long = length-replicate {A = ℕ} (size S) 0
 
-      pub clear-written : Rewritten S1024 s t
+      pub clear-written : Rewritten S s t
       clear-written =
-          let before = unwritten S1024 sized-1024 h hash s (L .accepted) in
+          let before = unwritten S sized h hash s (L .accepted) in
           record {
-            long = set-long S1024 s p (replicate 1024 0) (L .to) zero-long;
-            low = λ m l. set-below S1024 s p (replicate 1024 0) (L .to) zero-long m (omega (arith, L .from));
+            long = set-long S s p (replicate (size S) 0) (L .to) zero-long;
+            low = λ m l. set-below S s p (replicate (size S) 0) (L .to) zero-long m (omega (arith, mul-le-mul-right (size S) (L .from)));
             sound = λ y a b. go y a b (before .sound y a b) (ℕ-discrete y p);
           }
         where
-          go : (y : ℕ) → 2 ≤ y → y < pages S1024 s → SoundPage S1024 (page S1024 s y) → Dec (y ≡ p) → SoundPage S1024 (page S1024 t y)
-          go y a b w (yes e) = subst (SoundPage S1024) (sym (ap (page S1024 t) e ∙ set-same S1024 s p (replicate 1024 0) (L .to) zero-long)) (vacant (zeros 1024))
-          go y a b w (no n) = subst (SoundPage S1024) (sym (set-other S1024 s p (replicate 1024 0) (L .to) zero-long y n)) w
+          go : (y : ℕ) → 2 ≤ y → y < pages S s → SoundPage S (page S s y) → Dec (y ≡ p) → SoundPage S (page S t y)
+          go y a b w (yes e) = subst (SoundPage S) (sym (ap (page S t) e ∙ set-same S s p (replicate (size S) 0) (L .to) zero-long)) (vacant (zeros (size S)))
+          go y a b w (no n) = subst (SoundPage S) (sym (set-other S s p (replicate (size S) 0) (L .to) zero-long y n)) w
 
-      pub clear-holds : contents S1024 t ≡ removed S1024 h gs c
+      pub clear-holds : contents S t ≡ removed S h gs c
       clear-holds =
-          set-contents S1024 s p (replicate 1024 0) (L .to) zero-long (L .from) ∙ ap (set gs (p - 2)) (read-cleared 1024) ∙ ap (λ m. set gs m free) (sym here)
-          ∙ sym (Cases.removed-clears S1024 h rs gs c old shows (L .known) hash j shallow nothing)
+          set-contents S s p (replicate (size S) 0) (L .to) zero-long (L .from) ∙ ap (set gs (p - 2)) (read-cleared (size S)) ∙ ap (λ m. set gs m free) (sym here)
+          ∙ sym (Cases.removed-clears S h rs gs c old shows (L .known) hash j shallow nothing)
         where
           none-needed : needs rest ≡ 0
           none-needed = ⊎-elim (λ l. absurd (omega (arith, many, some-need rest .1 l))) (λ l. omega arith) (side 0 (needs rest))
 
-          nothing : needs (rowsOf h (left s c) j (top j x)) ≡ 0
-          nothing = ap (λ d. needs (rowsOf h (left s c) d (top d x))) own ∙ rest-needs ∙ none-needed
+          nothing : needs (rowsOf h (rowsLeft S s c) j (top j x)) ≡ 0
+          nothing = ap (λ d. needs (rowsOf h (rowsLeft S s c) d (top d x))) own ∙ rest-needs ∙ none-needed
 
     -- ---- rows left at a smaller depth: joined
 
@@ -239,32 +246,34 @@ module _ (h : List ℕ → ℕ) (hash : Hash h) (s : List ℕ) (p i : ℕ) (c : 
 
       -- the rows of the pages of the prefix, the code's left out, are the rows left of the prefix
       others : othersIn h j v c gs ≡ cut c (rowsOf h rs j v)
-      others = ap (cut c) (sym (rows-within S1024 h rs gs shows x j (one-depth S1024 h rs x j k its-bucket (omega arith))))
+      others = ap (cut c) (sym (rows-within S h rs gs shows x j (one-depth S h rs x j k its-bucket (omega arith))))
 
-      others-left : Reordered (othersIn h j v c gs) (rowsOf h (left s c) j v)
+      others-left : Reordered (othersIn h j v c gs) (rowsOf h (rowsLeft S s c) j v)
       others-left =
           let r : Row = record { code = c; place = old } in
-          let front : Reordered (rowsOf h rs j v) (r ∷ rowsOf h (left s c) j v) = subst (Reordered (rowsOf h rs j v)) (rows-on h r (left s c) j) (rows-same h j v (cut-front c old rs (shows .once) (L .known))) in
-          let gone : cut c (r ∷ rowsOf h (left s c) j v) ≡ rowsOf h (left s c) j v =
-          cut-append c (r ∷ []) (rowsOf h (left s c) j v) ∙ ap (λ l. l ++ cut c (rowsOf h (left s c) j v)) (cut-key r c refl) ∙ cut-none c (rowsOf h (left s c) j v) (some-none h j v (left s c) c (cut-gone c rs)) in
+          let front : Reordered (rowsOf h rs j v) (r ∷ rowsOf h (rowsLeft S s c) j v) = subst (Reordered (rowsOf h rs j v)) (rows-on h r (rowsLeft S s c) j) (rows-same h j v (cut-front c old rs (shows .once) (L .known))) in
+          let gone : cut c (r ∷ rowsOf h (rowsLeft S s c) j v) ≡ rowsOf h (rowsLeft S s c) j v =
+          cut-append c (r ∷ []) (rowsOf h (rowsLeft S s c) j v) ∙ ap (λ l. l ++ cut c (rowsOf h (rowsLeft S s c) j v)) (cut-key r c refl) ∙ cut-none c (rowsOf h (rowsLeft S s c) j v) (some-none h j v (rowsLeft S s c) c (cut-gone c rs)) in
           subst₂ Reordered (sym others) gone (cut-same c front)
 
       once : Once (othersIn h j v c gs)
       once = subst Once (sym others) (once-remove c (rowsOf h rs j v) (some-once h j v rs (shows .once)))
 
       -- with the row they did not fit
-      positive : 0 < needs (rowsOf h (left s c) j v)
+      positive : 0 < needs (rowsOf h (rowsLeft S s c) j v)
       positive = omega (
         arith,
-        fit-above (λ m. top m x) (top-step x) 1016 (load h rs) (load-mono h rs) k j (bucket-shallowest S1024 h rs x k its-bucket) less,
+        fit-above (λ m. top m x) (top-step x) (S .capacity) (load h rs) (load-mono h rs) k j (bucket-shallowest S h rs x k its-bucket) less,
         sum j,
         ap length (L .coded),
         len-of-code g i slotted (L .slot),
         slotted .long i (L .slot),
       )
 
-      pub joinable : Joinable h s j v c
+      pub joinable : Joinable S h s (pages S s) j v c
       joinable = record {
+        sound = settling S sized h hash s (L .accepted) s before;
+        bits = omega (arith, less, page-shallow (before .sound p (L .from) (L .to)));
         housed = record { once = once; fit = omega (arith, needs-same others-left, F .fit) };
         some = omega (arith, needs-same others-left, positive);
         there = omega (arith, find-least (within h j v) gs (p - 2) inside (ap (within h j v) holding ∙ within-on h j v k (rows g) (shows .page (p - 2) k (rows g) holding .some) .1 (share-fewer (h (firstCode (rows g))) x j k (omega arith) begins)), inside);
@@ -273,12 +282,15 @@ module _ (h : List ℕ → ℕ) (hash : Hash h) (s : List ℕ) (p i : ℕ) (c : 
           inside : p - 2 < length gs
           inside = within-pages gs (p - 2) k (rows g) holding
 
-      module _ {n : ℕ} {t : List ℕ} (pages-are : n ≡ pages S1024 s) (R : Rejoined h s n j v c t) where
-        pub join-written : Rewritten S1024 s t
-        join-written = record { long = R .long; low = R .low; sound = λ y a b. R .sound y a (omega (arith, pages-are)) }
+          before : Rewritten S s s
+          before = unwritten S sized h hash s (L .accepted)
 
-        pub join-holds : contents S1024 t ≡ removed S1024 h gs c
+      module _ {t : List ℕ} (R : Rejoined S h s (pages S s) j v c t) where
+        pub join-written : Rewritten S s t
+        join-written = record { long = R .long; low = R .low; sound = R .sound }
+
+        pub join-holds : contents S t ≡ removed S h gs c
         unfolding packed
         join-holds =
             R .holds ∙ ap (λ l. set (map (λ y. pick (within h j v y) free y) gs) (find (within h j v) gs) (bucket j (packFrom 8 l))) (order-same others-left once)
-            ∙ sym (Cases.removed-joins S1024 h rs gs c old shows (L .known) hash j shallow positive (λ e. omega (arith, e, same .0)))
+            ∙ sym (Cases.removed-joins S h rs gs c old shows (L .known) hash j shallow positive (λ e. omega (arith, e, same .0)))

@@ -1,10 +1,10 @@
--- What the rows of a prefix need, added up over its run of directory entries, each bucket once at its first. Over any hash. Assumes nothing.
+-- What the rows of a prefix need, added up over its run of directory entries, each bucket once at its first. Over any page size and hash. Assumes nothing.
 use mathlib.Core.Path.{_≡_, sym, ap, ap₂, subst, _∙_}
 use mathlib.Core.List.{List, map}
 use mathlib.Core.Logic.{_⊎_, inl, inr, ⊎-elim}
 use Prim.Native.Nat.{ℕ, zero, suc, _+_, _-_, _*_, _/_, _^_, _≤_, _<_}
 use native.Mathlib.Omega.{arith}
-use native.Mathlib.Nat.{le-refl, mul-assoc, mul-le-mul-right, pow-suc}
+use native.Mathlib.Nat.{le-refl, le-trans, mul-assoc, mul-le-mul-right, pow-suc}
 use lib.Pow.{pow-add, shr-shr}
 use lib.ListN.{length}
 use Rattle.ground.specs.Lists.{byte, total}
@@ -23,9 +23,10 @@ use Rattle.partition.proofs.Order.{first-lt-after}
 use Rattle.partition.proofs.Reorders.{needs-same, needs-append}
 use Rattle.partition.proofs.Sorted.{in-order-reordered}
 use Rattle.partition.proofs.Directory.{Holds, holds-range, entries-size}
-use Rattle.store.specs.Pages.{S1024, page, dirDepth, entryAt, contents, asRow, rowsHeld}
+use Rattle.partition.specs.declared.Shape.{Shape}
+use Rattle.store.specs.Pages.{size, page, dirDepth, entryAt, contents, asRow, rowsHeld}
 use Rattle.store.specs.Accepted.{Accepted}
-use Rattle.store.specs.Demands.{Hash, sized-1024}
+use Rattle.store.specs.Demands.{Sized, Hash}
 use Rattle.store.proofs.Accepted.Rules.{Opened, opened}
 use Rattle.store.proofs.Showing.Shows.{prefixOn, OnPage, Shows}
 use Rattle.store.proofs.Showing.Shown.{paged}
@@ -33,7 +34,7 @@ use Rattle.store.proofs.Showing.Showing.{under, accepted-shows}
 use Rattle.store.proofs.Accepted.Unique.{page-long, within}
 use Rattle.store.proofs.Showing.Within.{one-depth}
 use Rattle.store.proofs.Paging.PageTies.{page-needs}
-use Rattle.store.proofs.Accepted.Named.{calls-hash, shown-bucket}
+use Rattle.store.proofs.Accepted.Named.{deep-small, calls-hash, shown-bucket}
 use Rattle.store.proofs.Accepted.Reading.{Naming}
 use Rattle.store.proofs.Showing.Walked.{Start, behind, walk-none, walk-page}
 use Rattle.removal.specs.Prefix.{Above}
@@ -97,22 +98,25 @@ run-in d i p q l m e f =
 -- ---- an accepted store: the prefix of j bits of a hash that a bucket no shorter holds
 
 -- The entries from the run's first up to i are walked: their rows need `sum`, and a bucket that has entry i begins there.
-pub record Summed (h : List ℕ → ℕ) (s : List ℕ) (x j i sum : ℕ) : Type 0 where
+pub record Summed (S : Shape) (h : List ℕ → ℕ) (s : List ℕ) (x j i sum : ℕ) : Type 0 where
   pub from : first (dirDepth s) (pfx j (top j x)) ≤ i
   pub to : i ≤ after (dirDepth s) (pfx j (top j x))
-  pub starts : Start S1024 h s i
-  pub is : sum ≡ total (λ n. load h (rowsHeld S1024 s) (dirDepth s) (first (dirDepth s) (pfx j (top j x)) + n)) (i - first (dirDepth s) (pfx j (top j x)))
+  pub starts : Start S h s i
+  pub is : sum ≡ total (λ n. load h (rowsHeld S s) (dirDepth s) (first (dirDepth s) (pfx j (top j x)) + n)) (i - first (dirDepth s) (pfx j (top j x)))
 
 -- Entry i is the first of page p: the bytes that are read of the page, and the walk past its entries.
-pub record Step (h : List ℕ → ℕ) (s : List ℕ) (x j i sum p : ℕ) : Type 0 where
-  pub inside : p * 1024 + 1024 ≤ length s
-  pub deep : byte s (p * 1024 + 1) ≤ dirDepth s
-  pub room : le16 s (p * 1024 + 6) ≤ 1016
-  pub past : (w : ℕ) → w ≡ 2 ^ (dirDepth s - byte s (p * 1024 + 1)) → Summed h s x j (i + w) (sum + (1016 - le16 s (p * 1024 + 6)))
+pub record Step (S : Shape) (h : List ℕ → ℕ) (s : List ℕ) (x j i sum p : ℕ) : Type 0 where
+  pub inside : p * size S + size S ≤ length s
+  pub deep : byte s (p * size S + 1) ≤ dirDepth s
+  pub room : le16 s (p * size S + 6) ≤ S .capacity
+  pub past : (w : ℕ) → w ≡ 2 ^ (dirDepth s - byte s (p * size S + 1)) → Summed S h s x j (i + w) (sum + (S .capacity - le16 s (p * size S + 6)))
 
-module _ (h : List ℕ → ℕ) (hash : Hash h) (s : List ℕ) (A : Accepted S1024 h s) (x j : ℕ) (B : Above h s x j) where
+module _ (S : Shape) (sized : Sized S) (h : List ℕ → ℕ) (hash : Hash h) (s : List ℕ) (x j : ℕ) (B : Above S h s x j) where
+  A : Accepted S h s
+  A = B .accepted
+
   abbrev rs : List Row
-  rs = rowsHeld S1024 s
+  rs = rowsHeld S s
 
   abbrev d : ℕ
   d = dirDepth s
@@ -126,28 +130,28 @@ module _ (h : List ℕ → ℕ) (hash : Hash h) (s : List ℕ) (A : Accepted S10
   abbrev f : ℕ → ℕ
   f n = load h rs d (a + n)
 
-  T : Opened S1024 h s
-  T = opened S1024 h s A
+  T : Opened S h s
+  T = opened S h s A
 
-  shows : Shows S1024 h rs (contents S1024 s)
-  shows = accepted-shows S1024 h sized-1024 hash s A
+  shows : Shows S h rs (contents S s)
+  shows = accepted-shows S h sized hash s A
 
-  shallow : d ≤ 8
-  shallow = T .page0 .depth
+  shallow : d ≤ 32
+  shallow = le-trans (T .page0 .depth) (deep-small S sized)
 
   -- no page is deeper than the directory
-  low : (k v : ℕ) → IsBucket S1024 h rs k v → k ≤ d
-  low k v b = let w = paged S1024 h rs (contents S1024 s) shows k v b in under S1024 h sized-1024 hash s T (w .0) k (w .1) (w .2) .low
+  low : (k v : ℕ) → IsBucket S h rs k v → k ≤ d
+  low k v b = let w = paged S h rs (contents S s) shows k v b in under S h sized hash s T (w .0) k (w .1) (w .2) .low
 
   pub short : j ≤ dirDepth s
   short = omega (arith, B .low, low (B .depth) (top (B .depth) x) (B .is))
 
-  size : after d q ≡ a + 2 ^ (d - j)
-  size = entries-size d q
+  width : after d q ≡ a + 2 ^ (d - j)
+  width = entries-size d q
 
   module _ (most : after (dirDepth s) (pfx j (top j x)) ≤ 2 ^ dirDepth s) where
     -- a bucket that has an entry of the run lies in it
-    in-run : (i k v : ℕ) → a ≤ i → i < after d q → IsBucket S1024 h rs k v → Holds d i (pfx k v) → (a ≤ first d (pfx k v)) × (after d (pfx k v) ≤ after d q)
+    in-run : (i k v : ℕ) → a ≤ i → i < after d q → IsBucket S h rs k v → Holds d i (pfx k v) → (a ≤ first d (pfx k v)) × (after d (pfx k v) ≤ after d q)
     in-run i k v m n w e = run-in d i q (pfx k v) (go (side k j)) (low k v w) own e
       where
         below : i < 2 ^ d
@@ -165,38 +169,38 @@ module _ (h : List ℕ → ℕ) (hash : Hash h) (s : List ℕ) (A : Accepted S10
         go (inl l) =
             let t : top j y ≡ top j x = calls-hash d j (top j x) i (omega (arith, shallow)) short (record { below = below; bits = own }) in
             let u : top k y ≡ v = calls-hash d k v i (omega (arith, shallow)) (low k v w) (record { below = below; bits = e }) in
-            one-depth S1024 h rs x j (B .depth) (B .is) (B .low) k (subst (IsBucket S1024 h rs k) (sym u ∙ share-fewer y x k j (omega arith) t) w)
+            one-depth S h rs x j (B .depth) (B .is) (B .low) k (subst (IsBucket S h rs k) (sym u ∙ share-fewer y x k j (omega arith) t) w)
 
-    pub summed-first : Summed h s x j (first (dirDepth s) (pfx j (top j x))) 0
+    pub summed-first : Summed S h s x j (first (dirDepth s) (pfx j (top j x))) 0
     summed-first = record {
       from = omega arith;
       to = omega (arith, first-lt-after d q);
       starts = record {
         begins = λ p m e.
             let r = holds-range d a p .0 e in
-            let w = in-run a (p .bits) (p .value) (omega arith) (first-lt-after d q) (listed S1024 h hash rs (p .bits) (p .value) .0 m .0) e in
+            let w = in-run a (p .bits) (p .value) (omega arith) (first-lt-after d q) (listed S h hash rs (p .bits) (p .value) .0 m .0) e in
             omega (arith, r .0, w .0);
       };
       is = let z : a - a ≡ 0 = omega arith in sym (ap (total f) z ∙ total-none f);
     }
 
     -- the sum is no more than what the rows of the prefix need, and at the run's end it is that
-    pub summed-most : (i sum : ℕ) → Summed h s x j i sum → sum ≤ needs (rowsOf h (rowsHeld S1024 s) j (top j x))
-    summed-most i sum U = omega (arith, U .is, run-load h rs d q short, total-le f (i - a) (2 ^ (d - j)) (omega (arith, U .to, size)))
+    pub summed-most : (i sum : ℕ) → Summed S h s x j i sum → sum ≤ needs (rowsOf h (rowsHeld S s) j (top j x))
+    summed-most i sum U = omega (arith, U .is, run-load h rs d q short, total-le f (i - a) (2 ^ (d - j)) (omega (arith, U .to, width)))
 
-    pub summed-all : (i sum : ℕ) → after (dirDepth s) (pfx j (top j x)) ≤ i → Summed h s x j i sum → sum ≡ needs (rowsOf h (rowsHeld S1024 s) j (top j x))
-    summed-all i sum l U = let e : i - a ≡ 2 ^ (d - j) = omega (arith, U .to, size) in U .is ∙ ap (total f) e ∙ sym (run-load h rs d q short)
+    pub summed-all : (i sum : ℕ) → after (dirDepth s) (pfx j (top j x)) ≤ i → Summed S h s x j i sum → sum ≡ needs (rowsOf h (rowsHeld S s) j (top j x))
+    summed-all i sum l U = let e : i - a ≡ 2 ^ (d - j) = omega (arith, U .to, width) in U .is ∙ ap (total f) e ∙ sym (run-load h rs d q short)
 
-    module _ (i sum : ℕ) (l : i < after (dirDepth s) (pfx j (top j x))) (U : Summed h s x j i sum) where
+    module _ (i sum : ℕ) (l : i < after (dirDepth s) (pfx j (top j x))) (U : Summed S h s x j i sum) where
       inside : i < 2 ^ d
       inside = omega (arith, most)
 
       -- an entry that names nothing has no row
-      pub summed-none : entryAt S1024 s i ≡ 0 → Summed h s x j (i + 1) sum
+      pub summed-none : entryAt S s i ≡ 0 → Summed S h s x j (i + 1) sum
       summed-none z = record {
         from = omega (arith, U .from);
         to = omega arith;
-        starts = walk-none S1024 h sized-1024 hash s A i inside z .1;
+        starts = walk-none S h sized hash s A i inside z .1;
         is =
             let e : i + 1 - a ≡ i - a + 1 = omega (arith, U .from) in
             let o : a + (i - a) ≡ i = omega (arith, U .from) in
@@ -206,41 +210,41 @@ module _ (h : List ℕ → ℕ) (hash : Hash h) (s : List ℕ) (A : Accepted S10
           bare : load h rs d i ≡ 0
           bare = ⊎-elim
               (λ p.
-              let w = set-entry S1024 h sized-1024 hash s A d i (le-refl d) p in
+              let w = set-entry S h sized hash s A d i (le-refl d) p in
               let n : d - d ≡ 0 = omega arith in
               let e : w .0 / 2 ^ 0 ≡ i = subst (λ m. w .0 / 2 ^ m ≡ i) n (w .1 .bits) in
               let o : w .0 ≡ i = omega (arith, e) in
-              absurd (w .2 (ap (entryAt S1024 s) o ∙ z)))
+              absurd (w .2 (ap (entryAt S s) o ∙ z)))
               (λ p. omega arith)
               (side 0 (load h rs d i))
 
-      module _ (z : entryAt S1024 s i ≡ 0 → ⊥) where
+      module _ (z : entryAt S s i ≡ 0 → ⊥) where
         abbrev g : List ℕ
-        g = page S1024 s (entryAt S1024 s i)
+        g = page S s (entryAt S s i)
 
-        step : Naming S1024 h s i (entryAt S1024 s i) × Start S1024 h s (behind S1024 s i)
-        step = let w = walk-page S1024 h sized-1024 hash s A i inside z (U .starts) in (w .0, w .2)
+        step : Naming S h s i (entryAt S s i) × Start S h s (behind S s i)
+        step = let w = walk-page S h sized hash s A i inside z (U .starts) in (w .0, w .2)
 
         abbrev p : Prefix
         p = pfx (depth g) (prefixOn h (depth g) (rows g))
 
-        on : OnPage S1024 h rs (depth g) (rows g)
-        on = shows .page (entryAt S1024 s i - 2) (depth g) (rows g) (step .0 .holding)
+        on : OnPage S h rs (depth g) (rows g)
+        on = shows .page (entryAt S s i - 2) (depth g) (rows g) (step .0 .holding)
 
         begin : first d p ≡ i
-        begin = U .starts .begins p (shown-bucket S1024 h hash rs (contents S1024 s) shows (entryAt S1024 s i - 2) (depth g) (rows g) (step .0 .holding)) (step .0 .calls .bits)
+        begin = U .starts .begins p (shown-bucket S h hash rs (contents S s) shows (entryAt S s i - 2) (depth g) (rows g) (step .0 .holding)) (step .0 .calls .bits)
 
         -- a page's rows need what is not free
-        taken : le16 s (entryAt S1024 s i * 1024 + 6) + load h rs (p .bits) (p .value) ≡ 1016
+        taken : le16 s (entryAt S s i * size S + 6) + load h rs (p .bits) (p .value) ≡ S .capacity
         unfolding le16
         taken =
             let e : needs (map asRow (rows g)) ≡ load h rs (p .bits) (p .value) = ap needs (on .ordered) ∙ needs-same (in-order-reordered (rowsOf h rs (p .bits) (p .value))) in
-            let t : byte s (entryAt S1024 s i * 1024 + 6 + 1) ≡ byte s (entryAt S1024 s i * 1024 + 7) = ap (byte s) (omega arith) in
-            omega (arith, e, page-needs g (step .0 .bytes .rules .rules), page-long S1024 s (entryAt S1024 s i) (step .0 .to), page-byte S1024 s (entryAt S1024 s i) 6 (omega arith), page-byte S1024 s (entryAt S1024 s i) 7 (omega arith))
+            let t : byte s (entryAt S s i * size S + 6 + 1) ≡ byte s (entryAt S s i * size S + 7) = ap (byte s) (omega arith) in
+            omega (arith, e, page-needs g (step .0 .bytes .rules .rules), page-long S s (entryAt S s i) (step .0 .to), page-byte S s (entryAt S s i) 6 (omega arith), page-byte S s (entryAt S s i) 7 (omega arith))
 
-        pub summed-page : Step h s x j i sum (entryAt S1024 s i)
+        pub summed-page : Step S h s x j i sum (entryAt S s i)
         summed-page = record {
-          inside = within S1024 s (entryAt S1024 s i) (step .0 .to);
+          inside = within S s (entryAt S s i) (step .0 .to);
           deep = subst (λ m. m ≤ d) at-1 (step .0 .low);
           room = omega (arith, taken);
           past = λ w e.
@@ -249,13 +253,13 @@ module _ (h : List ℕ → ℕ) (hash : Hash h) (s : List ℕ) (A : Accepted S10
               record {
                 from = omega (arith, U .from);
                 to = omega (arith, lies .1, entries-size d p, begin, n);
-                starts = subst (λ m. Start S1024 h s (i + m)) (sym n) (step .1);
+                starts = subst (λ m. Start S h s (i + m)) (sym n) (step .1);
                 is = omega (arith, U .is, taken, ap (total f) c, total-both f (i - a) (2 ^ (d - depth g)), its-run);
               };
         }
           where
-            at-1 : depth g ≡ byte s (entryAt S1024 s i * 1024 + 1)
-            at-1 = page-byte S1024 s (entryAt S1024 s i) 1 (omega arith)
+            at-1 : depth g ≡ byte s (entryAt S s i * size S + 1)
+            at-1 = page-byte S s (entryAt S s i) 1 (omega arith)
 
             lies : (a ≤ first d p) × (after d p ≤ after d q)
             lies = in-run i (p .bits) (p .value) (U .from) l (on .is) (step .0 .calls .bits)

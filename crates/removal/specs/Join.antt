@@ -1,27 +1,31 @@
--- Rows gathered on a page of their own. Assumes nothing.
+-- Rows gathered on a page of their own, and the pages of a prefix joined. Over any page size. Assumes nothing.
 use mathlib.Core.Path.{_≡_}
-use mathlib.Core.List.{List, _++_, map}
+use mathlib.Core.Bool.{Bool}
+use mathlib.Core.List.{List, [], _∷_, _++_, map}
 use Prim.Native.Nat.{ℕ, _+_, _*_, _≤_, _<_}
 use lib.ListN.{length, set, replicate}
 use Rattle.ground.specs.Lists.{byte}
 use Rattle.words.specs.Codes.{GoodCode}
-use Rattle.page.specs.Page.{Slotted, Natural, rows, depth, count, frontier, free as spare}
+use Rattle.page.specs.Page.{Slotted, Natural, rows, depth, count, code, place, frontier, free as spare}
+use Rattle.partition.specs.declared.Shape.{Shape}
 use Rattle.partition.specs.Partition.{Row, needs, Reordered}
 use Rattle.partition.specs.Listing.{without, inOrder, Once}
-use Rattle.store.specs.Pages.{S1024, Page, free, bucket, page, read, contents, asRow, rowsOn, rowsIn}
+use Rattle.store.specs.Pages.{size, Page, free, bucket, page, read, contents, asRow, rowsOn, rowsIn, setPage}
 use Rattle.store.specs.Moves.{pick, find, within, packFrom}
-use Rattle.directory.specs.Directory.{SoundPage}
+use Rattle.store.specs.Demands.{Sized}
+use Rattle.directory.specs.Directory.{SoundPage, Settling}
 
--- rows that go on one page
-pub record Housed (rs : List Row) : Type 0 where
+-- ---- rows on a page
+
+-- rows that go on one page of so many bytes
+pub record Housed (bytes : ℕ) (rs : List Row) : Type 0 where
   pub once : Once rs
-  pub fit : needs rs ≤ 1016
+  pub fit : 8 + needs rs ≤ bytes
 
--- a page of 1,024 bytes with no gap between its records
+-- a page with no gap between its records
 pub record Tight (p : List ℕ) : Type 0 where
   pub page : Slotted p
-  pub long : length p ≡ 1024
-  pub full : frontier p + 4 * count p + spare p ≡ 1024
+  pub full : frontier p + 4 * count p + spare p ≡ length p
 
 abbrev pub rowsAt : List ℕ → List Row
 rowsAt p = map asRow (rows p)
@@ -29,10 +33,11 @@ rowsAt p = map asRow (rows p)
 -- there is room on p for the rows rs too
 pub record Taking (p : List ℕ) (rs : List Row) : Type 0 where
   pub tight : Tight p
-  pub all : Housed (rowsAt p ++ rs)
+  pub all : Housed (length p) (rowsAt p ++ rs)
 
 -- q has the rows of p and the rows rs
 pub record Gathered (p : List ℕ) (rs : List Row) (q : List ℕ) : Type 0 where
+  pub long : length q ≡ length p
   pub tight : Tight q
   pub deep : depth q ≡ depth p
   pub all : Reordered (rowsAt q) (rowsAt p ++ rs)
@@ -45,30 +50,73 @@ pub record Storable (c pl : List ℕ) : Type 0 where
 abbrev pub rowOf : List ℕ → List ℕ → Row
 rowOf c pl = record { code = c; place = pl }
 
--- the rows of a page of the prefix, those of another code than c
-abbrev pub othersOn : (List ℕ → ℕ) → ℕ → ℕ → List ℕ → Page → List Row
-othersOn h j v c g = without (λ q. q .code) c (rowsOn (pick (within h j v g) g free))
+-- ---- rows of another code than c
 
--- the rows of the pages of the prefix, those of another code than c
+-- those among some rows
+abbrev pub others : List ℕ → List Row → List Row
+others c rs = without (λ q. q .code) c rs
+
+-- slot i's row, if it is one
+abbrev pub otherAt : List ℕ → List ℕ → ℕ → List Row
+otherAt c g i = others c (rowOf (code g i) (place g i) ∷ [])
+
+-- slot i of g, and room on p for its row if it is one
+pub record SlotTaking (p g : List ℕ) (i : ℕ) (c : List ℕ) : Type 0 where
+  pub page : Slotted g
+  pub slot : i < count g
+  pub room : Taking p (otherAt c g i)
+
+-- those of a page of the prefix
+abbrev pub othersOn : (List ℕ → ℕ) → ℕ → ℕ → List ℕ → Page → List Row
+othersOn h j v c g = others c (rowsOn (pick (within h j v g) g free))
+
+-- those of the pages of the prefix
 abbrev pub othersIn : (List ℕ → ℕ) → ℕ → ℕ → List ℕ → List Page → List Row
-othersIn h j v c gs = without (λ q. q .code) c (rowsIn (map (λ g. pick (within h j v g) g free) gs))
+othersIn h j v c gs = others c (rowsIn (map (λ g. pick (within h j v g) g free) gs))
+
+-- ---- the pages of a prefix
+
+-- a store of n sound pages, and a prefix of as many bits as a bucket can have
+pub record Prefixed (S : Shape) (s : List ℕ) (n j : ℕ) : Type 0 where
+  pub sized : Sized S
+  pub sound : Settling S s n
+  pub bits : j ≤ S .deepest
+
+-- page p of the store is of the prefix
+abbrev pub isOf : Shape → (List ℕ → ℕ) → ℕ → ℕ → List ℕ → ℕ → Bool
+isOf S h j v s p = within h j v (read (page S s p))
+
+-- the store with page p cleared, if it is of the prefix
+abbrev pub clearedIf : Shape → (List ℕ → ℕ) → ℕ → ℕ → List ℕ → ℕ → List ℕ
+clearedIf S h j v s p = pick (isOf S h j v s p) (setPage S s p (replicate (size S) 0)) s
 
 -- t is s with the pages of the prefix, of those from p on, cleared
-pub record Emptied (h : List ℕ → ℕ) (s : List ℕ) (n j v p : ℕ) (t : List ℕ) : Type 0 where
+pub record Emptied (S : Shape) (h : List ℕ → ℕ) (s : List ℕ) (n j v p : ℕ) (t : List ℕ) : Type 0 where
   pub long : length t ≡ length s
-  pub low : (k : ℕ) → k < 2048 → byte t k ≡ byte s k
-  pub below : (q : ℕ) → 2 ≤ q → q < p → page S1024 t q ≡ page S1024 s q
-  pub from : (q : ℕ) → p ≤ q → q < n → page S1024 t q ≡ pick (within h j v (read (page S1024 s q))) (replicate 1024 0) (page S1024 s q)
+  pub low : (k : ℕ) → k < 2 * size S → byte t k ≡ byte s k
+  pub below : (q : ℕ) → 2 ≤ q → q < p → page S t q ≡ page S s q
+  pub from : (q : ℕ) → p ≤ q → q < n → page S t q ≡ pick (isOf S h j v s q) (replicate (size S) 0) (page S s q)
+
+-- a page of the size, all zero, lent to gather rows on
+pub record Scratch (S : Shape) (p : List ℕ) : Type 0 where
+  pub sized : Sized S
+  pub blank : p ≡ replicate (size S) 0
 
 -- rows of another code than c to join, and a page of the prefix to hold them
-pub record Joinable (h : List ℕ → ℕ) (s : List ℕ) (j v : ℕ) (c : List ℕ) : Type 0 where
-  pub housed : Housed (othersIn h j v c (contents S1024 s))
-  pub some : 0 < needs (othersIn h j v c (contents S1024 s))
-  pub there : find (within h j v) (contents S1024 s) < length (contents S1024 s)
+pub record Joinable (S : Shape) (h : List ℕ → ℕ) (s : List ℕ) (n j v : ℕ) (c : List ℕ) : Type 0 where
+  pub sound : Settling S s n
+  pub bits : j ≤ S .deepest
+  pub housed : Housed (size S) (othersIn h j v c (contents S s))
+  pub some : 0 < needs (othersIn h j v c (contents S s))
+  pub there : find (within h j v) (contents S s) < length (contents S s)
 
--- t is s with those rows packed into the lowest-numbered page of the prefix, and its other pages cleared
-pub record Rejoined (h : List ℕ → ℕ) (s : List ℕ) (n j v : ℕ) (c t : List ℕ) : Type 0 where
+-- what the pages hold with those rows packed into the lowest-numbered page of the prefix, and its other pages cleared
+abbrev pub joinedPages : (List ℕ → ℕ) → ℕ → ℕ → List ℕ → List Page → List Page
+joinedPages h j v c gs = set (map (λ g. pick (within h j v g) free g) gs) (find (within h j v) gs) (bucket j (packFrom 8 (inOrder (othersIn h j v c gs))))
+
+-- t is s with its pages so
+pub record Rejoined (S : Shape) (h : List ℕ → ℕ) (s : List ℕ) (n j v : ℕ) (c t : List ℕ) : Type 0 where
   pub long : length t ≡ length s
-  pub low : (k : ℕ) → k < 2048 → byte t k ≡ byte s k
-  pub sound : (p : ℕ) → 2 ≤ p → p < n → SoundPage S1024 (page S1024 t p)
-  pub holds : contents S1024 t ≡ set (map (λ g. pick (within h j v g) free g) (contents S1024 s)) (find (within h j v) (contents S1024 s)) (bucket j (packFrom 8 (inOrder (othersIn h j v c (contents S1024 s)))))
+  pub low : (k : ℕ) → k < 2 * size S → byte t k ≡ byte s k
+  pub sound : (p : ℕ) → 2 ≤ p → p < n → SoundPage S (page S t p)
+  pub holds : contents S t ≡ joinedPages h j v c (contents S s)

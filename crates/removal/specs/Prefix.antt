@@ -1,19 +1,41 @@
--- The prefixes of a hash at and above the bucket that holds it, and how far up their rows fit. Assumes nothing.
+-- The prefixes of a hash at and above the bucket that holds it, and how far up their rows fit. Over any page size. Assumes nothing.
 use mathlib.Core.Path.{_≡_}
 use mathlib.Core.List.{List}
 use Prim.Native.Nat.{ℕ, suc, _+_, _≤_, _<_}
+use lib.ListN.{length}
+use Rattle.ground.specs.Lists.{byte}
+use Rattle.page.specs.Page.{BucketPage}
 use Rattle.partition.specs.Bits.{top}
+use Rattle.partition.specs.declared.Shape.{Shape}
 use Rattle.partition.specs.Partition.{Row, needs, rowsOf, IsBucket}
-use Rattle.store.specs.Pages.{S1024, rowsHeld}
+use Rattle.store.specs.Pages.{rowsHeld}
+use Rattle.store.specs.Accepted.{Accepted}
 
--- a bucket of the store holds the hash x, and its prefix is no shorter than j bits
-pub record Above (h : List ℕ → ℕ) (s : List ℕ) (x j : ℕ) : Type 0 where
+-- a page that is free or a bucket page, and a prefix of no more bits than the largest size has
+pub record Testable (g : List ℕ) (j : ℕ) : Type 0 where
+  pub least : 16 ≤ length g
+  pub rules : (byte g 0 ≡ 0 → ⊥) → BucketPage g
+  pub bits : j ≤ 12
+
+-- what the rows of the prefix of j bits of the hash x need
+abbrev pub needsOf : (List ℕ → ℕ) → List Row → ℕ → ℕ → ℕ
+needsOf h rs x j = needs (rowsOf h rs j (top j x))
+
+-- a bucket of the accepted store holds the hash x, and its prefix is no shorter than j bits
+pub record Above (S : Shape) (h : List ℕ → ℕ) (s : List ℕ) (x j : ℕ) : Type 0 where
+  pub accepted : Accepted S h s
   pub depth : ℕ
-  pub is : IsBucket S1024 h (rowsHeld S1024 s) depth (top depth x)
+  pub is : IsBucket S h (rowsHeld S s) depth (top depth x)
   pub low : j ≤ depth
 
+-- the bucket of k bits of the accepted store holds the hash x, and one row needs that much
+pub record Climbing (S : Shape) (h : List ℕ → ℕ) (s : List ℕ) (x k need : ℕ) : Type 0 where
+  pub accepted : Accepted S h s
+  pub is : IsBucket S h (rowsHeld S s) k (top k x)
+  pub one : need ≤ 76
+
 -- From k bits of x up to j: the rows of the prefix of j bits fit without a row of that need, those of the prefix one bit shorter do not.
-pub record Climbed (h : List ℕ → ℕ) (rows : List Row) (x k need j : ℕ) : Type 0 where
+pub record Climbed (S : Shape) (h : List ℕ → ℕ) (rows : List Row) (x k need j : ℕ) : Type 0 where
   pub most : j ≤ k
-  pub fit : j < k → needs (rowsOf h rows j (top j x)) ≤ 1016 + need
-  pub over : (i : ℕ) → j ≡ suc i → 1016 + need < needs (rowsOf h rows i (top i x))
+  pub fit : j < k → needsOf h rows x j ≤ S .capacity + need
+  pub over : (i : ℕ) → j ≡ suc i → S .capacity + need < needsOf h rows x i

@@ -1,20 +1,17 @@
-// The pages of a prefix, and how far up their rows fit.
+// The pages of a prefix, and how far up their rows fit. Over any page shape.
 ghost use mathlib.Core.Path.{_≡_};
 ghost use Prim.Native.Nat.{_≤_};
-ghost use lib.ListN.{length};
 ghost use Rattle.ground.specs.Says.{Says};
 ghost use Rattle.hash.specs.Fnv.{fnv};
-ghost use Rattle.partition.specs.Bits.{top};
-ghost use Rattle.partition.specs.Partition.{needs, rowsOf, IsBucket};
-ghost use Rattle.store.specs.Pages.{S1024, read, rowsHeld};
-ghost use Rattle.store.specs.Accepted.{Accepted};
+ghost use Rattle.store.specs.Pages.{read, rowsHeld};
+ghost use Rattle.store.specs.Demands.{Sized};
 ghost use Rattle.store.specs.Moves.{within};
-ghost use Rattle.directory.specs.Directory.{SoundPage};
-ghost use Rattle.removal.specs.Prefix.{Above, Climbed};
+ghost use Rattle.removal.specs.Prefix.{Testable, needsOf, Above, Climbing, Climbed};
+use partition::Shape;
 
 // Whether a page is a bucket whose hashes begin with the j bits of v.
 pub fn is_within(page: &[u8], j: u32, v: u64) -> bool
-    requires { ⌜ SoundPage S1024 (now page) × (length (now page) ≡ 1024) × (j ≤ 8) ⌝ }
+    requires { ⌜ Testable (now page) j ⌝ }
     ensures { λ r. ⌜ r ≡ within fnv j v (read (now (page .entry))) ⌝ }
 {
     if page[0] == 0 {
@@ -24,9 +21,9 @@ pub fn is_within(page: &[u8], j: u32, v: u64) -> bool
 }
 
 // Whether the rows of the prefix of j bits of x need at most that much: bucket after bucket of its run of entries, each once.
-fn needs_at_most(s: &[u8], x: u32, j: u32, limit: usize) -> bool
-    requires { ⌜ Accepted S1024 fnv (now s) × Above fnv (now s) x j ⌝ }
-    ensures { λ r. ⌜ Says r (needs (rowsOf fnv (rowsHeld S1024 (now (s .entry))) j (top j x)) ≤ limit) ⌝ }
+fn needs_at_most(s: &[u8], z: Shape, x: u32, j: u32, limit: usize) -> bool
+    requires { ⌜ Sized z × Above z fnv (now s) x j ⌝ }
+    ensures { λ r. ⌜ Says r (needsOf fnv (rowsHeld z (now (s .entry))) x j ≤ limit) ⌝ }
 {
     let d = words::get32(s, 16) as u32;
     let run = partition::run_of(x, j, d);
@@ -34,13 +31,14 @@ fn needs_at_most(s: &[u8], x: u32, j: u32, limit: usize) -> bool
     let mut i = run.from;
     let mut sum = 0;
     while i < to {
-        let p = words::get32(s, 1024 + 4 * i);
+        let size = 8 + z.capacity;
+        let p = words::get32(s, size + 4 * i);
         if p == 0 {
             i += 1;
         } else {
-            let a = p * 1024;
+            let a = p * size;
             let width = query::entries_of(s, a, d);
-            sum += 1016 - words::get16(s, a + 6);
+            sum += z.capacity - words::get16(s, a + 6);
             if limit < sum {
                 return false;
             }
@@ -51,13 +49,13 @@ fn needs_at_most(s: &[u8], x: u32, j: u32, limit: usize) -> bool
 }
 
 // From the k bits of the bucket that holds x up, as long as the rows of the prefix one bit shorter fit without a row of that need.
-pub fn climb(s: &[u8], x: u32, k: u32, need: usize) -> u32
-    requires { ⌜ Accepted S1024 fnv (now s) × IsBucket S1024 fnv (rowsHeld S1024 (now s)) k (top k x) × (need ≤ 76) ⌝ }
-    ensures { λ r. ⌜ Climbed fnv (rowsHeld S1024 (now (s .entry))) x k need r ⌝ }
+pub fn climb(s: &[u8], z: Shape, x: u32, k: u32, need: usize) -> u32
+    requires { ⌜ Sized z × Climbing z fnv (now s) x k need ⌝ }
+    ensures { λ r. ⌜ Climbed z fnv (rowsHeld z (now (s .entry))) x k need r ⌝ }
 {
     let mut j = k;
     while 0 < j {
-        if !needs_at_most(s, x, j - 1, 1016 + need) {
+        if !needs_at_most(s, z, x, j - 1, z.capacity + need) {
             return j;
         }
         j -= 1;

@@ -18,16 +18,16 @@ enum-told-4 : tie.Need-enum-told-4
 enum-told-4 c = search needs
 
 returns : tie.Need-returns
-returns c = record { len = refl; fill = refl; quiet = λ q. absurd (true≢false (q .0)); leaves = λ q. absurd (true≢false (q .0)) }
+returns c = record { len = refl; known = refl; fill = refl; quiet = λ q. absurd (true≢false (q .0)); leaves = λ q. absurd (true≢false (q .0)) }
 
 returns-2 : tie.Need-returns-2
-returns-2 c = record { len = refl; fill = refl; quiet = λ q. absurd (true≢false (q .1)); leaves = λ q. absurd (true≢false (q .1)) }
+returns-2 c = record { len = refl; known = refl; fill = refl; quiet = λ q. absurd (true≢false (q .1)); leaves = λ q. absurd (true≢false (q .1)) }
 
 returns-3 : tie.Need-returns-3
-returns-3 c = record { len = refl; fill = refl; quiet = λ q. q; leaves = λ q. rw (c .enum-told3 .given .1) tt }
+returns-3 c = record { len = refl; known = refl; fill = refl; quiet = λ q. q; leaves = λ q. rw (c .enum-told3 .given .1) tt }
 
 returns-4 : tie.Need-returns-4
-returns-4 c = record { len = refl; fill = refl; quiet = λ q. q; leaves = λ q. rw (c .enum-told4 .given .1) tt }
+returns-4 c = record { len = refl; known = refl; fill = refl; quiet = λ q. q; leaves = λ q. rw (c .enum-told4 .given .1) tt }
 
 pub after-spec : {M : Type 1} → statement M
 after-spec =

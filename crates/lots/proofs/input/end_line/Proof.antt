@@ -1,8 +1,7 @@
 -- `lots::end_line` meets its contract. Assumes nothing.
 use mathlib.Core.Path.{refl, _∙_}
-use native.Mathlib.Omega.{arith}
 use borrow.Author.Needs.{needs}
-use Rattle.lots.proofs.Leaving.{beside, taken-in, then}
+use Rattle.lots.proofs.Leaving.{beside, holds-as, taken-in, then}
 use Rattle.lots.proofs.input.end_line.Statement.{statement}
 use Rattle.lots.proofs.input.end_line.Tie as tie
 
@@ -28,7 +27,8 @@ returns : tie.Need-returns
 returns c =
     let a = c .after .ensures in
     let n = c .before .before .before .before .next-line .ensures in
-    (then (beside (n .0) (n .1) (n .2) (search needs)) (taken-in a (λ l. refl) (omega (arith, n .0))), a .fill ∙ n .3)
+    let h = c .before .before .before .before .before .before .before .pre .0 in
+    (then (beside (n .0) (n .1) (n .2) (n .3) h) (taken-in a (λ l. refl) (holds-as (n .0) (n .1) h)), a .fill ∙ n .4)
 
 sub-turn : tie.Need-sub-turn
 sub-turn c = search needs
@@ -40,7 +40,7 @@ part-turn-end : tie.Need-part-turn-end
 part-turn-end c = search needs
 
 turn-requires : tie.Need-turn-requires
-turn-requires c κs = search needs
+turn-requires c κs = let n = c .before .before .before .next-line .ensures in holds-as (n .0) (n .1) (c .before .before .before .before .before .before .pre .0)
 
 same-length : tie.Need-same-length
 same-length c = search needs
@@ -49,7 +49,7 @@ returns-2 : tie.Need-returns-2
 returns-2 c =
     let t = c .before .before .turn .ensures in
     let n = c .before .before .before .before .before .before .next-line .ensures in
-    (then (beside (n .0) (n .1) (n .2) (search needs)) (t .0), t .1 ∙ n .3)
+    (then (beside (n .0) (n .1) (n .2) (n .3) (search needs)) (t .0), t .1 ∙ n .4)
 
 pub end-line-spec : {M : Type 1} → statement M
 end-line-spec =

@@ -1,11 +1,17 @@
 -- `lots::format` meets its contract. Assumes nothing.
 use Prim.Native.Nat.{_-_}
-use mathlib.Core.Path.{subst}
+use mathlib.Core.Path.{_≡_, sym, subst, _∙_}
+use mathlib.Core.Bool.{true}
 use borrow.Author.Needs.{needs}
-use Rattle.store.specs.Tables.{meaning}
+use denote.Ref.{now}
+use Rattle.hash.specs.Fnv.{fnv}
 use Rattle.store.specs.Demands as Demands
-use Rattle.lots.specs.Sessions.{Leaves, Quiet}
-use Rattle.lots.proofs.Leaving.{told-leaves, part-back, taken-in}
+use Rattle.store.specs.Demands.{ok}
+use Rattle.store.specs.Pages.{S1024}
+use Rattle.store.specs.Tables.{meaning}
+use Rattle.store.proofs.Demands.Kept.{refusal-keeps}
+use Rattle.lots.specs.Sessions.{Holds, Quiet}
+use Rattle.lots.proofs.Leaving.{done-loud, formatted-still, part-back, still-front, taken-in}
 use Rattle.lots.proofs.input.format.Statement.{statement}
 use Rattle.lots.proofs.input.format.Tie as tie
 
@@ -30,8 +36,8 @@ wrote-requires c κs = search needs
 after-requires : tie.Need-after-requires
 after-requires c κs = search needs
 
-enum-told : tie.Need-enum-told
-enum-told c = search needs
+is-done-requires : tie.Need-is-done-requires
+is-done-requires c κs = search needs
 
 same-length : tie.Need-same-length
 same-length c = search needs
@@ -39,18 +45,30 @@ same-length c = search needs
 returns : tie.Need-returns
 returns c =
     let a = c .before .before .after .ensures in
-    let no : Quiet (c .before .before .after .result) → ⊥ = λ q. subst Leaves (c .enum-told .given .1) (a .leaves q) in
-    (record { quiet = λ q. absurd (no q); same = λ q. absurd (no q); long = λ q. absurd (no q); within = search needs }, a .fill)
+    let f = c .before .before .before .before .before .before .format in
+    let n = c .before .before .before .before .before .before .before .before .length-of in
+    let d : ok (meaning (f .result)) ≡ true = sym (c .before .is-done .ensures) ∙ c .if1 .taken in
+    let no : Quiet (c .before .before .after .result) → ⊥ = λ q. done-loud (meaning (f .result)) (c .before .before .before .wrote .result) (c .before .before .before .wrote .ensures) (a .leaves q) d in (
+      record {
+        quiet = λ q. absurd (no q);
+        same = λ q. absurd (no q);
+        long = λ q. absurd (no q);
+        holds = record { within = search needs; known = λ _. still-front _ _ (n .result) (n .ensures) (formatted-still _ (meaning (f .result)) _ (f .ensures) d) };
+      },
+      a .fill,
+    )
 
 same-length-2 : tie.Need-same-length-2
 same-length-2 c = search needs
 
 returns-2 : tie.Need-returns-2
 returns-2 c =
-    let a = c .before .after .ensures in
-    let w = c .before .before in
-    let f = w .before .before .before .format in
-    (taken-in a (λ l. part-back _ _ 0 (w .before .before .before .before .before .length-of .result - 0) (told-leaves Demands.format _ (meaning (f .result)) (w .wrote .result) _ (f .ensures) (w .wrote .ensures) l)) (search needs), a .fill)
+    let a = c .before .before .after .ensures in
+    let f = c .before .before .before .before .before .before .format in
+    let start = c .before .before .before .before .before .before .before .before .before .before in
+    let e = part-back (now (start .args .store)) (f .last .0) 0 (c .before .before .before .before .before .before .before .before .length-of .result - 0)
+    (refusal-keeps S1024 fnv Demands.format _ (meaning (f .result)) _ (f .ensures) (sym (c .before .is-done .ensures) ∙ c .if1 .left)) in
+    (taken-in a (λ l. e) (subst (Holds (start .args .z)) (sym e) (start .pre)), a .fill)
 
 pub format-spec : {M : Type 1} → statement M
 format-spec =
@@ -63,7 +81,7 @@ format-spec =
     format-requires
     wrote-requires
     after-requires
-    enum-told
+    is-done-requires
     same-length
     returns
     same-length-2

@@ -21,7 +21,7 @@ fail-requires : tie.Need-fail-requires
 fail-requires c κs = search needs
 
 returns : tie.Need-returns
-returns c = (record { quiet = λ q. absurd (true≢false (q .1)); same = λ q. refl; long = λ q. refl; within = search needs }, search needs)
+returns c = (record { quiet = λ q. absurd (true≢false (q .1)); same = λ q. refl; long = λ q. refl; holds = search needs }, search needs)
 
 returns-2 : tie.Need-returns-2
 returns-2 c = search needs

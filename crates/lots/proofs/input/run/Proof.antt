@@ -1,11 +1,23 @@
 -- `lots::run` meets its contract. Assumes nothing.
 use borrow.Author.Needs.{needs}
-use Rattle.lots.proofs.Leaving.{ran, then}
+use Rattle.lots.proofs.Leaving.{begun, ran, then}
 use Rattle.lots.proofs.input.run.Statement.{statement}
 use Rattle.lots.proofs.input.run.Tie as tie
 
 buffer-requires : tie.Need-buffer-requires
 buffer-requires c κs = search needs
+
+sub-is-accepted : tie.Need-sub-is-accepted
+sub-is-accepted c = search needs
+
+part-is-accepted-start : tie.Need-part-is-accepted-start
+part-is-accepted-start c = search needs
+
+part-is-accepted-end : tie.Need-part-is-accepted-end
+part-is-accepted-end c = search needs
+
+is-accepted-requires : tie.Need-is-accepted-requires
+is-accepted-requires c κs = search needs
 
 begin-requires : tie.Need-begin-requires
 begin-requires c κs = search needs
@@ -14,7 +26,10 @@ slice-aggregate-read-all : tie.Need-slice-aggregate-read-all
 slice-aggregate-read-all c = search needs
 
 read-all-requires : tie.Need-read-all-requires
-read-all-requires c κs = search needs
+read-all-requires c κs =
+    let b = c .before .begin .ensures in
+    let k = c .before .before .before .is-accepted in
+    (begun (c .before .before .before .before .before .before .before .before .args .len) (k .result) (b .0) (b .2) (k .ensures) (c .before .before .before .before .before .before .before .before .pre), search needs)
 
 same-length : tie.Need-same-length
 same-length c = search needs
@@ -45,6 +60,10 @@ run-spec =
     tie.close
     (tie.spec
     buffer-requires
+    sub-is-accepted
+    part-is-accepted-start
+    part-is-accepted-end
+    is-accepted-requires
     begin-requires
     slice-aggregate-read-all
     read-all-requires

@@ -29,7 +29,7 @@ same-length-3 : tie.Need-same-length-3
 same-length-3 c = search needs
 
 returns-2 : tie.Need-returns-2
-returns-2 c = (beside refl refl refl (search needs), simp length-set (omega arith))
+returns-2 c = (beside refl refl refl refl (search needs), simp length-set (omega arith))
 
 returns-3 : tie.Need-returns-3
 returns-3 c = search needs

@@ -3,7 +3,7 @@ use Prim.Native.Nat.{_-_}
 use mathlib.Core.Path.{subst, sym, refl}
 use borrow.Author.Needs.{needs}
 use Rattle.lots.specs.Sessions.{Leaves}
-use Rattle.lots.proofs.Leaving.{leaves, part-back, taken-in, then}
+use Rattle.lots.proofs.Leaving.{leaves, lent-known, part-back, still-holds, taken-in, then}
 use Rattle.lots.proofs.input.turn.Statement.{statement}
 use Rattle.lots.proofs.input.turn.Tie as tie
 
@@ -17,13 +17,13 @@ part-obey-end : tie.Need-part-obey-end
 part-obey-end c = search needs
 
 obey-requires : tie.Need-obey-requires
-obey-requires c κs = search needs
+obey-requires c κs = lent-known (c .before .before .before .pre)
 
 enum-known-o : tie.Need-enum-known-o
 enum-known-o c = search needs
 
 format-requires : tie.Need-format-requires
-format-requires c κs = search needs
+format-requires c κs = still-holds (c .before .before .before .before .before .before .before .before .before .before .pre) (c .before .before .before .before .before .before .obey .ensures) (search needs)
 
 same-length : tie.Need-same-length
 same-length c = search needs
@@ -34,7 +34,7 @@ returns c =
     let g = c .before .before .before .before .before .before in
     let o = c .before .before .before .before .before .o .given in
     let b = g .before .before .before .obey .ensures in
-    (then (record { quiet = λ q. q; same = λ q. part-back _ _ 0 (g .before .before .before .before .before .before .before .args .z .len - 0) (leaves b (subst Leaves (sym (o .1)) tt)); long = λ q. refl; within = search needs }) (f .0), f .1)
+    (then (record { quiet = λ q. q; same = λ q. part-back _ _ 0 (g .before .before .before .before .before .before .before .args .z .len - 0) (leaves b (subst Leaves (sym (o .1)) tt)); long = λ q. refl; holds = still-holds (c .before .before .before .before .before .before .before .before .before .before .before .before .before .pre) b (search needs) }) (f .0), f .1)
 
 after-requires : tie.Need-after-requires
 after-requires c κs = search needs
@@ -46,7 +46,7 @@ returns-2 : tie.Need-returns-2
 returns-2 c =
     let a = c .after .ensures in
     let b = c .before .before .before .before .obey .ensures in
-    (taken-in a (λ l. part-back _ _ 0 (c .before .before .before .before .before .before .before .before .args .z .len - 0) (leaves b l)) (search needs), a .fill)
+    (taken-in a (λ l. part-back _ _ 0 (c .before .before .before .before .before .before .before .before .args .z .len - 0) (leaves b l)) (still-holds (c .before .before .before .before .before .before .before .before .pre) b (search needs)), a .fill)
 
 pub turn-spec : {M : Type 1} → statement M
 turn-spec =

@@ -4,14 +4,14 @@ use Rattle.lots.proofs.Leaving.{counted-accepted}
 use Rattle.lots.proofs.obey.list.Statement.{statement}
 use Rattle.lots.proofs.obey.list.Tie as tie
 
-count-requires : tie.Need-count-requires
-count-requires c κs = search needs
+count-known-requires : tie.Need-count-known-requires
+count-known-requires c κs = search needs
 
 enum-known-a : tie.Need-enum-known-a
 enum-known-a c = search needs
 
 list-rows-requires : tie.Need-list-rows-requires
-list-rows-requires c κs = let g = c .before .a .given in counted-accepted _ (g .0 .0) (rw (g .1) at (c .before .before .before .count .ensures))
+list-rows-requires c κs = let g = c .before .a .given in counted-accepted _ (g .0 .0) (rw (g .1) at (c .before .before .before .count-known .ensures))
 
 returns : tie.Need-returns
 returns c = search needs
@@ -25,4 +25,4 @@ returns-2 c = search needs
 pub list-spec : {M : Type 1} → statement M
 list-spec =
     tie.close
-    (tie.spec count-requires enum-known-a list-rows-requires returns told-requires returns-2)
+    (tie.spec count-known-requires enum-known-a list-rows-requires returns told-requires returns-2)

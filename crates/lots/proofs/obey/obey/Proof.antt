@@ -53,17 +53,17 @@ enum-known-c c = search needs
 enum-known-c-2 : tie.Need-enum-known-c-2
 enum-known-c-2 c = search needs
 
-sub-put : tie.Need-sub-put
-sub-put c = search needs
+sub-put-known : tie.Need-sub-put-known
+sub-put-known c = search needs
 
-part-put-start : tie.Need-part-put-start
-part-put-start c = search needs
+part-put-known-start : tie.Need-part-put-known-start
+part-put-known-start c = search needs
 
-part-put-end : tie.Need-part-put-end
-part-put-end c = omega (arith, read (c .before .before .before .before .before) _ (c .before .before .before .c2 .given .1) .line .says .coded .within)
+part-put-known-end : tie.Need-part-put-known-end
+part-put-known-end c = omega (arith, read (c .before .before .before .before .before) _ (c .before .before .before .c2 .given .1) .line .says .coded .within)
 
-put-requires : tie.Need-put-requires
-put-requires c κs = search needs
+put-known-requires : tie.Need-put-known-requires
+put-known-requires c κs = search needs
 
 wrote-requires : tie.Need-wrote-requires
 wrote-requires c κs = search needs
@@ -71,17 +71,17 @@ wrote-requires c κs = search needs
 enum-known-c-3 : tie.Need-enum-known-c-3
 enum-known-c-3 c = search needs
 
-sub-lookup : tie.Need-sub-lookup
-sub-lookup c = search needs
+sub-lookup-known : tie.Need-sub-lookup-known
+sub-lookup-known c = search needs
 
-part-lookup-start : tie.Need-part-lookup-start
-part-lookup-start c = search needs
+part-lookup-known-start : tie.Need-part-lookup-known-start
+part-lookup-known-start c = search needs
 
-part-lookup-end : tie.Need-part-lookup-end
-part-lookup-end c = omega (arith, read (c .before .before .before .before .before) _ (c .before .before .before .c3 .given .1) .says .within)
+part-lookup-known-end : tie.Need-part-lookup-known-end
+part-lookup-known-end c = omega (arith, read (c .before .before .before .before .before) _ (c .before .before .before .c3 .given .1) .says .within)
 
-lookup-requires : tie.Need-lookup-requires
-lookup-requires c κs = search needs
+lookup-known-requires : tie.Need-lookup-known-requires
+lookup-known-requires c κs = search needs
 
 told-requires : tie.Need-told-requires
 told-requires c κs = search needs
@@ -89,17 +89,17 @@ told-requires c κs = search needs
 enum-known-c-4 : tie.Need-enum-known-c-4
 enum-known-c-4 c = search needs
 
-sub-remove : tie.Need-sub-remove
-sub-remove c = search needs
+sub-remove-known : tie.Need-sub-remove-known
+sub-remove-known c = search needs
 
-part-remove-start : tie.Need-part-remove-start
-part-remove-start c = search needs
+part-remove-known-start : tie.Need-part-remove-known-start
+part-remove-known-start c = search needs
 
-part-remove-end : tie.Need-part-remove-end
-part-remove-end c = omega (arith, read (c .before .before .before .before .before) _ (c .before .before .before .c4 .given .1) .says .within)
+part-remove-known-end : tie.Need-part-remove-known-end
+part-remove-known-end c = omega (arith, read (c .before .before .before .before .before) _ (c .before .before .before .c4 .given .1) .says .within)
 
-remove-requires : tie.Need-remove-requires
-remove-requires c κs = search needs
+remove-known-requires : tie.Need-remove-known-requires
+remove-known-requires c κs = search needs
 
 wrote-requires-2 : tie.Need-wrote-requires-2
 wrote-requires-2 c κs = search needs
@@ -107,8 +107,8 @@ wrote-requires-2 c κs = search needs
 enum-told-3 : tie.Need-enum-told-3
 enum-told-3 c = search needs
 
-count-requires : tie.Need-count-requires
-count-requires c κs = search needs
+count-known-requires : tie.Need-count-known-requires
+count-known-requires c κs = search needs
 
 told-requires-2 : tie.Need-told-requires-2
 told-requires-2 c κs = search needs
@@ -128,8 +128,8 @@ list-requires c κs = search needs
 enum-told-5 : tie.Need-enum-told-5
 enum-told-5 c = search needs
 
-check-requires : tie.Need-check-requires
-check-requires c κs = search needs
+check-known-requires : tie.Need-check-known-requires
+check-known-requires c κs = search needs
 
 told-requires-3 : tie.Need-told-requires-3
 told-requires-3 c κs = search needs
@@ -153,7 +153,7 @@ same-length : tie.Need-same-length
 same-length c = search needs
 
 returns-4 : tie.Need-returns-4
-returns-4 c = done (c .before .before .before .before .before .before .before .before .before .before) _ (c .before .before .before .before .before .before .before .before .c2 .given .1) (record { answer = meaning (c .before .before .before .put .result); made = simp sub-zero at (c .before .before .before .put .ensures); told = c .wrote .ensures })
+returns-4 c = done (c .before .before .before .before .before .before .before .before .before .before) _ (c .before .before .before .before .before .before .before .before .c2 .given .1) (record { answer = meaning (c .before .before .before .put-known .result); made = simp sub-zero at (c .before .before .before .put-known .ensures); told = c .wrote .ensures })
 
 same-length-2 : tie.Need-same-length-2
 same-length-2 c = search needs
@@ -165,7 +165,7 @@ same-length-3 : tie.Need-same-length-3
 same-length-3 c = search needs
 
 returns-6 : tie.Need-returns-6
-returns-6 c = done (c .before .before .before .before .before .before .before .before .before .before) _ (c .before .before .before .before .before .before .before .before .c4 .given .1) (record { answer = meaning (c .before .before .before .remove .result); made = simp sub-zero at (c .before .before .before .remove .ensures); told = c .wrote2 .ensures })
+returns-6 c = done (c .before .before .before .before .before .before .before .before .before .before) _ (c .before .before .before .before .before .before .before .before .c4 .given .1) (record { answer = meaning (c .before .before .before .remove-known .result); made = simp sub-zero at (c .before .before .before .remove-known .ensures); told = c .wrote2 .ensures })
 
 same-length-4 : tie.Need-same-length-4
 same-length-4 c = search needs
@@ -209,32 +209,32 @@ obey-spec =
     unknown-requires
     enum-known-c
     enum-known-c-2
-    sub-put
-    part-put-start
-    part-put-end
-    put-requires
+    sub-put-known
+    part-put-known-start
+    part-put-known-end
+    put-known-requires
     wrote-requires
     enum-known-c-3
-    sub-lookup
-    part-lookup-start
-    part-lookup-end
-    lookup-requires
+    sub-lookup-known
+    part-lookup-known-start
+    part-lookup-known-end
+    lookup-known-requires
     told-requires
     enum-known-c-4
-    sub-remove
-    part-remove-start
-    part-remove-end
-    remove-requires
+    sub-remove-known
+    part-remove-known-start
+    part-remove-known-end
+    remove-known-requires
     wrote-requires-2
     enum-told-3
-    count-requires
+    count-known-requires
     told-requires-2
     enum-known-c-5
     row-requires
     enum-told-4
     list-requires
     enum-told-5
-    check-requires
+    check-known-requires
     told-requires-3
     enum-known-c-6
     inspect-requires

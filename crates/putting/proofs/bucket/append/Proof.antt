@@ -14,9 +14,8 @@ insert-at-frontier-requires : tie.Need-insert-at-frontier-requires
 insert-at-frontier-requires c κs =
     let z = c .before .before .before .before .before .before in
     let a = z .args in
-    let p = z .pre in
     subst (λ n. Insertable (now (a .page)) n (now (a .key)) (now (a .place))) (sym (c .before .get16 .ensures .0))
-    (ready (now (a .page)) (now (a .key)) (now (a .place)) (p .0) (p .1) (p .2))
+    (ready (now (a .page)) (now (a .key)) (now (a .place)) (z .pre))
 
 same-length : tie.Need-same-length
 same-length c = search needs
@@ -27,7 +26,7 @@ returns c =
     let g = c .before .before .before .before in
     let z = g .before .before .before .before .before in
     let a = z .args in
-    done (now (a .page)) (now (a .key)) (now (a .place)) (z .pre .0) (w .last .0)
+    done (now (a .page)) (now (a .key)) (now (a .place)) (z .pre) (w .last .0)
     (subst (λ n. Inserted (now (a .page)) n (now (a .key)) (now (a .place)) (w .last .0)) (g .get16 .ensures .0) (w .ensures))
 
 pub append-spec : {M : Type 1} → statement M

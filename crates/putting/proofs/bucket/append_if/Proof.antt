@@ -1,5 +1,6 @@
 -- `putting::append_if` meets its contract. Assumes nothing.
 use Rattle.putting.proofs.Appends.{appended-none, rows-yes, rows-no}
+use Rattle.putting.specs.Put.{newRow}
 use Rattle.putting.specs.Split.{Behind, Appended}
 use Rattle.partition.specs.Partition.{Row, rowsOf}
 use Rattle.partition.specs.Bits.{top}
@@ -20,22 +21,22 @@ module _ (b : tie.After-top-bits) where
   page = now (z .args .page)
 
   abbrev row : Row
-  row = record { code = now (z .args .key); place = now (z .args .place) }
+  row = newRow (now (z .args .key)) (now (z .args .place))
 
   on : top (z .args .k) (fnv (now (z .args .key))) ≡ b .top-bits .result
-  on = sym (b .top-bits .ensures ∙ ap (top (z .args .k)) (z .pre .1))
+  on = sym (b .top-bits .ensures ∙ ap (top (z .args .k)) (z .pre .hash))
 
   held : b .top-bits .result ≡ z .args .v → rowsOf fnv (row ∷ []) (z .args .k) (z .args .v) ≡ row ∷ []
   held e = rows-yes fnv row (z .args .k) (z .args .v) (on ∙ e)
 
 top-bits-requires : tie.Need-top-bits-requires
-top-bits-requires c κs = search needs
+top-bits-requires c κs = c .before .before .before .pre .deep
 
 append-requires : tie.Need-append-requires
 append-requires c κs =
     let b = c .before .before in
     let p = z b .pre in
-    (subst (Behind (page b)) (held b (c .before .if1 .taken)) (p .0), p .3, p .4)
+    record { behind = subst (Behind (page b)) (held b (c .before .if1 .taken)) (p .behind); natural = p .natural; good = p .good }
 
 same-length : tie.Need-same-length
 same-length c = search needs
@@ -50,7 +51,7 @@ returns c =
 returns-2 : tie.Need-returns-2
 returns-2 c =
     let b = c .before in
-    let B = z b .pre .0 in
+    let B = z b .pre .behind in
     subst (λ l. Appended (page b) l (page b)) (sym (rows-no fnv (row b) (z b .args .k) (z b .args .v) (λ e. c .if1 .left (sym (on b) ∙ e)))) (appended-none (page b) (B .page) (B .packed))
 
 pub append-if-spec : {M : Type 1} → statement M

@@ -30,13 +30,13 @@ module _ (b : tie.After-top-bits) where
   row = asRow (rowAt from (z .args .i))
 
   on : top (z .args .k) (fnv (code from (z .args .i))) ≡ b .top-bits .result
-  on = sym (b .top-bits .ensures ∙ ap (top (z .args .k)) (z .pre .2))
+  on = sym (b .top-bits .ensures ∙ ap (top (z .args .k)) (z .pre .hash))
 
   held : b .top-bits .result ≡ z .args .v → rowsOf fnv (row ∷ []) (z .args .k) (z .args .v) ≡ row ∷ []
   held e = rows-yes fnv row (z .args .k) (z .args .v) (on ∙ e)
 
 top-bits-requires : tie.Need-top-bits-requires
-top-bits-requires c κs = search needs
+top-bits-requires c κs = c .before .before .pre .deep
 
 code-at-requires : tie.Need-code-at-requires
 code-at-requires c κs = search needs
@@ -49,7 +49,11 @@ append-requires c κs =
     let b = c .before .before .before .before in
     let i = z b .args .i in
     let p = z b .pre in
-    rw (c .before .code-at .ensures, c .place-at .ensures) (subst (Behind (page b)) (held b (c .before .before .before .if1 .taken)) (p .4), p .0 .places i (p .1), slot-code (from b) i (p .0) (p .1))
+    rw (c .before .code-at .ensures, c .place-at .ensures) (record {
+      behind = subst (Behind (page b)) (held b (c .before .before .before .if1 .taken)) (p .behind);
+      natural = p .page .places i (p .slot);
+      good = slot-code (from b) i (p .page) (p .slot);
+    })
 
 same-length : tie.Need-same-length
 same-length c = search needs
@@ -64,7 +68,7 @@ returns c =
 returns-2 : tie.Need-returns-2
 returns-2 c =
     let b = c .before in
-    let B = z b .pre .4 in
+    let B = z b .pre .behind in
     subst (λ l. Appended (page b) l (page b)) (sym (rows-no fnv (row b) (z b .args .k) (z b .args .v) (λ e. c .if1 .left (sym (on b) ∙ e)))) (appended-none (page b) (B .page) (B .packed))
 
 pub append-slot-spec : {M : Type 1} → statement M

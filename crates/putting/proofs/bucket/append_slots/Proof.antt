@@ -35,7 +35,7 @@ module _ (l : tie.At-loop Inv-loop μ-loop) where
   rest = rowsOf fnv (slots from (l .loop .i + 1) (z .args .b)) (z .args .k) (z .args .v)
 
   there : l .loop .i < z .args .b → l .loop .i < count from
-  there t = omega (arith, z .pre .3)
+  there t = omega (arith, z .pre .to)
 
   apart : l .loop .i < z .args .b → Behind (l .loop .page) (one ++ rest)
   apart t = subst (Behind (l .loop .page)) (slots-apart from fnv (l .loop .i) (z .args .b) (z .args .k) (z .args .v) t (there t)) (l .loop .inv .4)
@@ -44,26 +44,32 @@ loop-holds : tie.Need-loop-holds Inv-loop μ-loop
 unfolding rowsOf
 loop-holds c =
     let z = c .before .before .before in
-    let B = z .pre .5 in
+    let B = z .pre .behind in
     let p = now (z .args .page) in
-    (omega arith, z .pre .2, refl, subst (λ l. Appended p (rowsOf fnv l (z .args .k) (z .args .v)) p) (sym (slots-none (now (z .args .from)) (z .args .a))) (appended-none p (B .page) (B .packed)), B)
+    (omega arith, z .pre .from, refl, subst (λ l. Appended p (rowsOf fnv l (z .args .k) (z .args .v)) p) (sym (slots-none (now (z .args .from)) (z .args .a))) (appended-none p (B .page) (B .packed)), B)
 
 mul-append-slot : tie.Need-mul-append-slot Inv-loop μ-loop
 mul-append-slot c =
     let l = c .before .before in
-    let S = z l .pre .0 in
+    let S = z l .pre .page in
     omega (arith, there l (c .before .loop-test .taken), S .room, S .most)
 
 shared-slice-read-append-slot : tie.Need-shared-slice-read-append-slot Inv-loop μ-loop
 shared-slice-read-append-slot c =
     let l = c .before .before .before in
-    omega (arith, there l (c .before .before .loop-test .taken), z l .pre .1 .long)
+    omega (arith, there l (c .before .before .loop-test .taken), z l .pre .hashes .long)
 
 append-slot-requires : tie.Need-append-slot-requires Inv-loop μ-loop
 append-slot-requires c κs =
     let l = c .before .before .before in
     let t = c .before .before .loop-test .taken in
-    (z l .pre .0, there l t, z l .pre .1 .at (l .loop .i) (there l t), z l .pre .4, behind-left (l .loop .page) (one l) (rest l) (apart l t))
+    record {
+      behind = behind-left (l .loop .page) (one l) (rest l) (apart l t);
+      page = z l .pre .page;
+      slot = there l t;
+      hash = z l .pre .hashes .at (l .loop .i) (there l t);
+      deep = z l .pre .deep;
+    }
 
 add-i : tie.Need-add-i Inv-loop μ-loop
 add-i c = omega arith

@@ -1,5 +1,6 @@
 -- `putting::write_bucket` meets its contract: the rows before the new one, the new one, and those behind it. Assumes nothing.
 use Rattle.putting.proofs.Appends.{behind-left, behind-next, appended-then, fresh-behind, bucketed}
+use Rattle.putting.specs.Put.{newRow}
 use Rattle.putting.specs.Split.{slots, Behind, Appended}
 use Rattle.partition.specs.Partition.{Row, rowsOf}
 use Rattle.page.specs.Page.{count}
@@ -29,14 +30,14 @@ module _ (b : tie.After-new-page) where
   first = rowsOf fnv (slots from 0 (z .args .i)) (z .args .k) (z .args .v)
 
   abbrev mid : List Row
-  mid = rowsOf fnv (record { code = now (z .args .key); place = now (z .args .place) } ∷ []) (z .args .k) (z .args .v)
+  mid = rowsOf fnv (newRow (now (z .args .key)) (now (z .args .place)) ∷ []) (z .args .k) (z .args .v)
 
   abbrev last : List Row
   last = rowsOf fnv (slots from (z .args .i) (count from)) (z .args .k) (z .args .v)
 
   behind-all : Behind x (first ++ (mid ++ last))
   behind-all =
-      fresh-behind fnv from (z .args .i) (now (z .args .key)) (now (z .args .place)) (z .pre .0) (z .args .k) (z .args .v) (now (z .args .page)) x (b .new-page .ensures) (z .pre .2) (z .pre .5)
+      fresh-behind fnv from (z .args .i) (now (z .args .key)) (now (z .args .place)) (z .pre .source) (z .args .k) (z .args .v) (now (z .args .page)) x (b .new-page .ensures) (z .pre .fits)
 
 -- with the rows before the new one
 module _ (d : tie.After-append-slots) where
@@ -64,7 +65,7 @@ get16-requires : tie.Need-get16-requires
 get16-requires c κs = search needs
 
 cast-new-page : tie.Need-cast-new-page
-cast-new-page c = search needs
+cast-new-page c = omega (arith, c .before .before .before .before .before .before .before .pre .deep)
 
 new-page-requires : tie.Need-new-page-requires
 new-page-requires c κs = search needs
@@ -73,41 +74,49 @@ append-slots-requires : tie.Need-append-slots-requires
 append-slots-requires c κs =
     let b = c .before .before .before in
     let p = z b .pre in
-    (p .0 .page, p .1 .rows, omega arith, p .0 .belongs .within, p .3, behind-left (x b) (first b) (mid b ++ last b) (behind-all b))
+    record {
+      behind = behind-left (x b) (first b) (mid b ++ last b) (behind-all b);
+      page = p .source .page;
+      hashes = p .hashes .rows;
+      from = omega arith;
+      to = p .source .belongs .within;
+      deep = p .deep;
+    }
 
 -- the new row's hash
 mul-append-if : tie.Need-mul-append-if
 mul-append-if c =
     let b = b1 (c .before .before .before) in
-    let S = z b .pre .0 .page in
+    let S = z b .pre .source .page in
     omega (arith, b .before .before .get16 .ensures .0, S .room, S .most)
 
 shared-slice-read-append-if : tie.Need-shared-slice-read-append-if
 shared-slice-read-append-if c =
     let b = b1 (c .before .before .before .before) in
-    omega (arith, b .before .before .get16 .ensures .0, z b .pre .1 .rows .long)
+    omega (arith, b .before .before .get16 .ensures .0, z b .pre .hashes .rows .long)
 
 append-if-requires : tie.Need-append-if-requires
 append-if-requires c κs =
     let d = c .before .before .before .before in
     let b = d .before .before .before .before in
     let p = z b .pre in
-    let x = ap (λ n. getD (now (z b .args .hs)) n 0) (b .before .before .get16 .ensures .0) ∙ p .1 .new in
-    (behind-left (y1 d) (mid b) (last b) (behind-mid d), x, p .3, p .0 .natural, p .0 .good)
+    let x = ap (λ n. getD (now (z b .args .hs)) n 0) (b .before .before .get16 .ensures .0) ∙ p .hashes .new in
+    record { behind = behind-left (y1 d) (mid b) (last b) (behind-mid d); hash = x; deep = p .deep; natural = p .source .natural; good = p .source .good }
 
 append-slots-requires-2 : tie.Need-append-slots-requires-2
 append-slots-requires-2 c κs =
     let f = c .before .before .before in
     let b = b1 (d2 f) in
     let p = z b .pre in
-    let e = b .before .before .get16 .ensures .0 in (
-      p .0 .page,
-      p .1 .rows,
-      omega (arith, e, p .0 .belongs .within),
-      omega (arith, e),
-      p .3,
-      subst (λ n. Behind (y2 f) (rowsOf fnv (slots (from b) (z b .args .i) n) (z b .args .k) (z b .args .v))) (sym e) (behind-last f),
-    )
+    let e = b .before .before .get16 .ensures .0 in
+    record {
+      behind = subst (λ n. Behind (y2 f) (rowsOf fnv (slots (from b) (z b .args .i) n) (z b .args .k) (z b .args .v))) (sym e) (behind-last f);
+      page = p .source .page;
+      hashes = p .hashes .rows;
+      from = omega (arith, e, p .source .belongs .within);
+      to = omega (arith, e);
+      deep = p .deep;
+    }
 
 same-length : tie.Need-same-length
 same-length c = search needs
@@ -121,7 +130,7 @@ returns c =
     let p = z b .pre in
     let y = w .last .0 in
     let C : Appended (y2 f) (last b) y = subst (λ n. Appended (y2 f) (rowsOf fnv (slots (from b) (z b .args .i) n) (z b .args .k) (z b .args .v)) y) (b .before .before .get16 .ensures .0) (w .ensures) in
-    bucketed fnv (from b) (z b .args .i) (now (z b .args .key)) (now (z b .args .place)) (p .0) (z b .args .k) (z b .args .v) (now (z b .args .page)) (x b) (b .new-page .ensures) (p .2) (p .5) (p .4) y
+    bucketed fnv (from b) (z b .args .i) (now (z b .args .key)) (now (z b .args .place)) (p .source) (z b .args .k) (z b .args .v) (now (z b .args .page)) (x b) (b .new-page .ensures) (p .fits) (p .some) y
     (appended-then (x b) (first b) (y1 d) (d .append-slots .ensures) (mid b ++ last b) y (appended-then (y1 d) (mid b) (y2 f) (f .append-if .ensures) (last b) y C))
 
 pub write-bucket-spec : {M : Type 1} → statement M

@@ -1,28 +1,38 @@
 -- `putting::new_bucket` meets its contract: refusal 7, else the row alone in the lowest free page, then the directory. Assumes nothing.
 use Rattle.putting.proofs.NewBuckets.{own-unset, unheld-full, wrote, unheld-new}
-use Rattle.directory.proofs.Settles.{settling}
-use Rattle.directory.proofs.OnePage.{lent, back}
-use Rattle.putting.specs.Put.{Unset, Vacant}
+use Rattle.putting.proofs.Puts.{given-back}
+use Rattle.query.proofs.Finds.{long-enough}
+use Rattle.directory.proofs.Settles.{long-pages, settling}
+use Rattle.putting.specs.Put.{Puttable, Unset, Vacant}
 use Rattle.directory.specs.Directory.{Settling}
 use Rattle.store.proofs.Accepted.Rules.{opened}
+use Rattle.store.proofs.Accepted.Unique.{within, page-long}
+use Rattle.store.proofs.Paging.Views.{page-lent}
 use Rattle.store.specs.Moves.{frees}
-use Rattle.store.specs.Demands.{sized-1024}
-use Rattle.store.specs.Pages.{S1024, pages, page, dirDepth, contents, setPage}
+use Rattle.store.specs.Pages.{size, pages, page, dirDepth, contents, setPage}
 use Rattle.page.specs.Packed.{Started}
+use Rattle.partition.proofs.Sizes.{twelve}
+use Rattle.partition.specs.declared.Shape.{Shape}
 use Rattle.partition.specs.Bits.{top}
 use Rattle.hash.specs.Fnv.{fnv, fnv-lt}
 use lib.ListN.{length}
 use denote.Ref.{now}
 use native.Mathlib.Omega.{arith}
-use Prim.Native.Nat.{ℕ, _/_, _≤_, _<_}
+use Prim.Native.Nat.{ℕ, _+_, _*_, _≤_, _<_}
 use mathlib.Core.List.{List}
-use mathlib.Core.Path.{_≡_, sym, subst₂}
+use mathlib.Core.Path.{_≡_, sym, ap, subst₂, _∙_}
 use borrow.Author.Needs.{needs}
 use Rattle.putting.proofs.putting.new_bucket.Statement.{statement}
 use Rattle.putting.proofs.putting.new_bucket.Tie as tie
 
+abbrev S : tie.Start → Shape
+S z = z .args .z
+
 abbrev s : tie.Start → List ℕ
 s z = now (z .args .s)
+
+abbrev x : tie.Start → ℕ
+x z = z .args .x
 
 abbrev key : tie.Start → List ℕ
 key z = now (z .args .key)
@@ -30,38 +40,58 @@ key z = now (z .args .key)
 abbrev place : tie.Start → List ℕ
 place z = now (z .args .place)
 
+abbrev P : (z : tie.Start) → Puttable (S z) fnv (s z) (key z) (place z)
+P z = z .pre .row
+
+long : (z : tie.Start) → 3 * size (S z) ≤ length (s z)
+long z = long-enough (S z) (P z .sized) (s z) (P z .accepted)
+
 abbrev start : tie.After-free-pages → tie.Start
-start l = l .before .before .before .before .before
+start l = l .before .before .before .before .before .before
 
 -- THE ROOM TEST: after it a page is free
 module _ (w : tie.Else1) where
-  some : 0 < frees (contents S1024 (s (start (w .before))))
+  abbrev z1 : tie.Start
+  z1 = start (w .before)
+
+  some : 0 < frees (contents (S z1) (s z1))
   some = omega (arith, w .before .free-pages .ensures .0, w .if1 .left)
+
+-- the lowest free page
+module _ (l : tie.After-lowest-free) where
+  abbrev tested : tie.Else1
+  tested = l .before .before
+
+  abbrev z2 : tie.Start
+  z2 = start (tested .before)
+
+  abbrev p : ℕ
+  p = l .lowest-free .result
+
+  to : p < pages (S z2) (s z2)
+  to = l .lowest-free .ensures .1
+
+  inside : p * size (S z2) + size (S z2) ≤ length (s z2)
+  inside = within (S z2) (s z2) p to
 
 -- the directory's depth
 module _ (g : tie.After-get32) where
   abbrev zg : tie.Start
-  zg = start (g .before .before .before .before .before)
+  zg = z2 (g .before .before)
 
   deep : g .get32 .result ≡ dirDepth (s zg)
   deep = g .get32 .ensures .0
 
-  shallow : g .get32 .result ≤ 8
-  shallow = omega (arith, deep, opened S1024 fnv (s zg) (zg .pre .0 .accepted) .page0 .depth)
+  shallow : g .get32 .result ≤ S zg .deepest
+  shallow = omega (arith, deep, opened (S zg) fnv (s zg) (P zg .accepted) .page0 .depth)
 
 -- the page started
 module _ (b : tie.After-start-page) where
   abbrev lowest-at : tie.After-lowest-free
   lowest-at = b .before .before .before .before .before .before
 
-  abbrev tested : tie.Else1
-  tested = lowest-at .before .before
-
   abbrev zs : tie.Start
-  zs = start (tested .before)
-
-  abbrev p : ℕ
-  p = lowest-at .lowest-free .result
+  zs = z2 lowest-at
 
   abbrev k : ℕ
   k = b .before .before .vacant-depth .result
@@ -69,21 +99,26 @@ module _ (b : tie.After-start-page) where
   abbrev q : List ℕ
   q = b .start-page .last .0
 
-  vacant : Vacant (s zs) (dirDepth (s zs)) (fnv (key zs)) k
-  vacant = subst₂ (λ d x. Vacant (s zs) d x k) (deep (b .before .before .before .before)) (zs .pre .1) (b .before .before .vacant-depth .ensures)
+  vacant : Vacant (S zs) (s zs) (dirDepth (s zs)) (fnv (key zs)) k
+  vacant = subst₂ (λ d x. Vacant (S zs) (s zs) d x k) (deep (b .before .before .before .before)) (zs .pre .hash) (b .before .before .vacant-depth .ensures)
 
-  started : Started (page S1024 (s zs) p) k (key zs) (place zs) q
-  started = rw (lent (s zs) p) at (b .start-page .ensures)
+  started : Started (page (S zs) (s zs) (p lowest-at)) k (key zs) (place zs) q
+  started = rw (page-lent (S zs) (s zs) (p lowest-at)) at (b .start-page .ensures)
 
-  to : p < pages S1024 (s zs)
-  to = lowest-at .lowest-free .ensures .1
+  settles : Settling (S zs) (setPage (S zs) (s zs) (p lowest-at) q) (pages (S zs) (s zs))
+  settles = settling (S zs) (P zs .sized) fnv fnv-lt (s zs) (P zs .accepted) (setPage (S zs) (s zs) (p lowest-at) q)
+      (wrote (S zs) fnv fnv-lt (s zs) (x zs) (key zs) (place zs) (zs .pre) (some (tested lowest-at)) k vacant (p lowest-at) (lowest-at .lowest-free .ensures .0) (to lowest-at) q started)
 
-  settles : Settling S1024 (setPage S1024 (s zs) p q) (length (s zs) / 1024)
-  settles = settling S1024 sized-1024 fnv fnv-lt (s zs) (zs .pre .0 .accepted) (setPage S1024 (s zs) p q)
-      (wrote fnv fnv-lt (s zs) (key zs) (place zs) (zs .pre .0) (zs .pre .2) (some tested) k vacant p (lowest-at .lowest-free .ensures .0) to q started)
+add-size : tie.Need-add-size
+add-size c = omega (arith, long (c .before .before .before .before))
+
+div-n : tie.Need-div-n
+div-n c = omega arith
 
 free-pages-requires : tie.Need-free-pages-requires
-free-pages-requires c κs = search needs
+free-pages-requires c κs =
+    let z = c .before .before .before .before .before in
+    (long-pages (S z) (P z .sized) fnv fnv-lt (s z) (P z .accepted), omega (arith, P z .accepted .long .least))
 
 same-length : tie.Need-same-length
 same-length c = search needs
@@ -91,13 +126,13 @@ same-length c = search needs
 returns : tie.Need-returns
 returns c =
     let z = start (c .before) in
-    unheld-full fnv fnv-lt (s z) (key z) (place z) (z .pre .0) (z .pre .2) (omega (arith, c .before .free-pages .ensures .0, c .if1 .taken))
+    unheld-full (S z) fnv fnv-lt (s z) (x z) (key z) (place z) (z .pre) (omega (arith, c .before .free-pages .ensures .0, c .if1 .taken))
 
 lowest-free-requires : tie.Need-lowest-free-requires
 lowest-free-requires c κs = some (c .before)
 
 get32-requires : tie.Need-get32-requires
-get32-requires c κs = search needs
+get32-requires c κs = let z = z2 (c .before) in omega (arith, long z, P z .sized .least)
 
 cast-d : tie.Need-cast-d
 cast-d c = search needs
@@ -105,14 +140,16 @@ cast-d c = search needs
 vacant-depth-requires : tie.Need-vacant-depth-requires
 vacant-depth-requires c κs =
     let g = c .before in
-    let z = zg g in
-    (omega (arith, z .pre .0 .accepted .long .least), shallow g, subst₂ (λ d x. Unset (s z) d d (top d x)) (sym (deep g)) (sym (z .pre .1)) (own-unset fnv fnv-lt (s z) (key z) (place z) (z .pre .0) (z .pre .2)))
+    let z = zg g in (
+      record { sized = P z .sized; long = omega (arith, long z); deep = shallow g },
+      subst₂ (λ d x. Unset (S z) (s z) d d (top d x)) (sym (deep g)) (sym (z .pre .hash)) (own-unset (S z) fnv fnv-lt (s z) (x z) (key z) (place z) (z .pre)),
+    )
 
 mul-a : tie.Need-mul-a
-mul-a c = search needs
+mul-a c = omega (arith, inside (c .before .before .before .before))
 
 add-e : tie.Need-add-e
-add-e c = search needs
+add-e c = omega (arith, inside (c .before .before .before .before))
 
 sub-start-page : tie.Need-sub-start-page
 sub-start-page c = search needs
@@ -121,16 +158,32 @@ part-start-page-start : tie.Need-part-start-page-start
 part-start-page-start c = search needs
 
 part-start-page-end : tie.Need-part-start-page-end
-part-start-page-end c = search needs
+part-start-page-end c = omega (arith, inside (c .before .before .before .before))
 
 cast-start-page : tie.Need-cast-start-page
-cast-start-page c = omega (arith, c .before .vacant-depth .ensures .low, shallow (c .before .before .before))
+cast-start-page c =
+    let g = c .before .before .before in
+    omega (arith, c .before .vacant-depth .ensures .low, shallow g, twelve (S (zg g)) (P (zg g) .sized))
 
 start-page-requires : tie.Need-start-page-requires
-start-page-requires c κs = search needs
+start-page-requires c κs =
+    let l = c .before .before .before .before .before in
+    let z = z2 l in
+    let n = ap length (page-lent (S z) (s z) (p l)) ∙ page-long (S z) (s z) (p l) (to l) in
+    let Z = P z .sized in
+    record {
+      least = omega (arith, n, Z .least);
+      most = omega (arith, n, Z .most);
+      natural = P z .natural;
+      good = P z .good;
+      room = omega (arith, n, Z .least, P z .good .most);
+    }
 
 settle-requires : tie.Need-settle-requires
-settle-requires c κs = let b = c .before .before .before in (sized-1024, rw (back (s (zs b)) (p b) (q b)) (settles b))
+settle-requires c κs =
+    let b = c .before .before .before in
+    let z = zs b in
+    (P z .sized, rw (given-back (S z) (s z) (p (lowest-at b)) (q b)) (settles b))
 
 same-length-2 : tie.Need-same-length-2
 same-length-2 c = search needs
@@ -139,13 +192,17 @@ returns-2 : tie.Need-returns-2
 returns-2 c =
     let b = c .before .before .before .before .before .before in
     let z = zs b in
-    let D = rw (back (s z) (p b) (q b)) at (c .before .before .settle .ensures) in
-    unheld-new fnv fnv-lt (s z) (key z) (place z) (z .pre .0) (z .pre .2) (some (tested b)) (k b) (vacant b) (p b) (lowest-at b .lowest-free .ensures .0) (to b) (q b) (started b) (c .before .before .settle .last .0) D (λ i. (c .slice-known3 .given i) .fits)
+    let l = lowest-at b in
+    let D = rw (given-back (S z) (s z) (p l) (q b)) at (c .before .before .settle .ensures) in
+    unheld-new (S z) fnv fnv-lt (s z) (x z) (key z) (place z) (z .pre) (some (tested l)) (k b) (vacant b) (p l) (l .lowest-free .ensures .0) (to l) (q b) (started b) (c .before .before .settle .last .0) D
+    (λ i. (c .slice-known3 .given i) .fits)
 
 pub new-bucket-spec : {M : Type 1} → statement M
 new-bucket-spec =
     tie.close
     (tie.spec
+    add-size
+    div-n
     free-pages-requires
     same-length
     returns

@@ -1,20 +1,18 @@
 -- `putting::put` meets its contract: the refusals in order, then the row on an accepted store. Assumes nothing.
 use Rattle.store.proofs.Accepted.Rules.{accepted-whole}
-use Rattle.store.proofs.Demands.Kept.{three, no-three}
+use Rattle.store.proofs.Demands.Kept.{three, no-three, a-mode}
+use Rattle.store.proofs.Demands.Unchecked.{puts}
 use Rattle.words.specs.Codes.{GoodCode}
-use Rattle.store.specs.Tables.{Refusal14, putByMode, putTable, meaning}
+use Rattle.store.specs.Tables.{Refusal14, putTable, meaning}
 use Rattle.store.specs.Accepted.{GoodLength}
 use Rattle.store.specs.Demands.{sized-1024}
 use Rattle.store.specs.Pages.{S1024}
-use Rattle.page.proofs.Stored.{stored-natural}
-use Rattle.page.specs.Places.{Negative, InRange}
-use Rattle.page.specs.Page.{Natural}
+use Rattle.page.specs.Places.{Negative}
 use Rattle.hash.specs.Fnv.{fnv}
 use Rattle.ground.proofs.Tests.{says-true, says-false}
-use Rattle.ground.specs.Ladder.{Answers}
 use denote.Ref.{now}
 use native.Mathlib.Omega.{arith}
-use mathlib.Core.Path.{refl, sym, subst}
+use mathlib.Core.Path.{refl}
 use mathlib.Core.Logic.{inl, inr}
 use borrow.Author.Tests.{not-true, not-false}
 use borrow.Author.Needs.{needs}
@@ -47,10 +45,6 @@ module _ (c : tie.Else3) where
 
   positive : Negative (start .args .place) → ⊥
   positive = says-false {P = Negative (start .args .place)} (c .before .negative .result) (c .if3 .left) (c .before .negative .ensures)
-
-  -- its three numbers are 32, 16 and 16 bits wide
-  ranged : InRange (start .args .place)
-  ranged = let g = start .good .1 .1 .0 .1 .1 in record { page = g .0 .1; slot = g .1 .0 .1; volume = g .1 .1 .0 .1 }
 
 -- past the mode
 moded : (c : tie.Else4) → Refusal14 (start (c .before) .args .mode) → ⊥
@@ -115,56 +109,22 @@ returns-5 c =
       inr ((λ _ r. no-three _ (good (e d)) r), inr ((λ _ n. positive d n), inr ((λ _ l. moded f l), inl (c .before .first-bad .result, (c .before .first-bad .ensures .bad (c .if5 .taken), refl))))),
     )
 
-slice-aggregate-store-place : tie.Need-slice-aggregate-store-place
-slice-aggregate-store-place c = search needs
-
-store-place-requires : tie.Need-store-place-requires
-store-place-requires c κs = (refl, positive (c .before .before .before .before .before))
-
-slice-aggregate-put-row : tie.Need-slice-aggregate-put-row
-slice-aggregate-put-row c = search needs
-
-put-row-requires : tie.Need-put-row-requires
-put-row-requires c κs =
-    let b = c .before .before .before .before .before in
+put-allowed-requires : tie.Need-put-allowed-requires
+put-allowed-requires c κs =
+    let b = c .before in
     let d = b .before .before .before .before in
-    record {
-      accepted = b .before .first-bad .ensures .sound (b .if5 .left);
-      good = good (e d);
-      natural = subst Natural (sym (c .before .before .before .store-place .ensures)) (stored-natural (start d .args .place) (positive d) (ranged d));
-    }
+    record { accepted = b .before .first-bad .ensures .sound (b .if5 .left); good = good (e d); natural = positive d }
 
 same-length-6 : tie.Need-same-length-6
 same-length-6 c = search needs
 
 returns-6 : tie.Need-returns-6
-unfolding putTable
 returns-6 c =
-    let y = c .before .before .before .before .before .before in
-    let b = y .before .before in
-    let f = b .before .before .before in
-    let d = f .before in
-    let a = b .before .first-bad .ensures .sound (b .if5 .left) in
-    let w = c .before .before .put-row in
-    inr (
-      (λ _ n. n (long (first (e d)))),
-      inr (
-        (λ _ r. no-three _ (good (e d)) r),
-        inr (
-          (λ _ n. positive d n),
-          inr (
-            (λ _ l. moded f l),
-            inr (
-              accepted-whole S1024 fnv (now (start d .args .s)) a,
-              (
-                a,
-                subst (λ x. Answers (putByMode S1024 fnv (now (start d .args .s)) (start d .args .mode) (record { code = now (start d .args .key); place = x })) (meaning (w .result), w .last .0)) (y .store-place .ensures) (w .ensures),
-              ),
-            ),
-          ),
-        ),
-      ),
-    )
+    let w = c .before .before .put-allowed in
+    let b = c .before .before .before .before in
+    let d = b .before .before .before .before in
+    puts S1024 fnv (now (start d .args .s)) (b .before .first-bad .ensures .sound (b .if5 .left)) (now (start d .args .key)) (start d .args .place) (start d .args .mode) (meaning (w .result), w .last .0)
+    (good (e d)) (positive d) (a-mode _ (moded (b .before .before .before))) (w .ensures)
 
 pub put-spec : {M : Type 1} → statement M
 put-spec =
@@ -184,9 +144,6 @@ put-spec =
     first-bad-requires
     same-length-5
     returns-5
-    slice-aggregate-store-place
-    store-place-requires
-    slice-aggregate-put-row
-    put-row-requires
+    put-allowed-requires
     same-length-6
     returns-6)

@@ -1,9 +1,9 @@
 -- `putting::put_row` meets its contract, by the entry of the hash and the mode. Assumes nothing.
-use Rattle.store.proofs.Accepted.Reading.{entryOf, Naming, lookup-none, lookup-page}
+use Rattle.query.proofs.Finds.{long-enough}
+use Rattle.store.proofs.Accepted.Reading.{lookup-none}
 use Rattle.store.proofs.Demands.Modes.{is-absent, let-new}
 use Rattle.store.proofs.Accepted.Rules.{opened}
-use Rattle.store.specs.Demands.{sized-1024}
-use Rattle.store.specs.Pages.{S1024, dirDepth, entryAt, rowsHeld}
+use Rattle.store.specs.Pages.{dirDepth, entryAt, rowsHeld}
 use Rattle.store.specs.Tables.{meaning}
 use Rattle.partition.specs.Listing.{placeOf}
 use Rattle.partition.specs.Partition.{Row}
@@ -14,8 +14,9 @@ use native.Mathlib.Omega.{arith}
 use Prim.Native.Nat.{ℕ}
 use mathlib.Core.List.{List}
 use mathlib.Core.Option.{none}
-use mathlib.Core.Path.{_≡_, sym, ap, subst, _∙_}
+use mathlib.Core.Path.{_≡_, sym, ap, _∙_}
 use borrow.Author.Needs.{needs}
+use Rattle.putting.specs.Put.{newRow}
 use Rattle.putting.proofs.putting.put_row.Statement.{statement}
 use Rattle.putting.proofs.putting.put_row.Tie as tie
 
@@ -30,15 +31,15 @@ module _ (b : tie.After-entry-of) where
   abbrev key : List ℕ
   key = now (z .args .key)
 
-  entry : b .entry-of .result ≡ entryOf S1024 fnv s key
-  entry = b .entry-of .ensures .0 ∙ ap (λ x. entryAt S1024 s (top (dirDepth s) x)) (b .before .before .hash .ensures)
+  entry : b .entry-of .result ≡ entryAt (z .args .z) s (top (dirDepth s) (fnv key))
+  entry = b .entry-of .ensures .0 ∙ ap (λ x. entryAt (z .args .z) s (top (dirDepth s) x)) (b .before .before .hash .ensures)
 
   abbrev row : Row
-  row = record { code = key; place = now (z .args .place) }
+  row = newRow key (now (z .args .place))
 
   -- an entry of 0: the code is not there
-  unnamed : b .entry-of .result ≡ 0 → placeOf (rowsHeld S1024 s) key ≡ none
-  unnamed e = lookup-none S1024 fnv sized-1024 fnv-lt s (z .pre .accepted) key (sym entry ∙ e)
+  unnamed : b .entry-of .result ≡ 0 → placeOf (rowsHeld (z .args .z) s) key ≡ none
+  unnamed e = let P = z .pre in lookup-none (z .args .z) fnv (P .sized) fnv-lt s (P .accepted) key (sym entry ∙ e)
 
 hash-requires : tie.Need-hash-requires
 hash-requires c κs = search needs
@@ -46,7 +47,8 @@ hash-requires c κs = search needs
 entry-of-requires : tie.Need-entry-of-requires
 entry-of-requires c κs =
     let z = c .before .before .before .before .before in
-    (sized-1024, omega (arith, z .pre .accepted .long .least), opened S1024 fnv (now (z .args .s)) (z .pre .accepted) .page0 .depth)
+    let P = z .pre in
+    (P .sized, omega (arith, long-enough (z .args .z) (P .sized) (now (z .args .s)) (P .accepted)), opened (z .args .z) fnv (now (z .args .s)) (P .accepted) .page0 .depth)
 
 same-length : tie.Need-same-length
 same-length c = search needs
@@ -54,12 +56,12 @@ same-length c = search needs
 returns : tie.Need-returns
 returns c =
     let b = c .before .before in
-    is-absent S1024 fnv (s b) (z b .args .mode) (row b) (unnamed b (c .before .if1 .taken)) (c .if2 .taken)
+    is-absent (z b .args .z) fnv (s b) (z b .args .mode) (row b) (unnamed b (c .before .if1 .taken)) (c .if2 .taken)
 
 new-bucket-requires : tie.Need-new-bucket-requires
 new-bucket-requires c κs =
     let b = c .before .before .before in
-    (z b .pre, b .before .before .hash .ensures, sym (entry b) ∙ c .before .before .if1 .taken)
+    record { row = z b .pre; hash = b .before .before .hash .ensures; none = sym (b .entry-of .ensures .0) ∙ c .before .before .if1 .taken }
 
 same-length-2 : tie.Need-same-length-2
 same-length-2 c = search needs
@@ -69,15 +71,12 @@ returns-2 c =
     let e = c .before .before .before .before in
     let b = e .before .before in
     let w = c .before .before .new-bucket in
-    let-new S1024 fnv (s b) (z b .args .mode) (row b) (unnamed b (e .before .if1 .taken)) (e .if2 .left) (meaning (w .result), w .last .0) (w .ensures)
+    let-new (z b .args .z) fnv (s b) (z b .args .mode) (row b) (unnamed b (e .before .if1 .taken)) (e .if2 .left) (meaning (w .result), w .last .0) (w .ensures)
 
 put-on-requires : tie.Need-put-on-requires
 put-on-requires c κs =
-    let b = c .before .before in (
-      z b .pre,
-      subst (λ p. Naming S1024 fnv (s b) (top (dirDepth (s b)) (fnv (key b))) p) (sym (entry b))
-          (lookup-page S1024 fnv sized-1024 fnv-lt (s b) (z b .pre .accepted) (key b) (λ q. c .before .if1 .left (entry b ∙ q)) .0),
-    )
+    let b = c .before .before in
+    record { row = z b .pre; home = record { names = sym (entry b); some = omega (arith, c .before .if1 .left) } }
 
 same-length-3 : tie.Need-same-length-3
 same-length-3 c = search needs

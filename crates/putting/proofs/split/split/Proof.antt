@@ -1,33 +1,35 @@
 -- `putting::split` meets its contract: refusals 6 and 7, else the new buckets, then the directory. Assumes nothing.
-use Rattle.putting.proofs.Heavy.{shallow, heavy-six, heavy-seven, as-many, source, writable, heavy-new}
-use Rattle.directory.proofs.Settles.{settling}
-use Rattle.directory.proofs.OnePage.{lent}
-use Rattle.putting.specs.Split.{keyed, below, pagesBelow, Source, Writable, BucketsWritten}
+use Rattle.putting.proofs.Heavy.{home, shallow, heavy-six, heavy-seven, as-many, source, writable, heavy-new}
+use Rattle.directory.proofs.Settles.{long-pages, settling}
+use Rattle.putting.specs.Put.{newRow, Crowded}
+use Rattle.putting.specs.Split.{keyed, withNew, below, pagesBelow, Source, Writable, BucketsWritten}
 use Rattle.store.proofs.Put.EveryStep.{Roomy, every-step, packed-used}
-use Rattle.store.proofs.Accepted.Unique.{page-long}
-use Rattle.store.specs.Demands.{sized-1024}
-use Rattle.store.specs.Pages.{S1024, page, contents, asRow}
+use Rattle.store.proofs.Accepted.Unique.{within, page-long}
+use Rattle.store.proofs.Paging.Views.{page-lent}
+use Rattle.store.specs.Pages.{size, page, contents}
+use Rattle.partition.specs.declared.Shape.{Shape}
 use Rattle.partition.specs.Partition.{Row, needs, rowsOf}
 use Rattle.partition.proofs.Bits.{top-lt}
+use Rattle.partition.proofs.Sizes.{twelve}
 use Rattle.partition.specs.Bits.{top}
 use Rattle.page.proofs.Sums.{row-room}
-use Rattle.page.specs.Page.{Slotted, depth, rows}
+use Rattle.page.specs.Page.{Slotted, depth}
 use Rattle.words.proofs.Bytes.{copied-whole}
 use Rattle.hash.specs.Fnv.{fnv, fnv-lt}
 use denote.Ref.{now}
 use lib.ListN.{length}
 use native.Mathlib.Omega.{arith}
-use Prim.Native.Nat.{ℕ, _-_, _^_, _≤_, _<_}
-use mathlib.Core.List.{List, _∷_, map}
+use Prim.Native.Nat.{ℕ, _+_, _*_, _-_, _^_, _≤_, _<_}
+use mathlib.Core.List.{List}
 use mathlib.Core.Path.{_≡_, sym, ap, subst, _∙_}
 use borrow.Author.Needs as Needs
 use Rattle.putting.proofs.split.split.Statement.{statement}
 use Rattle.putting.proofs.split.split.Tie as tie
 
--- the page and its copy
-module _ (b : tie.After-copy-at) where
-  abbrev z : tie.Start
-  z = b .before .before .before .before .before .before .before
+-- the page that is split, and the row
+module _ (z : tie.Start) where
+  abbrev S : Shape
+  S = z .args .z
 
   abbrev s : List ℕ
   s = now (z .args .s)
@@ -35,59 +37,89 @@ module _ (b : tie.After-copy-at) where
   abbrev p : ℕ
   p = z .args .p
 
+  abbrev i : ℕ
+  i = z .args .i
+
   abbrev key : List ℕ
   key = now (z .args .key)
 
   abbrev place : List ℕ
   place = now (z .args .place)
 
+  abbrev g : List ℕ
+  g = page S s p
+
+  abbrev C : Crowded S fnv s p i key place
+  C = z .pre .0
+
+  -- the page's prefix
+  abbrev v : ℕ
+  v = top (depth g) (fnv key)
+
+  twelve-at-most : S .deepest ≤ 12
+  twelve-at-most = twelve S (C .row .row .sized)
+
+  long : length g ≡ size S
+  long = page-long S s p (home S fnv fnv-lt s p i key place C .to)
+
+  inside : p * size S + size S ≤ length s
+  inside = within S s p (home S fnv fnv-lt s p i key place C .to)
+
+-- its copy
+module _ (b : tie.After-copy-at) where
+  abbrev z0 : tie.Start
+  z0 = b .before .before .before .before .before .before .before .before .before .before .before
+
   abbrev from : List ℕ
   from = b .copy-at .last .0
 
-  copied : from ≡ page S1024 s p
-  copied = copied-whole (b .copy-at .ensures) (sym (ap length (lent s p) ∙ page-long S1024 s p (z .pre .1 .to))) ∙ lent s p
-
-  long : length from ≡ 1024
-  long = ap length copied ∙ page-long S1024 s p (z .pre .1 .to)
+  copied : from ≡ g z0
+  copied = copied-whole (b .copy-at .ensures) (z0 .pre .1 .page ∙ sym (ap length (page-lent (S z0) (s z0) (p z0)) ∙ long z0)) ∙ page-lent (S z0) (s z0) (p z0)
 
   slotted : Slotted from
-  slotted = subst Slotted (sym copied) (z .pre .1 .bytes .rules .rules)
+  slotted = subst Slotted (sym copied) (home (S z0) fnv fnv-lt (s z0) (p z0) (i z0) (key z0) (place z0) (C z0) .bytes .rules .rules)
 
-  low : depth from ≤ 8
-  low = let q = z .pre in subst (λ g. depth g ≤ 8) (sym copied) (shallow fnv fnv-lt s key place (q .0) p (q .1) (z .args .i) (q .2) (q .3))
+  low : depth from ≤ S z0 .deepest
+  low = subst (λ g. depth g ≤ S z0 .deepest) (sym copied) (shallow (S z0) fnv fnv-lt (s z0) (p z0) (i z0) (key z0) (place z0) (C z0))
 
-  -- the page's rows and the code
-  abbrev all : List Row
-  all = keyed key ∷ map asRow (rows (page S1024 s p))
-
--- what is told of them
+-- what is told of its rows and the new one
 module _ (g : tie.After-gather) where
   abbrev b0 : tie.After-copy-at
-  b0 = g .before .before .before .before .before
+  b0 = g .before .before .before .before .before .before
 
--- what those that share the code's first 8 bits need
+-- what those that share the code's first bits need
 module _ (e : tie.After-load) where
   abbrev g1 : tie.After-gather
-  g1 = e .before .before .before .before .before .before .before .before
+  g1 = e .before .before .before .before .before .before .before .before .before .before .before
 
-  abbrev b1 : tie.After-copy-at
-  b1 = b0 g1
+  abbrev z1 : tie.Start
+  z1 = z0 (b0 g1)
 
-  weight : e .load .result ≡ needs (rowsOf fnv (all b1) 8 (top 8 (fnv (key b1))))
+  weight : e .load .result ≡ needs (rowsOf fnv (withNew (g z1) (keyed (key z1))) (S z1 .deepest) (top (S z1 .deepest) (fnv (key z1))))
   weight =
-      let v = e .before .top-bits .ensures ∙ ap (top 8) (e .before .before .before .before .before .hash .ensures) in
-      e .load .ensures ∙ (λ x. needs (rowsOf fnv (keyed (key b1) ∷ map asRow (rows (copied b1 x))) 8 (v x)))
+      let w = e .before .top-bits .ensures ∙ ap (top (S z1 .deepest)) (e .before .before .before .before .before .before .hash .ensures) in
+      e .load .ensures ∙ (λ x. needs (rowsOf fnv (withNew (copied (b0 g1) x) (keyed (key z1))) (S z1 .deepest) (w x)))
 
 -- the page's bits
 module _ (t : tie.After-top-bits2) where
   abbrev g2 : tie.After-gather
-  g2 = g1 (t .before .before)
+  g2 = g1 (t .before .before .before .before)
 
   abbrev b2 : tie.After-copy-at
   b2 = b0 g2
 
-  prefix : t .top-bits2 .result ≡ top (depth (from b2)) (fnv (key b2))
-  prefix = t .top-bits2 .ensures ∙ ap (top (depth (from b2))) (t .before .before .before .before .before .before .before .hash .ensures)
+  prefix : t .top-bits2 .result ≡ top (depth (from b2)) (fnv (key (z0 b2)))
+  prefix = t .top-bits2 .ensures ∙ ap (top (depth (from b2))) (t .before .before .before .before .before .before .before .before .before .before .hash .ensures)
+
+  -- what is lent keeps its length
+  lent-page : length (from b2) ≡ length (now (z0 b2 .args .from))
+  lent-page = g2 .before .before .before .before .before .from .given
+
+  lent-hashes : length (g2 .gather .last .1 .1 .0) ≡ length (now (z0 b2 .args .hs))
+  lent-hashes = t .before .before .before .before .before .before .before .before .before .before .before .before .before .before .hs .given
+
+  lent-needs : length (g2 .gather .last .1 .1 .1 .0) ≡ length (now (z0 b2 .args .ns))
+  lent-needs = t .before .before .before .before .before .before .before .before .before .before .before .before .ns .given
 
 -- how many buckets they make
 module _ (d : tie.After-count-below) where
@@ -97,45 +129,42 @@ module _ (d : tie.After-count-below) where
   abbrev b3 : tie.After-copy-at
   b3 = b2 t3
 
-  number : d .count-below .result ≡ length (below fnv (all b3) (depth (page S1024 (s b3) (p b3))) (top (depth (page S1024 (s b3) (p b3))) (fnv (key b3))))
-  number =
-      d .count-below .ensures ∙ ap (λ v. length (below fnv (keyed (key b3) ∷ map asRow (rows (from b3))) (depth (from b3)) v)) (prefix t3)
-      ∙ ap (λ g. length (below fnv (keyed (key b3) ∷ map asRow (rows g)) (depth g) (top (depth g) (fnv (key b3))))) (copied b3)
+  abbrev z3 : tie.Start
+  z3 = z0 b3
 
-  fine : needs (rowsOf fnv (all b3) 8 (top 8 (fnv (key b3)))) ≤ 1016
-  fine = let l = t3 .before in omega (arith, weight (l .before), l .if1 .left)
+  number : d .count-below .result ≡ length (below (S z3) fnv (withNew (g z3) (keyed (key z3))) (depth (g z3)) (v z3))
+  number =
+      d .count-below .ensures ∙ ap (λ v. length (below (S z3) fnv (withNew (from b3) (keyed (key z3))) (depth (from b3)) v)) (prefix t3)
+      ∙ ap (λ g. length (below (S z3) fnv (withNew g (keyed (key z3))) (depth g) (top (depth g) (fnv (key z3))))) (copied b3)
+
+  fine : needs (rowsOf fnv (withNew (g z3) (keyed (key z3))) (S z3 .deepest) (top (S z3 .deepest) (fnv (key z3)))) ≤ S z3 .capacity
+  fine = let l = t3 .before .before in omega (arith, weight (l .before .before), l .if1 .left)
 
 -- THE ROOM TEST: after it a page is free at every step
 module _ (w : tie.Else2) where
   abbrev d4 : tie.After-count-below
   d4 = w .before .before .before
 
-  abbrev b4 : tie.After-copy-at
-  b4 = b3 d4
-
-  abbrev g4 : List ℕ
-  g4 = page S1024 (s b4) (p b4)
+  abbrev z4 : tie.Start
+  z4 = z3 d4
 
   abbrev rs : List Row
-  rs = record { code = key b4; place = place b4 } ∷ map asRow (rows g4)
+  rs = withNew (g z4) (newRow (key z4) (place z4))
 
-  abbrev v : ℕ
-  v = top (depth g4) (fnv (key b4))
-
-  room : Roomy (contents S1024 (s b4)) (p b4 - 2) (pagesBelow fnv rs (depth g4) v)
+  room : Roomy (contents (S z4) (s z4)) (p z4 - 2) (pagesBelow (S z4) fnv rs (depth (g z4)) (v z4))
   room =
-      let q = z b4 .pre in
-      every-step (contents S1024 (s b4)) (p b4 - 2) (depth g4) (rows g4) (q .1 .holding) (pagesBelow fnv rs (depth g4) v) (packed-used fnv rs (below fnv rs (depth g4) v))
-      (omega (arith, as-many fnv fnv-lt (s b4) (key b4) (place b4) (q .0) (p b4) (q .1) (z b4 .args .i) (q .2) (q .3) (fine d4), number d4, w .before .free-pages .ensures .0, w .if2 .left))
+      every-step (contents (S z4) (s z4)) (p z4 - 2) (depth (g z4)) (Rattle.page.specs.Page.rows (g z4)) (home (S z4) fnv fnv-lt (s z4) (p z4) (i z4) (key z4) (place z4) (C z4) .holding)
+      (pagesBelow (S z4) fnv rs (depth (g z4)) (v z4)) (packed-used fnv rs (below (S z4) fnv rs (depth (g z4)) (v z4)))
+      (omega (arith, as-many (S z4) fnv fnv-lt (s z4) (p z4) (i z4) (key z4) (place z4) (C z4) (fine d4), number d4, w .before .free-pages .ensures .0, w .if2 .left))
+
+add-size : tie.Need-add-size
+add-size c = omega (arith, inside (c .before .before .before .before .before .before .before))
 
 mul-a : tie.Need-mul-a
-mul-a c = search Needs.needs
+mul-a c = omega (arith, inside (c .before .before .before .before .before .before .before))
 
 add-e : tie.Need-add-e
-add-e c = search Needs.needs
-
-slice-aggregate-copy-at : tie.Need-slice-aggregate-copy-at
-slice-aggregate-copy-at c = search Needs.needs
+add-e c = omega (arith, inside (c .before .before .before .before .before .before .before))
 
 sub-copy-at : tie.Need-sub-copy-at
 sub-copy-at c = search Needs.needs
@@ -144,185 +173,192 @@ part-copy-at-start : tie.Need-part-copy-at-start
 part-copy-at-start c = search Needs.needs
 
 part-copy-at-end : tie.Need-part-copy-at-end
-part-copy-at-end c = search Needs.needs
+part-copy-at-end c = omega (arith, inside (c .before .before .before .before .before .before .before .before .before))
 
 copy-at-requires : tie.Need-copy-at-requires
-copy-at-requires c κs = search Needs.needs
-
-slice-aggregate-gather : tie.Need-slice-aggregate-gather
-slice-aggregate-gather c = search Needs.needs
-
-slice-aggregate-gather-2 : tie.Need-slice-aggregate-gather-2
-slice-aggregate-gather-2 c = search Needs.needs
-
-slice-aggregate-gather-3 : tie.Need-slice-aggregate-gather-3
-slice-aggregate-gather-3 c = search Needs.needs
+copy-at-requires c κs =
+    let z = c .before .before .before .before .before .before .before .before .before .before in
+    omega (arith, z .pre .1 .page, ap length (page-lent (S z) (s z) (p z)) ∙ long z)
 
 gather-requires : tie.Need-gather-requires
 gather-requires c κs =
-    let b = c .before .before .before .before in
-    let S = slotted b in
-    (S, z b .pre .0 .good .most, omega (arith, row-room (from b) S, long b), search Needs.needs, search Needs.needs)
+    let b = c .before .before .before .before .before in
+    let L = z0 b .pre .1 in
+    let n = ap length (copied b) ∙ long (z0 b) in
+    record {
+      page = slotted b;
+      good = C (z0 b) .row .row .good;
+      hashes = omega (arith, row-room (from b) (slotted b), n, L .hashes);
+      weights = omega (arith, row-room (from b) (slotted b), n, L .weights);
+    }
 
 hash-requires : tie.Need-hash-requires
 hash-requires c κs = search Needs.needs
 
-slice-aggregate-load : tie.Need-slice-aggregate-load
-slice-aggregate-load c = search Needs.needs
-
-slice-aggregate-load-2 : tie.Need-slice-aggregate-load-2
-slice-aggregate-load-2 c = search Needs.needs
-
-slice-aggregate-load-3 : tie.Need-slice-aggregate-load-3
-slice-aggregate-load-3 c = search Needs.needs
+cast-deepest : tie.Need-cast-deepest
+cast-deepest c = omega (arith, twelve-at-most (z0 (b0 (c .before .before .before .before .before .before))))
 
 top-bits-requires : tie.Need-top-bits-requires
-top-bits-requires c κs = search Needs.needs
+top-bits-requires c κs = twelve-at-most (z0 (b0 (c .before .before .before .before .before .before .before .before .before)))
 
 load-requires : tie.Need-load-requires
-load-requires c κs =
-    let g = c .before .before .before .before .before .before .before in
-    let b = b0 g in
-    (omega arith, slotted b, z b .pre .0 .good .most, g .gather .ensures .0, g .gather .ensures .1)
+load-requires c κs = let g = c .before .before .before .before .before .before .before .before .before .before in (g .gather .ensures, twelve-at-most (z0 (b0 g)))
 
 same-length : tie.Need-same-length
 same-length c = search Needs.needs
 
+same-length-2 : tie.Need-same-length-2
+same-length-2 c = search Needs.needs
+
+same-length-3 : tie.Need-same-length-3
+same-length-3 c = search Needs.needs
+
+same-length-4 : tie.Need-same-length-4
+same-length-4 c = search Needs.needs
+
 returns : tie.Need-returns
 returns c =
-    let b = b1 (c .before) in
-    let q = z b .pre in
-    heavy-six fnv fnv-lt (s b) (key b) (place b) (q .0) (p b) (q .1) (z b .args .i) (q .2) (q .3) (omega (arith, weight (c .before), c .if1 .taken))
+    let e = c .before .before in
+    let z = z1 e in
+    heavy-six (S z) fnv fnv-lt (s z) (p z) (i z) (key z) (place z) (C z) (omega (arith, weight e, c .if1 .taken))
 
-array-read-k : tie.Need-array-read-k
-array-read-k c = search Needs.needs
+div-n : tie.Need-div-n
+div-n c = omega arith
+
+slice-read-k : tie.Need-slice-read-k
+slice-read-k c = let b = b0 (g1 (c .before .before .before)) in omega (arith, slotted b .least)
 
 cast-k : tie.Need-cast-k
-cast-k c = record { fits = omega (arith, low (b1 (c .before))) }
+cast-k c = let b = b0 (g1 (c .before .before .before)) in record { fits = omega (arith, low b, twelve-at-most (z0 b)) }
 
 top-bits-requires-2 : tie.Need-top-bits-requires-2
-top-bits-requires-2 c κs = omega (arith, low (b1 (c .before)))
-
-slice-aggregate-count-below : tie.Need-slice-aggregate-count-below
-slice-aggregate-count-below c = search Needs.needs
-
-slice-aggregate-count-below-2 : tie.Need-slice-aggregate-count-below-2
-slice-aggregate-count-below-2 c = search Needs.needs
-
-slice-aggregate-count-below-3 : tie.Need-slice-aggregate-count-below-3
-slice-aggregate-count-below-3 c = search Needs.needs
+top-bits-requires-2 c κs = let b = b0 (g1 (c .before .before .before)) in omega (arith, low b, twelve-at-most (z0 b))
 
 count-below-requires : tie.Need-count-below-requires
 count-below-requires c κs =
     let t = c .before .before .before in
-    let g = g2 t in
-    let b = b0 g in
-    (low b, subst (λ v. v < 2 ^ depth (from b)) (sym (prefix t)) (top-lt (fnv (key b)) (depth (from b)) (fnv-lt (key b))), slotted b, z b .pre .0 .good .most, g .gather .ensures .0, g .gather .ensures .1)
+    let b = b2 t in (
+      g2 t .gather .ensures,
+      record {
+        sized = C (z0 b) .row .row .sized;
+        deep = low b;
+        bits = subst (λ v. v < 2 ^ depth (from b)) (sym (prefix t)) (top-lt (fnv (key (z0 b))) (depth (from b)) (fnv-lt (key (z0 b))));
+      },
+    )
 
 free-pages-requires : tie.Need-free-pages-requires
 free-pages-requires c κs =
-    let l = z (b3 (c .before)) .pre .0 .accepted .long in
-    (omega (arith, l .whole), omega (arith, l .least))
+    let z = z3 (c .before) in
+    let P = C z .row .row in
+    (long-pages (S z) (P .sized) fnv fnv-lt (s z) (P .accepted), omega (arith, P .accepted .long .least))
 
 add-if2 : tie.Need-add-if2
 add-if2 c =
-    let z = z (b3 (c .before .before)) in
-    omega (arith, c .free-pages .ensures .1, z .pre .0 .accepted .long .most)
+    let P = C (z3 (c .before .before)) .row .row in
+    omega (arith, c .free-pages .ensures .1, P .accepted .long .most, P .sized .whole, P .sized .most)
 
-same-length-2 : tie.Need-same-length-2
-same-length-2 c = search Needs.needs
+same-length-5 : tie.Need-same-length-5
+same-length-5 c = search Needs.needs
+
+same-length-6 : tie.Need-same-length-6
+same-length-6 c = lent-page (t3 (c .before .before .before))
+
+same-length-7 : tie.Need-same-length-7
+same-length-7 c = search Needs.needs
+
+same-length-8 : tie.Need-same-length-8
+same-length-8 c = search Needs.needs
 
 returns-2 : tie.Need-returns-2
 returns-2 c =
     let d = c .before .before .before in
-    let b = b3 d in
-    let q = z b .pre in
-    heavy-seven fnv fnv-lt (s b) (key b) (place b) (q .0) (p b) (q .1) (z b .args .i) (q .2) (q .3) (fine d) (omega (arith, number d, c .before .free-pages .ensures .0, c .if2 .taken))
-
-slice-aggregate-write-below : tie.Need-slice-aggregate-write-below
-slice-aggregate-write-below c = search Needs.needs
-
-slice-aggregate-write-below-2 : tie.Need-slice-aggregate-write-below-2
-slice-aggregate-write-below-2 c = search Needs.needs
-
-slice-aggregate-write-below-3 : tie.Need-slice-aggregate-write-below-3
-slice-aggregate-write-below-3 c = search Needs.needs
+    let z = z3 d in
+    heavy-seven (S z) fnv fnv-lt (s z) (p z) (i z) (key z) (place z) (C z) (fine d) (omega (arith, number d, c .before .free-pages .ensures .0, c .if2 .taken))
 
 write-below-requires : tie.Need-write-below-requires
 write-below-requires c κs =
     let w = c .before .before .before .before in
-    let b = b4 w in
+    let z = z4 w in
     let t = t3 (d4 w) in
-    let g = g2 t in
-    let q = z b .pre in
-    let f = fine (d4 w) in (
-      subst (λ g. Source g (z b .args .i) (key b) (place b)) (sym (copied b)) (source fnv fnv-lt (s b) (key b) (place b) (q .0) (p b) (q .1) (z b .args .i) (q .2) (q .3) f (room w)),
-      g .gather .ensures .0,
-      g .gather .ensures .1,
-      subst (λ v. Writable fnv (record { code = key b; place = place b } ∷ map asRow (rows (from b))) (depth (from b)) v (s b) (p b)) (sym (prefix t))
-          (subst (λ g. Writable fnv (record { code = key b; place = place b } ∷ map asRow (rows g)) (depth g) (top (depth g) (fnv (key b))) (s b) (p b)) (sym (copied b))
-          (writable fnv fnv-lt (s b) (key b) (place b) (q .0) (p b) (q .1) (z b .args .i) (q .2) (q .3) f (room w))),
-    )
+    let b = b2 t in
+    let f = fine (d4 w) in
+    record {
+      source = subst (λ g. Source g (i z) (key z) (place z)) (sym (copied b)) (source (S z) fnv fnv-lt (s z) (p z) (i z) (key z) (place z) (C z) f (room w));
+      weighed = g2 t .gather .ensures;
+      writable = subst (λ v. Writable (S z) fnv (withNew (from b) (newRow (key z) (place z))) (depth (from b)) v (s z) (p z)) (sym (prefix t))
+          (subst (λ g. Writable (S z) fnv (withNew g (newRow (key z) (place z))) (depth g) (top (depth g) (fnv (key z))) (s z) (p z)) (sym (copied b))
+          (writable (S z) fnv fnv-lt (s z) (p z) (i z) (key z) (place z) (C z) f (room w)));
+    }
 
 settle-requires : tie.Need-settle-requires
 settle-requires c κs =
     let y = c .before .before .before in
-    let b = b4 (y .before .before .before .before .before) in
-    (sized-1024, settling S1024 sized-1024 fnv fnv-lt (s b) (z b .pre .0 .accepted) (y .write-below .last .0) (y .write-below .ensures .pages))
+    let z = z4 (y .before .before .before .before .before) in
+    let P = C z .row .row in
+    (P .sized, settling (S z) (P .sized) fnv fnv-lt (s z) (P .accepted) (y .write-below .last .0) (y .write-below .ensures .pages))
 
-same-length-3 : tie.Need-same-length-3
-same-length-3 c = search Needs.needs
+same-length-9 : tie.Need-same-length-9
+same-length-9 c = search Needs.needs
+
+same-length-10 : tie.Need-same-length-10
+same-length-10 c = lent-page (t3 (d4 (c .before .before .before .before .before .before .before .before .before .before .before)))
+
+same-length-11 : tie.Need-same-length-11
+same-length-11 c = lent-hashes (t3 (d4 (c .before .before .before .before .before .before .before .before .before .before .before)))
+
+same-length-12 : tie.Need-same-length-12
+same-length-12 c = lent-needs (t3 (d4 (c .before .before .before .before .before .before .before .before .before .before .before)))
 
 returns-3 : tie.Need-returns-3
 returns-3 c =
     let y = c .before .before .before .before .before .before in
     let w = y .before .before .before .before .before in
-    let b = b4 w in
-    let q = z b .pre in
+    let z = z4 w in
+    let t = t3 (d4 w) in
+    let b = b2 t in
     let n = y .write-below in
-    heavy-new fnv fnv-lt (s b) (key b) (place b) (q .0) (p b) (q .1) (z b .args .i) (q .2) (q .3) (fine (d4 w)) (room w) (n .last .0) (n .result)
-    (subst (λ g. BucketsWritten fnv (record { code = key b; place = place b } ∷ map asRow (rows g)) (depth g) (top (depth g) (fnv (key b))) (s b) (p b) (n .last .0) (n .result)) (copied b)
-    (subst (λ v. BucketsWritten fnv (record { code = key b; place = place b } ∷ map asRow (rows (from b))) (depth (from b)) v (s b) (p b) (n .last .0) (n .result)) (prefix (t3 (d4 w))) (n .ensures)))
-    (c .before .before .settle .last .0) (c .before .before .settle .ensures) (λ k. (c .slice-known3 .given k) .fits)
+    heavy-new (S z) fnv fnv-lt (s z) (p z) (i z) (key z) (place z) (C z) (fine (d4 w)) (room w) (n .last .0) (n .result)
+    (subst (λ g. BucketsWritten (S z) fnv (withNew g (newRow (key z) (place z))) (depth g) (top (depth g) (fnv (key z))) (s z) (p z) (n .last .0) (n .result)) (copied b)
+    (subst (λ v. BucketsWritten (S z) fnv (withNew (from b) (newRow (key z) (place z))) (depth (from b)) v (s z) (p z) (n .last .0) (n .result)) (prefix t) (n .ensures)))
+    (c .before .before .settle .last .0) (c .before .before .settle .ensures) (λ k. (c .slice-known10 .given k) .fits)
 
 pub split-spec : {M : Type 1} → statement M
 split-spec =
     tie.close
     (tie.spec
+    add-size
     mul-a
     add-e
-    slice-aggregate-copy-at
     sub-copy-at
     part-copy-at-start
     part-copy-at-end
     copy-at-requires
-    slice-aggregate-gather
-    slice-aggregate-gather-2
-    slice-aggregate-gather-3
     gather-requires
     hash-requires
-    slice-aggregate-load
-    slice-aggregate-load-2
-    slice-aggregate-load-3
+    cast-deepest
     top-bits-requires
     load-requires
     same-length
+    same-length-2
+    same-length-3
+    same-length-4
     returns
-    array-read-k
+    div-n
+    slice-read-k
     cast-k
     top-bits-requires-2
-    slice-aggregate-count-below
-    slice-aggregate-count-below-2
-    slice-aggregate-count-below-3
     count-below-requires
     free-pages-requires
     add-if2
-    same-length-2
+    same-length-5
+    same-length-6
+    same-length-7
+    same-length-8
     returns-2
-    slice-aggregate-write-below
-    slice-aggregate-write-below-2
-    slice-aggregate-write-below-3
     write-below-requires
     settle-requires
-    same-length-3
+    same-length-9
+    same-length-10
+    same-length-11
+    same-length-12
     returns-3)

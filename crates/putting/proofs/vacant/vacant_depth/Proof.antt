@@ -10,13 +10,13 @@ use Rattle.putting.proofs.vacant.vacant_depth.Statement.{statement}
 use Rattle.putting.proofs.vacant.vacant_depth.Tie as tie
 
 abbrev Inv-loop : tie.InvT-loop
-Inv-loop s x d k₀ k = (k ≤ d) × Unset s d k (top k x)
+Inv-loop s z x d k₀ k = (k ≤ d) × Unset z s d k (top k x)
 
 abbrev μ-loop : tie.MeasureT-loop
-μ-loop s x d k₀ k = k
+μ-loop s z x d k₀ k = k
 
 loop-holds : tie.Need-loop-holds Inv-loop μ-loop
-loop-holds c = (omega arith, c .before .pre .2)
+loop-holds c = (omega arith, c .before .pre .1)
 
 sub-unset : tie.Need-sub-unset Inv-loop μ-loop
 sub-unset c = omega arith
@@ -33,7 +33,7 @@ returns c =
       unset = l .inv .1;
       above = λ j e f.
           let q : j ≡ l .k - 1 = omega (arith, e) in
-          says-false (c .before .unset .result) (not-true _ (c .if1 .taken)) (c .before .unset .ensures) (subst (λ n. Unset (a .s .now) (a .d) n (top n (a .x))) q f);
+          says-false (c .before .unset .result) (not-true _ (c .if1 .taken)) (c .before .unset .ensures) (subst (λ n. Unset (a .z) (a .s .now) (a .d) n (top n (a .x))) q f);
     }
 
 sub-k : tie.Need-sub-k Inv-loop μ-loop

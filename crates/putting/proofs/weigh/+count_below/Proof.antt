@@ -1,16 +1,16 @@
 -- `putting::count_below` meets its contract, by the cases of `below`. Assumes nothing.
 use Rattle.putting.proofs.Weighs.{below-none, below-one, below-deep, below-two, below-most, double}
-use Rattle.putting.specs.Split.{keyed, below}
-use Rattle.store.specs.Pages.{asRow}
+use Rattle.putting.specs.Split.{keyed, withNew, below, Weighed, PrefixIn}
+use Rattle.partition.specs.declared.Shape.{Shape}
+use Rattle.partition.proofs.Sizes.{twelve}
 use Rattle.partition.specs.Partition.{Row, needs, rowsOf}
-use Rattle.page.specs.Page.{rows}
 use Rattle.hash.specs.Fnv.{fnv}
 use denote.Ref.{now}
 use lib.Pow.{pow-mono}
 use lib.ListN.{length, length-append}
 use native.Mathlib.Omega.{arith}
-use mathlib.Core.List.{List, _∷_, map}
-use mathlib.Core.Path.{sym, ap, _∙_}
+use mathlib.Core.List.{List}
+use mathlib.Core.Path.{_≡_, sym, ap, _∙_}
 use Prim.Native.Nat.{ℕ, _+_, _*_, _-_, _^_, _≤_, _<_}
 use borrow.Fn.Kinds.{In}
 use borrow.Fn.PlainCycle.{Measures, is, falls, and}
@@ -21,14 +21,8 @@ use Rattle.putting.proofs.weigh.load.Reads as load-reads
 use Rattle.putting.proofs.weigh.+count_below.{statement}
 use Rattle.putting.proofs.weigh.+count_below.Tie.{close}
 
-abbrev all : List ℕ → List ℕ → List Row
-all g c = keyed c ∷ map asRow (rows g)
-
-abbrev needs-of : List Row → ℕ → ℕ → ℕ
-needs-of rs k v = needs (rowsOf fnv rs k v)
-
 abbrev μ-count-below : Measures 4 count-below-kinds.ps ℕ
-μ-count-below κs a = 8 - a .1 .1 .1 .1 .0
+μ-count-below κs a = a .1 .0 .deepest - a .1 .1 .1 .1 .1 .0
 
 abbrev count-below-at : ℕ → In 4 count-below-kinds.ps
 count-below-at t =
@@ -47,80 +41,105 @@ told t = (
   count-below.Post,
 )
 
+abbrev Loaded : ℕ → Type 0
+Loaded t = count-below-lts.After-load (told t) (count-below-at t) count-below.Post
+
+-- what the rows of the prefix need
+module _ (t : ℕ) (b : Loaded t) where
+  abbrev S : Shape
+  S = b .before .before .before .before .before .args .z
+
+  abbrev k : ℕ
+  k = b .before .before .before .before .before .args .k
+
+  abbrev v : ℕ
+  v = b .before .before .before .before .before .args .v
+
+  abbrev rs : List Row
+  rs = let a = b .before .before .before .before .before .args in withNew (now (a .page)) (keyed (now (a .key)))
+
+  abbrev P : PrefixIn S k v
+  P = b .before .before .before .before .before .pre .1 .1
+
+  abbrev weighed : Weighed fnv (now (b .before .before .before .before .before .args .page)) (now (b .before .before .before .before .before .args .key)) (now (b .before .before .before .before .before .args .hs)) (now (b .before .before .before .before .before .args .ns))
+  weighed = b .before .before .before .before .before .pre .1 .0
+
+  low : k ≤ 12
+  low = omega (arith, P .deep, twelve S (P .sized))
+
+  small : v < 4096
+  small = let m : 2 ^ k ≤ 2 ^ 12 = pow-mono low in omega (arith, P .bits)
+
+  -- a prefix one bit longer
+  module _ (more : k ≡ S .deepest → ⊥) where
+    shallow : k < S .deepest
+    shallow = omega (arith, P .deep, more)
+
+    left : PrefixIn S (k + 1) (2 * v)
+    left = record { sized = P .sized; deep = omega (arith, shallow); bits = omega (arith, P .bits, double k) }
+
+    right : PrefixIn S (k + 1) (2 * v + 1)
+    right = record { sized = P .sized; deep = omega (arith, shallow); bits = omega (arith, P .bits, double k) }
+
 count-below-load-requires : (t : ℕ) → count-below-lts.Need-load-requires (told t) (count-below-at t) count-below.Post
-count-below-load-requires t c κs = let z = c .before .before .before .before in (z .pre .1 .0, z .pre .1 .2, z .pre .1 .3, z .pre .1 .4, z .pre .1 .5)
+count-below-load-requires t c κs =
+    let z = c .before .before .before .before in
+    (z .pre .1 .0, omega (arith, z .pre .1 .1 .deep, twelve (z .args .z) (z .pre .1 .1 .sized)))
 
 count-below-returns : (t : ℕ) → count-below-lts.Need-returns (told t) (count-below-at t) count-below.Post
-count-below-returns t c =
-    let a = c .before .before .before .before .before .before .args in
-    sym (ap length (below-none fnv (all (now (a .page)) (now (a .key))) (a .k) (a .v) (sym (c .before .load .ensures) ∙ c .if1 .taken)))
+count-below-returns t c = let b = c .before in sym (ap length (below-none (S t b) fnv (rs t b) (k t b) (v t b) (sym (b .load .ensures) ∙ c .if1 .taken)))
 
 count-below-returns-2 : (t : ℕ) → count-below-lts.Need-returns-2 (told t) (count-below-at t) count-below.Post
 count-below-returns-2 t c =
-    let a = c .before .before .before .before .before .before .before .args in
-    let e = c .before .before .load .ensures in
-    let n = c .before .if1 .left in
-    sym (ap length (below-one fnv (all (now (a .page)) (now (a .key))) (a .k) (a .v) (omega (arith, e, n)) (omega (arith, e, c .if2 .taken))))
+    let b = c .before .before .before in
+    let e = b .load .ensures in
+    sym (ap length (below-one (S t b) fnv (rs t b) (k t b) (v t b) (omega (arith, e, c .before .before .if1 .left)) (omega (arith, e, c .if2 .taken))))
 
 count-below-returns-3 : (t : ℕ) → count-below-lts.Need-returns-3 (told t) (count-below-at t) count-below.Post
 count-below-returns-3 t c =
-    let a = c .before .before .before .before .before .before .before .before .args in
-    let rs = all (now (a .page)) (now (a .key)) in
-    let e = c .if3 .taken in
-    let o : 1016 < needs-of rs 8 (a .v) = omega (arith, c .before .if2 .left, c .before .before .before .load .ensures ∙ ap (λ k. needs-of rs k (a .v)) e) in
-    sym (ap (λ k. length (below fnv rs k (a .v))) e ∙ ap length (below-deep fnv rs (a .v) o))
+    let b = c .before .before .before .before .before in
+    sym (ap length (below-deep (S t b) fnv (rs t b) (k t b) (v t b) (omega (arith, c .if3 .taken)) (omega (arith, c .before .before .if2 .left, b .load .ensures))))
 
 count-below-add-count-below : (t : ℕ) → count-below-lts.Need-add-count-below (told t) (count-below-at t) count-below.Post
-count-below-add-count-below t c = omega arith
+count-below-add-count-below t c = omega (arith, low t (c .before .before .before .before .before))
 
 count-below-mul-count-below : (t : ℕ) → count-below-lts.Need-mul-count-below (told t) (count-below-at t) count-below.Post
-count-below-mul-count-below t c =
-    let z = c .before .before .before .before .before .before .before .before in
-    let m : 2 ^ (z .args .k) ≤ 2 ^ 8 = pow-mono (z .pre .1 .0) in
-    omega (arith, z .pre .1 .1)
+count-below-mul-count-below t c = omega (arith, small t (c .before .before .before .before .before))
 
 count-below-count-below-requires : (t : ℕ) → count-below-lts.Need-count-below-requires (told t) (count-below-at t) count-below.Post
 count-below-count-below-requires t c κs =
-    let z = c .before .before .before .before .before .before .before .before in
+    let b = c .before .before .before .before .before in
     let n = c .if3 .left in
-    (omega (arith, z .pre .0, z .pre .1 .0, n), (omega (arith, z .pre .1 .0, n), omega (arith, z .pre .1 .1, double (z .args .k)), z .pre .1 .2, z .pre .1 .3, z .pre .1 .4, z .pre .1 .5))
+    (omega (arith, b .before .before .before .before .before .pre .0, shallow t b n), (weighed t b, left t b n))
 
 count-below-add-count-below-2 : (t : ℕ) → count-below-lts.Need-add-count-below-2 (told t) (count-below-at t) count-below.Post
-count-below-add-count-below-2 t c = omega arith
+count-below-add-count-below-2 t c = omega (arith, low t (c .before .before .before .before .before .before))
 
 count-below-mul-count-below-2 : (t : ℕ) → count-below-lts.Need-mul-count-below-2 (told t) (count-below-at t) count-below.Post
-count-below-mul-count-below-2 t c =
-    let z = c .before .before .before .before .before .before .before .before .before in
-    let m : 2 ^ (z .args .k) ≤ 2 ^ 8 = pow-mono (z .pre .1 .0) in
-    omega (arith, z .pre .1 .1)
+count-below-mul-count-below-2 t c = omega (arith, small t (c .before .before .before .before .before .before))
 
 count-below-add-count-below-3 : (t : ℕ) → count-below-lts.Need-add-count-below-3 (told t) (count-below-at t) count-below.Post
-count-below-add-count-below-3 t c =
-    let z = c .before .before .before .before .before .before .before .before .before in
-    let m : 2 ^ (z .args .k) ≤ 2 ^ 8 = pow-mono (z .pre .1 .0) in
-    omega (arith, z .pre .1 .1)
+count-below-add-count-below-3 t c = omega (arith, small t (c .before .before .before .before .before .before))
 
 count-below-count-below-requires-2 : (t : ℕ) → count-below-lts.Need-count-below-requires-2 (told t) (count-below-at t) count-below.Post
 count-below-count-below-requires-2 t c κs =
-    let z = c .before .before .before .before .before .before .before .before .before in
+    let b = c .before .before .before .before .before .before in
     let n = c .before .if3 .left in
-    (omega (arith, z .pre .0, z .pre .1 .0, n), (omega (arith, z .pre .1 .0, n), omega (arith, z .pre .1 .1, double (z .args .k)), z .pre .1 .2, z .pre .1 .3, z .pre .1 .4, z .pre .1 .5))
+    (omega (arith, b .before .before .before .before .before .pre .0, shallow t b n), (weighed t b, right t b n))
 
 count-below-add-result : (t : ℕ) → count-below-lts.Need-add-result (told t) (count-below-at t) count-below.Post
 count-below-add-result t c =
-    let a = c .before .before .before .before .before .before .before .before .before .before .args in
-    let rs = all (now (a .page)) (now (a .key)) in
-    omega (arith, c .before .count-below .ensures, c .count-below2 .ensures, below-most fnv rs (a .k + 1) (2 * a .v), below-most fnv rs (a .k + 1) (2 * a .v + 1))
+    let b = c .before .before .before .before .before .before .before in
+    let m : 2 ^ S t b .deepest ≤ 2 ^ 12 = pow-mono (twelve (S t b) (P t b .sized)) in
+    omega (arith, m, c .before .count-below .ensures, c .count-below2 .ensures, below-most (S t b) fnv (rs t b) (k t b + 1) (2 * v t b), below-most (S t b) fnv (rs t b) (k t b + 1) (2 * v t b + 1))
 
 count-below-returns-4 : (t : ℕ) → count-below-lts.Need-returns-4 (told t) (count-below-at t) count-below.Post
 count-below-returns-4 t c =
-    let z = c .before .before .before .before .before .before .before .before .before .before in
-    let a = z .args in
-    let rs = all (now (a .page)) (now (a .key)) in
-    let n = c .before .before .if3 .left in
-    let o : 1016 < needs-of rs (a .k) (a .v) = omega (arith, c .before .before .before .if2 .left, c .before .before .before .before .before .load .ensures) in
-    let e = below-two fnv rs (a .k) (a .v) (omega (arith, z .pre .1 .0, n)) o in
-    let l = ap length e ∙ length-append (below fnv rs (a .k + 1) (2 * a .v)) (below fnv rs (a .k + 1) (2 * a .v + 1)) in
+    let d = c .before .before in
+    let b = d .before .before .before .before .before in
+    let o : S t b .capacity < needs (rowsOf fnv (rs t b) (k t b) (v t b)) = omega (arith, d .before .before .if2 .left, b .load .ensures) in
+    let e = below-two (S t b) fnv (rs t b) (k t b) (v t b) (shallow t b (d .if3 .left)) o in
+    let l = ap length e ∙ length-append (below (S t b) fnv (rs t b) (k t b + 1) (2 * v t b)) (below (S t b) fnv (rs t b) (k t b + 1) (2 * v t b + 1)) in
     omega (arith, c .before .count-below .ensures, c .count-below2 .ensures, l)
 
 pub +count-below-spec : {M : Type 1} → statement M

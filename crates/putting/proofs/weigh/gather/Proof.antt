@@ -9,15 +9,15 @@ use Rattle.hash.specs.Fnv.{fnv}
 use lib.ListN.{length, length-set}
 use denote.Ref.{now}
 use native.Mathlib.Omega.{arith}
-use Prim.Native.Nat.{ℕ, _+_, _-_, _≤_, _<_}
+use Prim.Native.Nat.{ℕ, _+_, _*_, _-_, _≤_, _<_}
 use mathlib.Core.List.{List}
-use mathlib.Core.Path.{_≡_, refl, sym, ap, _∙_}
+use mathlib.Core.Path.{_≡_, refl, ap, _∙_}
 use borrow.Author.Needs.{needs}
 use Rattle.putting.proofs.weigh.gather.Statement.{statement}
 use Rattle.putting.proofs.weigh.gather.Tie as tie
 
 abbrev Inv-loop : tie.InvT-loop
-Inv-loop page key hs₀ ns₀ n i₀ hs ns i = (i ≤ n) × Filled (λ j x. x ≡ fnv (code page j)) 79 0 i hs × Filled (λ j x. x ≡ weight (code page j)) 79 0 i ns
+Inv-loop page key hs₀ ns₀ n i₀ hs ns i = (i ≤ n) × Filled (λ j x. x ≡ fnv (code page j)) (length hs₀) 0 i hs × Filled (λ j x. x ≡ weight (code page j)) (length ns₀) 0 i ns
 
 abbrev μ-loop : tie.MeasureT-loop
 μ-loop page key hs₀ ns₀ n i₀ hs ns i = n - i
@@ -33,22 +33,26 @@ module _ (l : tie.At-loop Inv-loop μ-loop) where
   all : l .before .get16 .result ≡ count page
   all = l .before .get16 .ensures .0
 
-  small : l .before .get16 .result < 79
-  small = omega (arith, all, z .pre .2)
+  small : 4 * l .before .get16 .result ≤ 16384
+  small = omega (arith, all, z .pre .page .room, z .pre .page .most)
+
+  hashes : l .before .get16 .result < length (now (z .args .hs))
+  hashes = omega (arith, all, z .pre .hashes)
+
+  weights : l .before .get16 .result < length (now (z .args .ns))
+  weights = omega (arith, all, z .pre .weights)
 
   there : l .loop .i < l .before .get16 .result → l .loop .i < count page
   there t = omega (arith, all)
 
 get16-requires : tie.Need-get16-requires Inv-loop μ-loop
-get16-requires c κs = omega (arith, c .before .before .before .before .pre .0 .least)
+get16-requires c κs = omega (arith, c .before .before .before .before .pre .page .least)
 
 loop-holds : tie.Need-loop-holds Inv-loop μ-loop
-loop-holds c =
-    let z = c .before .before .before .before .before in
-    (omega arith, filled-none _ 79 0 _ (z .pre .3), filled-none _ 79 0 _ (z .pre .4))
+loop-holds c = (omega arith, filled-none _ _ 0 _ refl, filled-none _ _ 0 _ refl)
 
 code-at-requires : tie.Need-code-at-requires Inv-loop μ-loop
-code-at-requires c κs = (z (c .before) .pre .0, there (c .before) (c .loop-test .taken))
+code-at-requires c κs = (z (c .before) .pre .page, there (c .before) (c .loop-test .taken))
 
 hash-requires : tie.Need-hash-requires Inv-loop μ-loop
 hash-requires c κs = search needs
@@ -58,13 +62,13 @@ short : (c : tie.After-code-at Inv-loop μ-loop) → length (now (c .code-at .re
 short c =
     let l = c .before .before in
     let t = there l (c .before .loop-test .taken) in
-    rw (c .code-at .ensures) (omega (arith, lies (l .loop .i) (z l .pre .0) t, len-of-code (page l) (l .loop .i) (z l .pre .0) t))
+    rw (c .code-at .ensures) (omega (arith, lies (l .loop .i) (z l .pre .page) t, len-of-code (page l) (l .loop .i) (z l .pre .page) t))
 
 mul-hs : tie.Need-mul-hs Inv-loop μ-loop
 mul-hs c = let l = c .before .before .before in omega (arith, small l, c .before .before .loop-test .taken)
 
 slice-write-hs : tie.Need-slice-write-hs Inv-loop μ-loop
-slice-write-hs c = let l = c .before .before .before in omega (arith, small l, c .before .before .loop-test .taken, l .loop .inv .1 .long)
+slice-write-hs c = let l = c .before .before .before in omega (arith, hashes l, c .before .before .loop-test .taken, l .loop .inv .1 .long)
 
 add-ns : tie.Need-add-ns Inv-loop μ-loop
 add-ns c = omega (arith, short (c .before))
@@ -76,7 +80,7 @@ mul-ns : tie.Need-mul-ns Inv-loop μ-loop
 mul-ns c = let l = c .before .before .before in omega (arith, small l, c .before .before .loop-test .taken)
 
 slice-write-ns : tie.Need-slice-write-ns Inv-loop μ-loop
-slice-write-ns c = let l = c .before .before .before in omega (arith, small l, c .before .before .loop-test .taken, l .loop .inv .2 .long)
+slice-write-ns c = let l = c .before .before .before in omega (arith, weights l, c .before .before .loop-test .taken, l .loop .inv .2 .long)
 
 add-i : tie.Need-add-i Inv-loop μ-loop
 add-i c = let l = c .before .before .before in omega (arith, small l, c .before .before .loop-test .taken)
@@ -87,11 +91,10 @@ loop-less c = omega (arith, c .before .before .loop-test .taken)
 loop-again : tie.Need-loop-again Inv-loop μ-loop
 loop-again c =
     let l = c .before .before .before in
-    let t = c .before .before .loop-test .taken in
-    let m : l .loop .i < 79 = omega (arith, small l, t) in (
+    let t = c .before .before .loop-test .taken in (
       omega (arith, t),
-      filled-more _ (l .loop .inv .1) m (c .hash .ensures ∙ ap fnv (c .before .code-at .ensures)),
-      filled-more _ (l .loop .inv .2) m (ap weight (c .before .code-at .ensures)),
+      filled-more _ (l .loop .inv .1) (omega (arith, hashes l, t)) (c .hash .ensures ∙ ap fnv (c .before .code-at .ensures)),
+      filled-more _ (l .loop .inv .2) (omega (arith, weights l, t)) (ap weight (c .before .code-at .ensures)),
     )
 
 hash-requires-2 : tie.Need-hash-requires-2 Inv-loop μ-loop
@@ -101,25 +104,25 @@ mul-hs-2 : tie.Need-mul-hs-2 Inv-loop μ-loop
 mul-hs-2 c = omega (arith, small (c .before .before))
 
 slice-write-hs-2 : tie.Need-slice-write-hs-2 Inv-loop μ-loop
-slice-write-hs-2 c = let l = c .before .before in omega (arith, small l, l .loop .inv .1 .long)
+slice-write-hs-2 c = let l = c .before .before in omega (arith, hashes l, l .loop .inv .1 .long)
 
 add-ns-2 : tie.Need-add-ns-2 Inv-loop μ-loop
-add-ns-2 c = omega (arith, z (c .before .before) .pre .1)
+add-ns-2 c = omega (arith, z (c .before .before) .pre .good .most)
 
 cast-ns-2 : tie.Need-cast-ns-2 Inv-loop μ-loop
-cast-ns-2 c = omega (arith, z (c .before .before) .pre .1)
+cast-ns-2 c = omega (arith, z (c .before .before) .pre .good .most)
 
 mul-ns-2 : tie.Need-mul-ns-2 Inv-loop μ-loop
 mul-ns-2 c = omega (arith, small (c .before .before))
 
 slice-write-ns-2 : tie.Need-slice-write-ns-2 Inv-loop μ-loop
-slice-write-ns-2 c = let l = c .before .before in omega (arith, small l, l .loop .inv .2 .long)
+slice-write-ns-2 c = let l = c .before .before in omega (arith, weights l, l .loop .inv .2 .long)
 
 same-length : tie.Need-same-length Inv-loop μ-loop
-same-length c = let l = c .before .before in length-set (l .loop .hs) (l .before .get16 .result) (c .hash2 .result) ∙ l .loop .inv .1 .long ∙ sym (z l .pre .3)
+same-length c = let l = c .before .before in length-set (l .loop .hs) (l .before .get16 .result) (c .hash2 .result) ∙ l .loop .inv .1 .long
 
 same-length-2 : tie.Need-same-length-2 Inv-loop μ-loop
-same-length-2 c = let l = c .before .before in length-set (l .loop .ns) (l .before .get16 .result) (12 + length (now (z l .args .key))) ∙ l .loop .inv .2 .long ∙ sym (z l .pre .4)
+same-length-2 c = let l = c .before .before in length-set (l .loop .ns) (l .before .get16 .result) (12 + length (now (z l .args .key))) ∙ l .loop .inv .2 .long
 
 returns : tie.Need-returns Inv-loop μ-loop
 returns c =
@@ -127,7 +130,12 @@ returns c =
     let n = l .before .get16 .result in
     let e = c .before .loop-test .left in
     let key = now (z l .args .key) in
-    (told fnv (page l) key (l .loop .inv .1) n (all l) e (small l) _ (c .hash2 .ensures), told weight (page l) key (l .loop .inv .2) n (all l) e (small l) _ refl)
+    record {
+      page = z l .pre .page;
+      good = z l .pre .good;
+      hashes = told fnv (page l) key (l .loop .inv .1) n (all l) e (hashes l) _ (c .hash2 .ensures);
+      weights = told weight (page l) key (l .loop .inv .2) n (all l) e (weights l) _ refl;
+    }
 
 pub gather-spec : {M : Type 1} → statement M
 gather-spec =

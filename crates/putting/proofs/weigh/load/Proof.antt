@@ -35,16 +35,16 @@ module _ (b : tie.After-get16 Inv-loop μ-loop) where
   all = b .get16 .ensures .0
 
   small : 4 * n ≤ 16384
-  small = omega (arith, all, z .pre .1 .room, z .pre .1 .most)
+  small = omega (arith, all, z .pre .0 .page .room, z .pre .0 .page .most)
 
   hashes : n < length (now (z .args .hs))
-  hashes = omega (arith, all, z .pre .3 .rows .long)
+  hashes = omega (arith, all, z .pre .0 .hashes .rows .long)
 
   weights : n < length (now (z .args .ns))
-  weights = omega (arith, all, z .pre .4 .rows .long)
+  weights = omega (arith, all, z .pre .0 .weights .rows .long)
 
 get16-requires : tie.Need-get16-requires Inv-loop μ-loop
-get16-requires c κs = omega (arith, c .before .before .before .before .pre .1 .least)
+get16-requires c κs = omega (arith, c .before .before .before .before .pre .0 .page .least)
 
 mul-need-of : tie.Need-mul-need-of Inv-loop μ-loop
 mul-need-of c = omega (arith, small c)
@@ -59,16 +59,16 @@ shared-slice-read-need-of-2 : tie.Need-shared-slice-read-need-of-2 Inv-loop μ-l
 shared-slice-read-need-of-2 c = omega (arith, weights (c .before .before))
 
 need-of-requires : tie.Need-need-of-requires Inv-loop μ-loop
-need-of-requires c κs = z (c .before .before) .pre .0
+need-of-requires c κs = z (c .before .before) .pre .1
 
 loop-holds : tie.Need-loop-holds Inv-loop μ-loop
 loop-holds c =
     let b = c .before .before .before in
     let a = z b .args in
-    let p = z b .pre in
-    let w = ap (λ m. getD (now (a .ns)) m 0) (all b) ∙ p .4 .new in
-    let e = new-told fnv (page b) (now (a .key)) (now (a .hs)) (now (a .ns)) (a .k) (a .v) (p .3) (p .4) (n b) (all b) in
-    (omega arith, omega (arith, c .need-of .ensures .1, w, p .2), omega (arith, c .need-of .ensures .0 ∙ e, load-cons fnv (keyed (now (a .key))) (map asRow (rows (page b))) (a .k) (a .v)))
+    let p = z b .pre .0 in
+    let w = ap (λ m. getD (now (a .ns)) m 0) (all b) ∙ p .weights .new in
+    let e = new-told fnv (page b) (now (a .key)) (now (a .hs)) (now (a .ns)) (a .k) (a .v) (p .hashes) (p .weights) (n b) (all b) in
+    (omega arith, omega (arith, c .need-of .ensures .1, w, p .good .most), omega (arith, c .need-of .ensures .0 ∙ e, load-cons fnv (keyed (now (a .key))) (map asRow (rows (page b))) (a .k) (a .v)))
 
 -- a slot's row
 module _ (c : tie.In-loop Inv-loop μ-loop) where
@@ -94,7 +94,7 @@ shared-slice-read-need-of-4 : tie.Need-shared-slice-read-need-of-4 Inv-loop μ-l
 shared-slice-read-need-of-4 c = omega (arith, weights (b1 (c .before .before)), c .before .before .loop-test .taken)
 
 need-of-requires-2 : tie.Need-need-of-requires-2 Inv-loop μ-loop
-need-of-requires-2 c κs = z (b1 (c .before .before)) .pre .0
+need-of-requires-2 c κs = z (b1 (c .before .before)) .pre .1
 
 -- what it adds is small
 module _ (c : tie.After-need-of2 Inv-loop μ-loop) where
@@ -103,8 +103,8 @@ module _ (c : tie.After-need-of2 Inv-loop μ-loop) where
 
   more : c .need-of2 .result ≤ 76
   more =
-      let p = z (b1 d) .pre in
-      omega (arith, c .need-of2 .ensures .1, p .4 .rows .at (i d) (there d), light (page (b1 d)) (i d) (p .1) (there d))
+      let p = z (b1 d) .pre .0 in
+      omega (arith, c .need-of2 .ensures .1, p .weights .rows .at (i d) (there d), light (page (b1 d)) (i d) (p .page) (there d))
 
 add-sum : tie.Need-add-sum Inv-loop μ-loop
 add-sum c = record { fits = omega (arith, more c, small (b1 (d c)), d c .before .loop .inv .0, d c .before .loop .inv .1) }
@@ -120,9 +120,12 @@ loop-again c =
     let l = d c .before .loop in
     let b = b1 (d c) in
     let a = z b .args in
-    let p = z b .pre in
-    let e = slot-told fnv (page b) (now (a .key)) (now (a .hs)) (now (a .ns)) (a .k) (a .v) (p .3) (p .4) (l .i) (there (d c)) in
+    let p = z b .pre .0 in
+    let e = slot-told fnv (page b) (now (a .key)) (now (a .hs)) (now (a .ns)) (a .k) (a .v) (p .hashes) (p .weights) (l .i) (there (d c)) in
     (omega (arith, d c .loop-test .taken), omega (arith, more c, l .inv .1), omega (arith, c .need-of2 .ensures .0 ∙ e, l .inv .2, load-slot fnv (page b) (l .i) (a .k) (a .v) (there (d c))))
+
+cast-result : tie.Need-cast-result Inv-loop μ-loop
+cast-result c = omega arith
 
 returns : tie.Need-returns Inv-loop μ-loop
 returns c =
@@ -152,4 +155,5 @@ load-spec =
     add-i
     loop-less
     loop-again
+    cast-result
     returns)

@@ -32,7 +32,7 @@ gather-row-requires c κs = let h = c .before .before .before .before in
     let z = h .before .before .before .before in
     let other = says-false (h .has-code .result) (not-true _ (c .before .before .before .if1 .taken)) (h .has-code .ensures) in
     rw (c .before .code-at .ensures, c .place-at .ensures)
-    (slot-storable (g z) (i z) (z .pre .0) (z .pre .1), subst (Taking (now (z .args .to))) (cut-other (rowIn (g z) (i z)) (now (z .args .key)) other) (z .pre .2))
+    (slot-storable (g z) (i z) (z .pre .page) (z .pre .slot), subst (Taking (now (z .args .to))) (cut-other (rowIn (g z) (i z)) (now (z .args .key)) other) (z .pre .room))
 
 same-length : tie.Need-same-length
 same-length c = search needs
@@ -49,7 +49,7 @@ returns c = let w = c .before .before in
 returns-2 : tie.Need-returns-2
 returns-2 c = let z = c .before .before .before .before .before in
     let same = says-true (c .before .has-code .result) (not-false _ (c .if1 .left)) (c .before .has-code .ensures) in
-    subst (λ l. Gathered (now (z .args .to)) l (now (z .args .to))) (sym (cut-same (rowIn (g z) (i z)) (now (z .args .key)) same)) (none-added (z .pre .2 .tight))
+    subst (λ l. Gathered (now (z .args .to)) l (now (z .args .to))) (sym (cut-same (rowIn (g z) (i z)) (now (z .args .key)) same)) (none-added (z .pre .room .tight))
 
 pub add-other-spec : {M : Type 1} → statement M
 add-other-spec =

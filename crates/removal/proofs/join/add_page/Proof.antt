@@ -18,7 +18,7 @@ add-rows-requires c κs = let z = c .before .before .before .before .before .bef
     let g = now (z .args .from) in
     let e = sym (c .before .before .is-within .ensures) ∙ c .before .if1 .taken in
     let b = within-page fnv (z .args .j) (z .args .v) g (z .pre .0) e in
-    (b .rules, subst (Taking (now (z .args .to))) (others-on fnv (z .args .j) (z .args .v) (now (z .args .key)) g b e) (z .pre .3))
+    (b .rules, subst (Taking (now (z .args .to))) (others-on fnv (z .args .j) (z .args .v) (now (z .args .key)) g b e) (z .pre .1))
 
 same-length : tie.Need-same-length
 same-length c = search needs
@@ -33,7 +33,7 @@ returns c = let z = c .before .before .before .before .before .before .before .b
 returns-2 : tie.Need-returns-2
 returns-2 c = let z = c .before .before .before .before .before in
     let e = sym (c .before .is-within .ensures) ∙ c .if1 .left in
-    subst (λ l. Gathered (now (z .args .to)) l (now (z .args .to))) (sym (others-off fnv (z .args .j) (z .args .v) (now (z .args .key)) (read (now (z .args .from))) e)) (none-added (z .pre .3 .tight))
+    subst (λ l. Gathered (now (z .args .to)) l (now (z .args .to))) (sym (others-off fnv (z .args .j) (z .args .v) (now (z .args .key)) (read (now (z .args .from))) e)) (none-added (z .pre .1 .tight))
 
 pub add-page-spec : {M : Type 1} → statement M
 add-page-spec =

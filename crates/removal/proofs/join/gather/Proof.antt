@@ -3,23 +3,25 @@ use mathlib.Core.List.{List, _++_}
 use mathlib.Core.Path.{_≡_, subst, _∙_}
 use Prim.Native.Nat.{ℕ, _+_, _-_, _*_, _≤_}
 use native.Mathlib.Omega.{arith}
-use lib.ListN.{length, take, drop}
+use lib.ListN.{length, drop}
 use denote.Ref.{now}
 use Rattle.hash.specs.Fnv.{fnv}
 use Rattle.partition.specs.Partition.{Row}
-use Rattle.store.specs.Pages.{S1024, Page, page, contents, read}
-use Rattle.directory.specs.Directory.{SoundPage}
+use Rattle.partition.specs.declared.Shape.{Shape}
+use Rattle.store.specs.Pages.{size, Page, page, contents, read}
+use Rattle.store.proofs.Paging.Views.{page-lent}
+use Rattle.directory.specs.Directory.{Settling}
 use Rattle.removal.specs.Join.{othersOn, othersIn}
-use Rattle.removal.proofs.Prefixes.{lent-sound, page-at, listed}
+use Rattle.removal.proofs.Prefixes.{page-there, page-testable, page-at, listed}
 use Rattle.removal.proofs.Gathers.{Coming, coming-all, coming-none, next-taking, next-coming, pages-next, pages-end}
 use Rattle.removal.proofs.join.gather.Statement.{statement}
 use Rattle.removal.proofs.join.gather.Tie as tie
 
 abbrev Inv-loop : tie.InvT-loop
-Inv-loop to₀ s n j v key p₀ to p = (2 ≤ p) × (p ≤ n) × Coming to₀ (othersIn fnv j v key (contents S1024 s)) (othersIn fnv j v key (drop (p - 2) (contents S1024 s))) to
+Inv-loop to₀ s z n j v key p₀ to p = (2 ≤ p) × (p ≤ n) × Coming to₀ (othersIn fnv j v key (contents z s)) (othersIn fnv j v key (drop (p - 2) (contents z s))) to
 
 abbrev μ-loop : tie.MeasureT-loop
-μ-loop to₀ s n j v key p₀ to p = n - p
+μ-loop to₀ s z n j v key p₀ to p = n - p
 
 -- page p, in a turn
 module _ (b : tie.In-loop Inv-loop μ-loop) where
@@ -32,49 +34,61 @@ module _ (b : tie.In-loop Inv-loop μ-loop) where
   abbrev s : List ℕ
   s = now (z .args .s)
 
+  abbrev S : Shape
+  S = z .args .z
+
+  P : Settling S s (z .args .n)
+  P = z .pre .0 .sound
+
   abbrev gs : List Page
-  gs = contents S1024 s
+  gs = contents S s
 
   abbrev from : List Page → List Row
   from l = othersIn fnv (z .args .j) (z .args .v) (now (z .args .key)) l
 
   abbrev here : List Row
-  here = othersOn fnv (z .args .j) (z .args .v) (now (z .args .key)) (read (page S1024 s p))
+  here = othersOn fnv (z .args .j) (z .args .v) (now (z .args .key)) (read (page S s p))
 
-  lent : (take (p * 1024 + 1024 - p * 1024) (drop (p * 1024) s) ≡ page S1024 s p) × SoundPage S1024 (page S1024 s p) × (length (page S1024 s p) ≡ 1024)
-  lent = lent-sound s (z .args .n) (z .pre .0) p (b .before .loop .inv .0) (b .loop-test .taken)
+  there : p * size S + size S ≤ length s
+  there = page-there S s (z .args .n) P p (b .loop-test .taken)
 
   coming : Coming (now (z .args .to)) (from gs) (here ++ from (drop (p + 1 - 2) gs)) (b .before .loop .to)
   coming =
       let two = b .before .loop .inv .0 in
-      let n = listed s (z .args .n) (z .pre .0) in
+      let n = listed S s (z .args .n) P in
       let e : p - 2 + 1 ≡ p + 1 - 2 = omega (arith, two) in
       subst (λ l. Coming (now (z .args .to)) (from gs) l (b .before .loop .to))
       (pages-next fnv (z .args .j) (z .args .v) (now (z .args .key)) gs (p - 2) (omega (arith, n, two, b .loop-test .taken))
-      ∙ (λ i. othersOn fnv (z .args .j) (z .args .v) (now (z .args .key)) (page-at s (z .args .n) (z .pre .0) p two (b .loop-test .taken) i) ++ from (drop (e i) gs)))
+      ∙ (λ i. othersOn fnv (z .args .j) (z .args .v) (now (z .args .key)) (page-at S s (z .args .n) P p two (b .loop-test .taken) i) ++ from (drop (e i) gs)))
       (b .before .loop .inv .2)
 
 loop-holds : tie.Need-loop-holds Inv-loop μ-loop
-loop-holds c = (omega arith, omega (arith, c .before .before .before .pre .0 .least), coming-all (c .before .before .before .pre .2))
+loop-holds c = (omega arith, omega (arith, c .before .before .before .pre .0 .sound .least), coming-all (c .before .before .before .pre .1))
+
+add-size : tie.Need-add-size Inv-loop μ-loop
+add-size c = omega (arith, there (c .before))
 
 mul-a : tie.Need-mul-a Inv-loop μ-loop
-mul-a c = omega (arith, c .before .before .before .before .before .pre .0 .most)
+mul-a c = omega (arith, there (c .before))
 
 add-e : tie.Need-add-e Inv-loop μ-loop
-add-e c = omega (arith, c .before .before .before .before .before .pre .0 .most)
+add-e c = omega (arith, there (c .before))
 
 sub-add-page : tie.Need-sub-add-page Inv-loop μ-loop
 sub-add-page c = omega arith
 
 part-add-page-start : tie.Need-part-add-page-start Inv-loop μ-loop
-part-add-page-start c = omega (arith, c .before .before .before .before .before .before .pre .0 .most)
+part-add-page-start c = omega (arith, there (c .before .before))
 
 part-add-page-end : tie.Need-part-add-page-end Inv-loop μ-loop
-part-add-page-end c = omega (arith, c .before .before .before .before .before .before .pre .0 .long)
+part-add-page-end c = omega (arith, there (c .before .before))
 
 add-page-requires : tie.Need-add-page-requires Inv-loop μ-loop
-add-page-requires c κs = let b = c .before .before in
-    rw (lent b .0) (lent b .1, lent b .2, z b .pre .1, next-taking (here b) (from b (drop (p b + 1 - 2) (gs b))) (coming b) (z b .pre .2))
+add-page-requires c κs = let b = c .before .before .before in
+    rw (page-lent (S b) (s b) (p b)) (
+      page-testable (S b) (s b) (z b .args .n) (P b) (z b .pre .0 .sized) (z b .args .j) (z b .pre .0 .bits) (p b) (b .before .loop .inv .0) (b .loop-test .taken),
+      next-taking (here b) (from b (drop (p b + 1 - 2) (gs b))) (coming b) (z b .pre .1),
+    )
 
 add-p : tie.Need-add-p Inv-loop μ-loop
 add-p c = omega arith
@@ -83,19 +97,19 @@ loop-less : tie.Need-loop-less Inv-loop μ-loop
 loop-less c = omega arith
 
 loop-again : tie.Need-loop-again Inv-loop μ-loop
-loop-again c = let b = c .before .before .before .before .before in
-    (omega arith, omega arith, next-coming (here b) (from b (drop (p b + 1 - 2) (gs b))) (coming b) (rw (lent b .0) at (c .before .before .add-page .ensures)))
+loop-again c = let b = c .before .before .before .before .before .before in
+    (omega arith, omega arith, next-coming (here b) (from b (drop (p b + 1 - 2) (gs b))) (coming b) (rw (page-lent (S b) (s b) (p b)) at (c .before .before .add-page .ensures)))
 
 same-length : tie.Need-same-length Inv-loop μ-loop
-same-length c = omega (arith, c .before .loop .inv .2 .tight .long, c .before .before .before .before .before .pre .2 .tight .long)
+same-length c = c .before .loop .inv .2 .long
 
 returns : tie.Need-returns Inv-loop μ-loop
 returns c = let z = c .before .before .before .before .before in
     let l = c .before .loop in
     let s = now (z .args .s) in
-    let e : l .p - 2 ≡ length (contents S1024 s) = omega (arith, listed s (z .args .n) (z .pre .0)) in
-    coming-none (subst (λ r. Coming (now (z .args .to)) (othersIn fnv (z .args .j) (z .args .v) (now (z .args .key)) (contents S1024 s)) r (l .to))
-    (pages-end fnv (z .args .j) (z .args .v) (now (z .args .key)) (contents S1024 s) (l .p - 2) e) (l .inv .2))
+    let e : l .p - 2 ≡ length (contents (z .args .z) s) = omega (arith, listed (z .args .z) s (z .args .n) (z .pre .0 .sound)) in
+    coming-none (subst (λ r. Coming (now (z .args .to)) (othersIn fnv (z .args .j) (z .args .v) (now (z .args .key)) (contents (z .args .z) s)) r (l .to))
+    (pages-end fnv (z .args .j) (z .args .v) (now (z .args .key)) (contents (z .args .z) s) (l .p - 2) e) (l .inv .2))
 
 pub gather-spec : {M : Type 1} → statement M
 gather-spec =
@@ -104,6 +118,7 @@ gather-spec =
     Inv-loop
     μ-loop
     loop-holds
+    add-size
     mul-a
     add-e
     sub-add-page

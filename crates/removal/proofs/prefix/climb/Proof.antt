@@ -6,17 +6,16 @@ use native.Mathlib.Omega.{arith}
 use denote.Ref.{now}
 use Rattle.ground.proofs.Tests.{says-true, says-false}
 use Rattle.hash.specs.Fnv.{fnv}
-use Rattle.partition.specs.Bits.{top}
-use Rattle.partition.specs.Partition.{needs, rowsOf}
-use Rattle.store.specs.Pages.{S1024, rowsHeld}
+use Rattle.store.specs.Pages.{rowsHeld}
+use Rattle.removal.specs.Prefix.{needsOf}
 use Rattle.removal.proofs.prefix.climb.Statement.{statement}
 use Rattle.removal.proofs.prefix.climb.Tie as tie
 
 abbrev Inv-loop : tie.InvT-loop
-Inv-loop s x k need j₀ j = (j ≤ k) × (j < k → needs (rowsOf fnv (rowsHeld S1024 s) j (top j x)) ≤ 1016 + need)
+Inv-loop s z x k need j₀ j = (j ≤ k) × (j < k → needsOf fnv (rowsHeld z s) x j ≤ z .capacity + need)
 
 abbrev μ-loop : tie.MeasureT-loop
-μ-loop s x k need j₀ j = j
+μ-loop s z x k need j₀ j = j
 
 loop-holds : tie.Need-loop-holds Inv-loop μ-loop
 loop-holds c = (omega arith, λ l. absurd (omega arith))
@@ -25,21 +24,23 @@ sub-needs-at-most : tie.Need-sub-needs-at-most Inv-loop μ-loop
 sub-needs-at-most c = omega arith
 
 add-needs-at-most : tie.Need-add-needs-at-most Inv-loop μ-loop
-add-needs-at-most c = omega arith
+add-needs-at-most c = let z = c .before .before .before .before in omega (arith, z .pre .0, z .pre .1 .one)
 
 needs-at-most-requires : tie.Need-needs-at-most-requires Inv-loop μ-loop
-needs-at-most-requires c κs = let z = c .before .before .before in (z .pre .0, record { depth = z .args .k; is = z .pre .1; low = omega arith })
+needs-at-most-requires c κs = let z = c .before .before .before .before in
+    let w = c .before .before .loop .inv .0 in
+    (z .pre .0, record { accepted = z .pre .1 .accepted; depth = z .args .k; is = z .pre .1 .is; low = omega (arith, w) })
 
 returns : tie.Need-returns Inv-loop μ-loop
-returns c = let l = c .before .before .before .loop in
-    let z = c .before .before .before .before .before in
+returns c = let l = c .before .before .before .before .loop in
+    let z = c .before .before .before .before .before .before in
     record {
       most = l .inv .0;
       fit = l .inv .1;
       over = λ i e.
           let q : l .j - 1 ≡ i = omega (arith, e) in
           let n = says-false (c .before .needs-at-most .result) (not-true _ (c .if1 .taken)) (c .before .needs-at-most .ensures) in
-          subst (λ m. 1016 + z .args .need < needs (rowsOf fnv (rowsHeld S1024 (now (z .args .s))) m (top m (z .args .x)))) q (omega (arith, n));
+          subst (λ m. z .args .z .capacity + z .args .need < needsOf fnv (rowsHeld (z .args .z) (now (z .args .s))) (z .args .x) m) q (omega (arith, n));
     }
 
 sub-j : tie.Need-sub-j Inv-loop μ-loop

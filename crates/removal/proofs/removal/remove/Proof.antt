@@ -26,11 +26,11 @@ module _ (c : tie.Else1) where
 
 -- past the door
 module _ (c : tie.Else2) where
-  abbrev first : tie.Else1
-  first = c .before .before
+  abbrev earlier : tie.Else1
+  earlier = c .before .before
 
-  good : GoodCode (now (z first .args .key))
-  good = says-true {P = GoodCode (now (z first .args .key))} (c .before .good-code .result) (not-false _ (c .if2 .left)) (c .before .good-code .ensures)
+  good : GoodCode (now (z earlier .args .key))
+  good = says-true {P = GoodCode (now (z earlier .args .key))} (c .before .good-code .result) (not-false _ (c .if2 .left)) (c .before .good-code .ensures)
 
 good-length-requires : tie.Need-good-length-requires
 good-length-requires c κs = sized-1024
@@ -55,7 +55,7 @@ returns-2 c =
     inr ((λ _ n. n (long e)), inl (tt, (three (now (z e .args .key)) (says-false {P = GoodCode (now (z e .args .key))} (c .before .good-code .result) (not-true _ (c .if2 .taken)) (c .before .good-code .ensures)), refl)))
 
 first-bad-requires : tie.Need-first-bad-requires
-first-bad-requires c κs = long (first (c .before))
+first-bad-requires c κs = long (earlier (c .before))
 
 same-length-3 : tie.Need-same-length-3
 same-length-3 c = search needs
@@ -64,10 +64,13 @@ returns-3 : tie.Need-returns-3
 unfolding removeTable
 returns-3 c =
     let d = c .before .before .before in
-    inr ((λ _ n. n (long (first d))), inr ((λ _ r. no-three _ (good d) r), inl (c .before .first-bad .result, (c .before .first-bad .ensures .bad (c .if3 .taken), refl))))
+    inr ((λ _ n. n (long (earlier d))), inr ((λ _ r. no-three _ (good d) r), inl (c .before .first-bad .result, (c .before .first-bad .ensures .bad (c .if3 .taken), refl))))
+
+slice-aggregate-remove-row : tie.Need-slice-aggregate-remove-row
+slice-aggregate-remove-row c = search needs
 
 remove-row-requires : tie.Need-remove-row-requires
-remove-row-requires c κs = c .before .before .first-bad .ensures .sound (c .before .if3 .left)
+remove-row-requires c κs = (record { sized = sized-1024; blank = refl }, c .before .before .before .first-bad .ensures .sound (c .before .before .if3 .left))
 
 same-length-4 : tie.Need-same-length-4
 same-length-4 c = search needs
@@ -75,10 +78,10 @@ same-length-4 c = search needs
 returns-4 : tie.Need-returns-4
 unfolding removeTable
 returns-4 c =
-    let b = c .before .before .before .before in
+    let b = c .before .before .before .before .before .before in
     let d = b .before .before .before in
     let a = b .before .first-bad .ensures .sound (b .if3 .left) in
-    inr ((λ _ n. n (long (first d))), inr ((λ _ r. no-three _ (good d) r), inr (accepted-whole S1024 fnv (now (z (first d) .args .s)) a, (a, c .before .before .remove-row .ensures))))
+    inr ((λ _ n. n (long (earlier d))), inr ((λ _ r. no-three _ (good d) r), inr (accepted-whole S1024 fnv (now (z (earlier d) .args .s)) a, (a, c .before .before .before .remove-row .ensures .0))))
 
 pub remove-spec : {M : Type 1} → statement M
 remove-spec =
@@ -93,6 +96,7 @@ remove-spec =
     first-bad-requires
     same-length-3
     returns-3
+    slice-aggregate-remove-row
     remove-row-requires
     same-length-4
     returns-4)

@@ -2,7 +2,7 @@
 use borrow.Author.Needs.{needs}
 use mathlib.Core.List.{_++_, List}
 use mathlib.Core.Path.{_≡_, refl, sym, ap, subst, subst₂, _∙_}
-use Prim.Native.Nat.{ℕ, _+_, _-_, _*_, _/_, _≤_, _<_}
+use Prim.Native.Nat.{ℕ, _+_, _-_, _*_, _≤_, _<_}
 use native.Mathlib.Omega.{arith}
 use lib.ListN.{take, drop, length, replicate}
 use denote.Ref.{now}
@@ -13,19 +13,21 @@ use Rattle.page.specs.Steps.{Removed}
 use Rattle.page.specs.Page.{depth, count}
 use Rattle.partition.specs.Bits.{top}
 use Rattle.partition.specs.Partition.{IsBucket}
-use Rattle.store.proofs.Accepted.Unique.{page-long}
+use Rattle.store.proofs.Accepted.Unique.{page-long, within}
 use Rattle.store.specs.Tables.{Becomes}
 use Rattle.store.specs.Moves.{removed}
-use Rattle.store.specs.Pages.{S1024, Page, page, contents, rowsHeld, deepestIn, setPage}
-use Rattle.store.specs.Demands.{sized-1024}
-use Rattle.removal.specs.Remove.{Fits}
+use Rattle.partition.specs.declared.Shape.{Shape}
+use Rattle.partition.proofs.Sizes.{twelve}
+use Rattle.store.specs.Pages.{size, pages, Page, page, contents, rowsHeld, deepestIn, setPage}
+use Rattle.store.specs.Demands.{Sized}
+use Rattle.removal.specs.Remove.{Leaving, Fits}
 use Rattle.removal.specs.Join.{Joinable, Rejoined}
 use Rattle.removal.specs.Prefix.{Climbed}
-use Rattle.directory.specs.Directory.{SoundPage, free, used, Settling, Directed, Rewritten}
+use Rattle.directory.specs.Directory.{Settling, Directed, Rewritten}
 use Rattle.directory.proofs.Settles.{unwritten, settling}
-use Rattle.removal.proofs.Removes.{its-bucket, climbed-fits, loses, settles, clear-written, clear-holds, joinable, join-written, join-holds}
+use Rattle.removal.proofs.Removes.{page-shallow, its-bucket, climbed-fits, loses, settles, clear-written, clear-holds, joinable, join-written, join-holds}
 use Rattle.store.proofs.Paging.Depths.{page-byte}
-use Rattle.directory.proofs.OnePage.{lent, back}
+use Rattle.store.proofs.Paging.Views.{page-lent, page-back}
 use Rattle.removal.proofs.removal.take_out.Statement.{statement}
 use Rattle.removal.proofs.removal.take_out.Tie as tie
 
@@ -40,49 +42,57 @@ module _ (z : tie.Start) where
   abbrev key : List ℕ
   key = now (z .args .key)
 
+  abbrev S : Shape
+  S = z .args .z
+
+  sized : Sized S
+  sized = z .pre .0 .sized
+
+  L : Leaving S fnv s p (z .args .i) key
+  L = z .pre .1
+
   abbrev g : List ℕ
-  g = page S1024 s p
+  g = page S s p
 
   abbrev n : ℕ
-  n = length s / 1024
+  n = pages S s
+
+  inside : p * size S + size S ≤ length s
+  inside = within S s p (L .to)
 
   abbrev then : List Page
-  then = removed S1024 fnv (contents S1024 s) key
+  then = removed S fnv (contents S s) key
 
-  sound : Settling S1024 s n
-  sound = settling S1024 sized-1024 fnv fnv-lt s (z .pre .accepted) s (unwritten S1024 sized-1024 fnv fnv-lt s (z .pre .accepted))
+  sound : Settling S s n
+  sound = settling S sized fnv fnv-lt s (L .accepted) s (unwritten S sized fnv fnv-lt s (L .accepted))
 
-  deep : depth g ≡ byte s (p * 1024 + 1)
-  deep = page-byte S1024 s p 1 (omega arith)
+  deep : depth g ≡ byte s (p * size S + 1)
+  deep = page-byte S s p 1 (omega arith)
 
   short : length key ≤ 64
-  short = omega (arith, ap length (z .pre .coded), len-of-code g (z .args .i) (z .pre .rules .rules) (z .pre .slot), z .pre .rules .rules .long (z .args .i) (z .pre .slot))
+  short = omega (arith, ap length (L .coded), len-of-code g (z .args .i) (L .rules .rules) (L .slot), L .rules .rules .long (z .args .i) (L .slot))
 
-  shallow : depth g ≤ 8
-  shallow = go (sound .pages p (z .pre .from) (z .pre .to))
-    where
-      go : SoundPage S1024 g → depth g ≤ 8
-      go (free w) = absurd (omega (arith, w 0, z .pre .rules .rules .one))
-      go (used b d) = d
+  shallow : depth g ≤ S .deepest
+  shallow = page-shallow S sized fnv fnv-lt s p (z .args .i) key L (sound .pages p (L .from) (L .to))
 
 -- how far up the rows left fit
 module _ (b : tie.After-climb) where
   abbrev z₁ : tie.Start
-  z₁ = b .before .before .before .before .before .before
+  z₁ = b .before .before .before .before .before .before .before .before
 
   abbrev j : ℕ
   j = b .climb .result
 
-  climbed : Climbed fnv (rowsHeld S1024 (s z₁)) (fnv (key z₁)) (depth (g z₁)) (12 + length (key z₁)) j
-  climbed = subst₂ (λ x k. Climbed fnv (rowsHeld S1024 (s z₁)) x k (12 + length (key z₁)) j) (b .before .before .hash .ensures) (sym (deep z₁)) (b .climb .ensures)
+  climbed : Climbed (S z₁) fnv (rowsHeld (S z₁) (s z₁)) (fnv (key z₁)) (depth (g z₁)) (12 + length (key z₁)) j
+  climbed = subst₂ (λ x k. Climbed (S z₁) fnv (rowsHeld (S z₁) (s z₁)) x k (12 + length (key z₁)) j) (b .before .before .hash .ensures) (sym (deep z₁)) (b .climb .ensures)
 
-  fits : Fits fnv (s z₁) (key z₁) j
-  fits = climbed-fits fnv fnv-lt (s z₁) (p z₁) (z₁ .args .i) (key z₁) (z₁ .pre) (12 + length (key z₁)) j refl climbed
+  fits : Fits (S z₁) fnv (s z₁) (key z₁) j
+  fits = climbed-fits (S z₁) (sized z₁) fnv fnv-lt (s z₁) (p z₁) (z₁ .args .i) (key z₁) (L z₁) (12 + length (key z₁)) j refl climbed
 
   bits : (v : ℕ) → v ≡ top j (b .before .before .hash .result) → v ≡ top j (fnv (key z₁))
   bits v e = e ∙ ap (top j) (b .before .before .hash .ensures)
 
-  less : j < byte (s z₁) (p z₁ * 1024 + 1) → j < depth (g z₁)
+  less : j < byte (s z₁) (p z₁ * size (S z₁) + 1) → j < depth (g z₁)
   less l = omega (arith, deep z₁)
 
 -- they fit no further up than on the page
@@ -97,34 +107,47 @@ module _ (d : tie.After-get16) where
   own = omega (arith, d .before .before .before .if1 .left, deep z₂, climbed b₂ .most)
 
   counted : d .get16 .result ≡ count (g z₂)
-  counted = d .get16 .ensures .0 ∙ ap count (lent (s z₂) (p z₂))
+  counted = d .get16 .ensures .0 ∙ ap count (page-lent (S z₂) (s z₂) (p z₂))
 
   module _ (one : d .get16 .result ≡ 1) where
-    cleared : Rewritten S1024 (s z₂) (setPage S1024 (s z₂) (p z₂) (replicate 1024 0))
-    cleared = clear-written fnv fnv-lt (s z₂) (p z₂) (z₂ .args .i) (key z₂) (z₂ .pre) (j b₂) (fits b₂) (own) (sym counted ∙ one)
+    cleared : Rewritten (S z₂) (s z₂) (setPage (S z₂) (s z₂) (p z₂) (replicate (size (S z₂)) 0))
+    cleared = clear-written (S z₂) (sized z₂) fnv fnv-lt (s z₂) (p z₂) (z₂ .args .i) (key z₂) (L z₂) (j b₂) (fits b₂) (own) (sym counted ∙ one)
 
-    cleared-holds : contents S1024 (setPage S1024 (s z₂) (p z₂) (replicate 1024 0)) ≡ then z₂
-    cleared-holds = clear-holds fnv fnv-lt (s z₂) (p z₂) (z₂ .args .i) (key z₂) (z₂ .pre) (j b₂) (fits b₂) (own) (sym counted ∙ one)
+    cleared-holds : contents (S z₂) (setPage (S z₂) (s z₂) (p z₂) (replicate (size (S z₂)) 0)) ≡ then z₂
+    cleared-holds = clear-holds (S z₂) (sized z₂) fnv fnv-lt (s z₂) (p z₂) (z₂ .args .i) (key z₂) (L z₂) (j b₂) (fits b₂) (own) (sym counted ∙ one)
 
 -- the page that is cleared
-blank : (z : tie.Start) (y : List ℕ) → y ≡ replicate (length (take (p z * 1024 + 1024 - p z * 1024) (drop (p z * 1024) (s z)))) 0
-    → take (p z * 1024) (s z) ++ (y ++ drop (p z * 1024 + 1024 - p z * 1024) (drop (p z * 1024) (s z))) ≡ setPage S1024 (s z) (p z) (replicate 1024 0)
-blank z y e = back (s z) (p z) y ∙ ap (setPage S1024 (s z) (p z)) (e ∙ ap (λ x. replicate (length x) 0) (lent (s z) (p z)) ∙ ap (λ m. replicate m 0) (page-long S1024 (s z) (p z) (z .pre .to)))
+module _ (z : tie.Start) where
+  abbrev a : ℕ
+  a = p z * size (S z)
+
+  back : (y : List ℕ) → take a (s z) ++ (y ++ drop (a + size (S z) - a) (drop a (s z))) ≡ setPage (S z) (s z) (p z) y
+  back y = page-back (S z) (s z) y (p z) a (a + size (S z)) refl refl
+
+  blank : (y : List ℕ) → y ≡ replicate (length (take (a + size (S z) - a) (drop a (s z)))) 0
+      → take a (s z) ++ (y ++ drop (a + size (S z) - a) (drop a (s z))) ≡ setPage (S z) (s z) (p z) (replicate (size (S z)) 0)
+  blank y e = back y ∙ ap (setPage (S z) (s z) (p z)) (e ∙ ap (λ x. replicate (length x) 0) (page-lent (S z) (s z) (p z)) ∙ ap (λ m. replicate m 0) (page-long (S z) (s z) (p z) (L z .to)))
+
+add-size : tie.Need-add-size
+add-size c = search needs
+
+div-n : tie.Need-div-n
+div-n c = search needs
 
 mul-a : tie.Need-mul-a
-mul-a c = search needs
+mul-a c = omega (arith, inside (c .before .before .before .before))
 
 add-e : tie.Need-add-e
-add-e c = search needs
+add-e c = omega (arith, inside (c .before .before .before .before))
 
 add-k : tie.Need-add-k
-add-k c = search needs
+add-k c = omega (arith, inside (c .before .before .before .before))
 
 slice-read-k : tie.Need-slice-read-k
-slice-read-k c = search needs
+slice-read-k c = omega (arith, inside (c .before .before .before .before .before))
 
 cast-k : tie.Need-cast-k
-cast-k c = omega (arith, c .slice-known2 .given (p (c .before .before .before) * 1024 + 1))
+cast-k c = let z = c .before .before .before .before .before in omega (arith, c .slice-known3 .given (p z * size (S z) + 1))
 
 hash-requires : tie.Need-hash-requires
 hash-requires c κs = search needs
@@ -133,65 +156,75 @@ add-climb : tie.Need-add-climb
 add-climb c = search needs
 
 climb-requires : tie.Need-climb-requires
-climb-requires c κs = let z = c .before .before .before .before .before in (
-  z .pre .accepted,
-  subst₂ (λ x k. IsBucket S1024 fnv (rowsHeld S1024 (s z)) k (top k x)) (sym (c .before .hash .ensures)) (deep z) (its-bucket fnv fnv-lt (s z) (p z) (z .args .i) (key z) (z .pre)),
-  omega (arith, short z),
+climb-requires c κs = let z = c .before .before .before .before .before .before .before in (
+  sized z,
+  record {
+    accepted = L z .accepted;
+    is = subst₂ (λ x k. IsBucket (S z) fnv (rowsHeld (S z) (s z)) k (top k x)) (sym (c .before .hash .ensures)) (deep z) (its-bucket (S z) (sized z) fnv fnv-lt (s z) (p z) (z .args .i) (key z) (L z));
+    one = omega (arith, short z);
+  },
 )
 
 top-bits-requires : tie.Need-top-bits-requires
-top-bits-requires c κs = let b = c .before .before in omega (arith, climbed b .most, shallow (z₁ b))
+top-bits-requires c κs = let b = c .before .before in omega (arith, climbed b .most, shallow (z₁ b), twelve (S (z₁ b)) (sized (z₁ b)))
 
 join-requires : tie.Need-join-requires
-join-requires c κs = let b = c .before .before .before in
-    let z = z₁ b in (
-      sound z,
-      omega (arith, climbed b .most, shallow z),
-      subst (λ v. Joinable fnv (s z) (j b) v (key z)) (sym (bits b (c .top-bits .result) (c .top-bits .ensures)))
-          (joinable fnv fnv-lt (s z) (p z) (z .args .i) (key z) (z .pre) (j b) (fits b) (less b (c .before .before .if1 .taken))),
+join-requires c κs = let b = c .before .before .before .before in
+    let z = z₁ b in
+    let v = c .before .top-bits in (
+      z .pre .0,
+      subst (λ v. Joinable (S z) fnv (s z) (n z) (j b) v (key z)) (sym (bits b (v .result) (v .ensures)))
+          (joinable (S z) (sized z) fnv fnv-lt (s z) (p z) (z .args .i) (key z) (L z) (j b) (fits b) (less b (c .before .before .before .if1 .taken))),
     )
 
 settle-requires : tie.Need-settle-requires
 settle-requires c κs =
-    let t = c .before .before .before .join .ensures in
-    let P = sound (z₁ (c .before .before .before .before .before .before .before)) in
-    (sized-1024, record { long = t .long ∙ P .long; least = P .least; most = P .most; pages = t .sound })
+    let t = c .before .before .before .before .before .join .ensures .0 in
+    let z = z₁ (c .before .before .before .before .before .before .before .before .before .before) in
+    let P = sound z in
+    (sized z, record { long = t .long ∙ P .long; least = P .least; most = P .most; pages = t .sound })
 
 same-length : tie.Need-same-length
 same-length c = search needs
 
+same-length-2 : tie.Need-same-length-2
+same-length-2 c = search needs
+
 returns : tie.Need-returns
-returns c = let b = c .before .before .before .before .before .before .before .before .before .before in
+returns c = let b = c .before .before .before .before .before .before .before .before .before .before .before .before .before in
     let z = z₁ b in
-    let t = c .before .before .before .before .before .before .join in
-    let v = c .before .before .before .before .before .before .before .top-bits in
-    let l = less b (c .before .before .before .before .before .before .before .before .before .if1 .taken) in
-    let R = subst (λ v. Rejoined fnv (s z) (n z) (j b) v (key z) (t .last .0)) (bits b (v .result) (v .ensures)) (t .ensures) in
-    settles fnv fnv-lt (s z) (p z) (z .args .i) (key z) (z .pre) (j b) (fits b) (n z) refl
-    (join-written fnv fnv-lt (s z) (p z) (z .args .i) (key z) (z .pre) (j b) (fits b) l refl R)
-    (join-holds fnv fnv-lt (s z) (p z) (z .args .i) (key z) (z .pre) (j b) (fits b) l refl R)
-    (c .before .before .settle .ensures) (λ m. (c .slice-known4 .given m) .fits)
+    let t = c .before .before .before .before .before .before .before .before .join in
+    let v = c .before .before .before .before .before .before .before .before .before .before .top-bits in
+    let l = less b (c .before .before .before .before .before .before .before .before .before .before .before .before .if1 .taken) in
+    let R = subst (λ v. Rejoined (S z) fnv (s z) (n z) (j b) v (key z) (t .last .0)) (bits b (v .result) (v .ensures)) (t .ensures .0) in (
+      settles (S z) (sized z) fnv fnv-lt (s z) (p z) (z .args .i) (key z) (L z) (j b) (fits b)
+          (join-written (S z) (sized z) fnv fnv-lt (s z) (p z) (z .args .i) (key z) (L z) (j b) (fits b) l R)
+          (join-holds (S z) (sized z) fnv fnv-lt (s z) (p z) (z .args .i) (key z) (L z) (j b) (fits b) l R)
+          (c .before .before .settle .ensures) (λ m. (c .slice-known6 .given m) .fits),
+      t .ensures .1,
+    )
 
 sub-get16 : tie.Need-sub-get16
 sub-get16 c = search needs
 
 part-get16-start : tie.Need-part-get16-start
-part-get16-start c = search needs
+part-get16-start c = omega (arith, inside (z₁ (c .before .before)))
 
 part-get16-end : tie.Need-part-get16-end
-part-get16-end c = search needs
+part-get16-end c = omega (arith, inside (z₁ (c .before .before)))
 
 get16-requires : tie.Need-get16-requires
-get16-requires c κs = search needs
+get16-requires c κs = let z = z₁ (c .before .before .before) in
+    rw (page-lent (S z) (s z) (p z)) (omega (arith, page-long (S z) (s z) (p z) (L z .to)))
 
 sub-clear-page : tie.Need-sub-clear-page
 sub-clear-page c = search needs
 
 part-clear-page-start : tie.Need-part-clear-page-start
-part-clear-page-start c = search needs
+part-clear-page-start c = omega (arith, inside (z₂ (c .before)))
 
 part-clear-page-end : tie.Need-part-clear-page-end
-part-clear-page-end c = search needs
+part-clear-page-end c = omega (arith, inside (z₂ (c .before)))
 
 clear-page-requires : tie.Need-clear-page-requires
 clear-page-requires c κs = search needs
@@ -200,52 +233,58 @@ settle-requires-2 : tie.Need-settle-requires-2
 settle-requires-2 c κs = let d = c .before .before .before .before .before .before in
     let z = z₂ d in
     let one : d .get16 .result ≡ 1 = omega (arith, c .before .before .before .before .before .if2 .taken) in (
-      sized-1024,
-      subst (λ y. Settling S1024 y (n z)) (sym (blank z (c .before .before .before .clear-page .last .0) (c .before .before .before .clear-page .ensures)))
-          (settling S1024 sized-1024 fnv fnv-lt (s z) (z .pre .accepted) (setPage S1024 (s z) (p z) (replicate 1024 0)) (cleared d one)),
+      sized z,
+      subst (λ y. Settling (S z) y (n z)) (sym (blank z (c .before .before .before .clear-page .last .0) (c .before .before .before .clear-page .ensures)))
+          (settling (S z) (sized z) fnv fnv-lt (s z) (L z .accepted) (setPage (S z) (s z) (p z) (replicate (size (S z)) 0)) (cleared d one)),
     )
 
-same-length-2 : tie.Need-same-length-2
-same-length-2 c = search needs
+same-length-3 : tie.Need-same-length-3
+same-length-3 c = search needs
 
 returns-2 : tie.Need-returns-2
 returns-2 c = let d = c .before .before .before .before .before .before .before .before .before in
     let z = z₂ d in
     let one : d .get16 .result ≡ 1 = omega (arith, c .before .before .before .before .before .before .before .before .if2 .taken) in
     let w = c .before .before .before .before .before .before .clear-page in
-    let u = c .before .before .settle2 .last .0 in
-    settles fnv fnv-lt (s z) (p z) (z .args .i) (key z) (z .pre) (j (b₂ d)) (fits (b₂ d)) (n z) refl (cleared d one) (cleared-holds d one)
-    (subst (λ y. Directed S1024 fnv y (deepestIn (contents S1024 y)) (n z) u) (blank z (w .last .0) (w .ensures)) (c .before .before .settle2 .ensures)) (λ m. (c .slice-known6 .given m) .fits)
+    let u = c .before .before .settle2 .last .0 in (
+      settles (S z) (sized z) fnv fnv-lt (s z) (p z) (z .args .i) (key z) (L z) (j (b₂ d)) (fits (b₂ d)) (cleared d one) (cleared-holds d one)
+          (subst (λ y. Directed (S z) fnv y (deepestIn (contents (S z) y)) (n z) u) (blank z (w .last .0) (w .ensures)) (c .before .before .settle2 .ensures)) (λ m. (c .slice-known8 .given m) .fits),
+      refl,
+    )
 
 sub-remove-slot : tie.Need-sub-remove-slot
 sub-remove-slot c = search needs
 
 part-remove-slot-start : tie.Need-part-remove-slot-start
-part-remove-slot-start c = search needs
+part-remove-slot-start c = omega (arith, inside (z₂ (c .before)))
 
 part-remove-slot-end : tie.Need-part-remove-slot-end
-part-remove-slot-end c = search needs
+part-remove-slot-end c = omega (arith, inside (z₂ (c .before)))
 
 remove-slot-requires : tie.Need-remove-slot-requires
 remove-slot-requires c κs = let z = z₂ (c .before .before) in
-    rw (lent (s z) (p z)) (record { page = z .pre .rules .rules; within = z .pre .slot })
+    rw (page-lent (S z) (s z) (p z)) (record { page = L z .rules .rules; within = L z .slot })
 
-same-length-3 : tie.Need-same-length-3
-same-length-3 c = search needs
+same-length-4 : tie.Need-same-length-4
+same-length-4 c = search needs
 
 returns-3 : tie.Need-returns-3
 returns-3 c = let d = c .before .before .before .before .before in
     let z = z₂ d in
     let r = c .before .before .remove-slot in
-    let R : Removed (g z) (z .args .i) (r .last .0) = rw (lent (s z) (p z)) at (r .ensures) in
-    let two : 2 ≤ count (g z) = omega (arith, counted d, c .before .before .before .before .if2 .left, z .pre .rules .some) in
-    subst (Becomes S1024 fnv (s z) (then z)) (sym (back (s z) (p z) (r .last .0)))
-    (loses fnv fnv-lt (s z) (p z) (z .args .i) (key z) (z .pre) (j (b₂ d)) (fits (b₂ d)) (own d) two (r .last .0) R (λ m. subst (λ y. byte y m < 256) (back (s z) (p z) (r .last .0)) ((c .slice-known7 .given m) .fits)))
+    let R : Removed (g z) (z .args .i) (r .last .0) = rw (page-lent (S z) (s z) (p z)) at (r .ensures) in
+    let two : 2 ≤ count (g z) = omega (arith, counted d, c .before .before .before .before .if2 .left, L z .rules .some) in (
+      subst (Becomes (S z) fnv (s z) (then z)) (sym (back z (r .last .0)))
+          (loses (S z) (sized z) fnv fnv-lt (s z) (p z) (z .args .i) (key z) (L z) (j (b₂ d)) (fits (b₂ d)) (own d) two (r .last .0) R (λ m. subst (λ y. byte y m < 256) (back z (r .last .0)) ((c .slice-known9 .given m) .fits))),
+      refl,
+    )
 
 pub take-out-spec : {M : Type 1} → statement M
 take-out-spec =
     tie.close
     (tie.spec
+    add-size
+    div-n
     mul-a
     add-e
     add-k
@@ -258,6 +297,7 @@ take-out-spec =
     join-requires
     settle-requires
     same-length
+    same-length-2
     returns
     sub-get16
     part-get16-start
@@ -268,11 +308,11 @@ take-out-spec =
     part-clear-page-end
     clear-page-requires
     settle-requires-2
-    same-length-2
+    same-length-3
     returns-2
     sub-remove-slot
     part-remove-slot-start
     part-remove-slot-end
     remove-slot-requires
-    same-length-3
+    same-length-4
     returns-3)

@@ -1,0 +1,60 @@
+-- `putting::put_allowed` meets its contract. Assumes nothing.
+use Rattle.store.specs.Tables.{putByMode, meaning}
+use Rattle.store.specs.Demands.{sized-1024}
+use Rattle.store.specs.Pages.{S1024}
+use Rattle.page.proofs.Stored.{stored-natural}
+use Rattle.page.specs.Places.{InRange}
+use Rattle.page.specs.Page.{Natural}
+use Rattle.hash.specs.Fnv.{fnv}
+use Rattle.ground.specs.Ladder.{Answers}
+use denote.Ref.{now}
+use mathlib.Core.Path.{refl, sym, subst}
+use borrow.Author.Needs.{needs}
+use Rattle.putting.specs.Put.{newRow}
+use Rattle.putting.proofs.checked.put_allowed.Statement.{statement}
+use Rattle.putting.proofs.checked.put_allowed.Tie as tie
+
+-- the place's three numbers are 32, 16 and 16 bits wide
+ranged : (z : tie.Start) → InRange (z .args .place)
+ranged z = let g = z .good .1 .1 .0 .1 .1 in record { page = g .0 .1; slot = g .1 .0 .1; volume = g .1 .1 .0 .1 }
+
+slice-aggregate-store-place : tie.Need-slice-aggregate-store-place
+slice-aggregate-store-place c = search needs
+
+store-place-requires : tie.Need-store-place-requires
+store-place-requires c κs = (refl, c .before .before .before .pre .natural)
+
+slice-aggregate-put-row : tie.Need-slice-aggregate-put-row
+slice-aggregate-put-row c = search needs
+
+put-row-requires : tie.Need-put-row-requires
+put-row-requires c κs =
+    let w = c .before .before .before in
+    let z = w .before .before .before .before in
+    record {
+      sized = sized-1024;
+      accepted = z .pre .accepted;
+      good = z .pre .good;
+      natural = subst Natural (sym (w .store-place .ensures)) (stored-natural (z .args .place) (z .pre .natural) (ranged z));
+    }
+
+same-length : tie.Need-same-length
+same-length c = search needs
+
+returns : tie.Need-returns
+returns c =
+    let w = c .before .before .put-row in
+    let y = c .before .before .before .before .before .before in
+    let z = y .before .before .before .before in
+    subst (λ x. Answers (putByMode S1024 fnv (now (z .args .s)) (z .args .mode) (newRow (now (z .args .key)) x)) (meaning (w .result), w .last .0)) (y .store-place .ensures) (w .ensures)
+
+pub put-allowed-spec : {M : Type 1} → statement M
+put-allowed-spec =
+    tie.close
+    (tie.spec
+    slice-aggregate-store-place
+    store-place-requires
+    slice-aggregate-put-row
+    put-row-requires
+    same-length
+    returns)
