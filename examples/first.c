@@ -5,8 +5,8 @@
 
 static uint8_t store[8 * 1024];
 
-static void put(const char *code, int32_t page, int16_t slot, int16_t volume) {
-    uint64_t word = lots_put(store, sizeof store, (const uint8_t *)code, strlen(code), page, slot, volume);
+static void put(const char *code, int32_t page, int16_t slot, int16_t volume, uint64_t mode) {
+    uint64_t word = lots_put(store, sizeof store, (const uint8_t *)code, strlen(code), page, slot, volume, mode);
     if (lots_refusal(word)) printf("put %s: refused %u\n", code, lots_refusal(word));
     else printf("put %s: %s\n", code, word == LOTS_NEW ? "new" : "replaced");
 }
@@ -17,10 +17,11 @@ static void print_place(uint64_t word) {
 
 int main(void) {
     lots_format(store, sizeof store);
-    put("LOT-7A", 7, 2, 0);
-    put("LOT-7B", 7, 3, 0);
-    put("LOT-7A", 9, 1, 0);
-    put("", 1, 1, 1);
+    put("LOT-7A", 7, 2, 0, LOTS_EITHER);
+    put("LOT-7B", 7, 3, 0, LOTS_ONLY_NEW);
+    put("LOT-7A", 9, 1, 0, LOTS_ONLY_NEW);
+    put("LOT-7A", 9, 1, 0, LOTS_ONLY_KNOWN);
+    put("", 1, 1, 1, LOTS_EITHER);
     uint64_t found = lots_lookup(store, sizeof store, (const uint8_t *)"LOT-7A", 6);
     printf("LOT-7A: ");
     print_place(found);

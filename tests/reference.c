@@ -369,11 +369,12 @@ static void split(uint8_t *s, int pages, int old, const struct bucket *after, in
     }
 }
 
-uint64_t ref_put(uint8_t *s, size_t len, const uint8_t *code, size_t code_len, int32_t page, int16_t slot, int16_t volume) {
+uint64_t ref_put(uint8_t *s, size_t len, const uint8_t *code, size_t code_len, int32_t page, int16_t slot, int16_t volume, uint64_t mode) {
     static struct bucket before[ENTRIES], after[ENTRIES];
     if (!good_length(len)) return refusal(1);
     if (code_len == 0 || code_len > 64) return refusal(3);
     if (page < 0 || slot < 0 || volume < 0) return refusal(4);
+    if (mode != 0 && mode != 1 && mode != 2) return refusal(14);
     uint64_t bad = read_store(s, len);
     if (bad) return bad;
     uint8_t place[8];
@@ -381,6 +382,8 @@ uint64_t ref_put(uint8_t *s, size_t len, const uint8_t *code, size_t code_len, i
     set_number(place + 4, 2, slot);
     set_number(place + 6, 2, volume);
     int known = find(code, code_len);
+    if (known >= 0 && mode == 1) return refusal(13);
+    if (known < 0 && mode == 2) return refusal(5);
     if (known >= 0) {
         uint64_t old = place_word(rows[known].place);
         memcpy(s + (size_t)rows[known].page * PAGE + rows[known].start, place, 8);
@@ -416,6 +419,22 @@ uint64_t ref_put(uint8_t *s, size_t len, const uint8_t *code, size_t code_len, i
     }
     write_directory(s);
     return NEW_ROW;
+}
+
+/* The runs are far shorter than 2^32, so that the sum fits. */
+uint64_t ref_put_all(uint8_t *s, size_t len, const uint8_t *codes, size_t codes_len, const uint32_t *lengths, size_t lengths_len, const uint64_t *places,
+                     size_t places_len, uint32_t *answers, size_t answers_len, uint64_t mode) {
+    uint64_t sum = 0, bad;
+    if (!good_length(len)) return refusal(1);
+    for (size_t i = 0; i < lengths_len; i++) sum += lengths[i];
+    if (places_len != lengths_len || answers_len != lengths_len || sum != codes_len) return refusal(12);
+    if (mode > 2) return refusal(14);
+    if ((bad = ref_check(s, len))) return bad;
+    for (size_t i = 0, at = 0; i < lengths_len; at += lengths[i++]) {
+        uint64_t r = ref_put(s, len, codes + at, lengths[i], (int32_t)places[i], (int16_t)(places[i] >> 32), (int16_t)(places[i] >> 48), mode);
+        answers[i] = r & REFUSED ? r & 255 : 0;
+    }
+    return 0;
 }
 
 uint64_t ref_remove(uint8_t *s, size_t len, const uint8_t *code, size_t code_len) {

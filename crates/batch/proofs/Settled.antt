@@ -2,16 +2,19 @@
 use mathlib.Core.Path.{_≡_, refl, sym, ap, subst, _∙_}
 use mathlib.Core.Bool.{true, false, true≢false}
 use mathlib.Core.List.{List, _∷_}
-use Prim.Native.Nat.{ℕ}
+use mathlib.Core.Logic.{inl, inr}
+use Prim.Native.Nat.{ℕ, _+_}
+use native.Mathlib.Omega.{arith}
 use lib.ListN.{length}
 use Rattle.ground.specs.Ladder.{Answers}
 use Rattle.ground.proofs.Ladders.{one, each}
 use Rattle.partition.specs.declared.Shape.{Shape}
 use Rattle.store.specs.Accepted.{Accepted}
 use Rattle.store.specs.Demands.{Sized, ok}
-use Rattle.store.specs.Tables.{Out}
+use Rattle.store.specs.Tables.{Out, refusedAt, accepted, checkTable}
 use Rattle.store.proofs.Accepted.Rules.{broken-one}
 use Rattle.store.proofs.Demands.Kept.{put-again}
+use Rattle.store.proofs.Demands.Said.{Said, check-said}
 use Rattle.store.proofs.Demands.Settled.{same, put-settled}
 use Rattle.batch.specs.Batch.{Runs, Wanted, number, OnePut, Puts, none-left, and-then, batchTable}
 
@@ -55,6 +58,23 @@ module _ (S : Shape) (h : List ℕ → ℕ) where
       (λ _. (
         (λ _ _ x e _. ap (λ y. y .1) e),
         (λ _. ((λ _ _ x e _. ap (λ y. y .1) e), (λ _ _ x e f. absurd (true≢false (sym (ap ok (e .0)) ∙ f))))),
+      )),
+    )),
+  )
+
+  -- what it may answer: 1, 12, 14, 2 with a page of the store, or that it was taken
+  pub batch-said : (s : List ℕ) (b : Runs) (m : ℕ) (x : Out × (List ℕ × List ℕ)) → Answers (batchTable S h s b m) x → Said (S .entries + 2) (λ o. o ≡ accepted) (x .0)
+  unfolding batchTable checkTable
+  batch-said s b m = each (λ x. Said (S .entries + 2) (λ o. o ≡ accepted) (x .0)) (batchTable S h s b m) (
+    (λ _ _ x e. inl (inl (1, (omega arith, (λ z. omega arith), ap (λ y. y .0) e)))),
+    (λ n1. (
+      (λ _ _ x e. inl (inl (12, (omega arith, (λ z. omega arith), ap (λ y. y .0) e)))),
+      (λ _. (
+        (λ _ _ x e. inl (inl (14, (omega arith, (λ z. omega arith), ap (λ y. y .0) e)))),
+        (λ _. (
+          (λ p r x e. subst (Said (S .entries + 2) (λ o. o ≡ accepted)) (sym (ap (λ y. y .0) e)) (check-said S h s (refusedAt 2 p) (inr (n1, inl (p, (r, refl)))))),
+          (λ _ _ x e. inr (e .0)),
+        )),
       )),
     )),
   )
