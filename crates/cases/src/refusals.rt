@@ -121,7 +121,7 @@ fn negatives(damaged: &mut [u8]) {
 }
 
 // "a" is known and "b" is not.
-fn modes(sound: &mut [u8], damaged: &mut [u8]) {
+fn damaged_modes(damaged: &mut [u8]) {
     say_place(
         b"put, mode 3, damaged store:",
         lots_c::lots_put(damaged, b"a", 7, 2, 0, 3),
@@ -138,6 +138,18 @@ fn modes(sound: &mut [u8], damaged: &mut [u8]) {
         b"put, new code, only if known, damaged store:",
         lots_c::lots_put(damaged, b"b", 7, 2, 0, 2),
     );
+}
+
+fn damaged_puts(damaged: &mut [u8]) {
+    negatives(damaged);
+    damaged_modes(damaged);
+    say_place(
+        b"put, damaged store:",
+        lots_c::lots_put(damaged, b"b", 7, 2, 0, 0),
+    );
+}
+
+fn modes(sound: &mut [u8]) {
     say_place(
         b"put, known code, only if new:",
         lots_c::lots_put(sound, b"a", 7, 2, 0, 1),
@@ -163,12 +175,8 @@ fn puts(sound: &mut [u8], damaged: &mut [u8]) {
         b"put, 65 bytes of code, negative page, mode 3, damaged store:",
         lots_c::lots_put(damaged, &long, -1, 2, 0, 3),
     );
-    negatives(damaged);
-    modes(sound, damaged);
-    say_place(
-        b"put, damaged store:",
-        lots_c::lots_put(damaged, b"b", 7, 2, 0, 0),
-    );
+    damaged_puts(damaged);
+    modes(sound);
     say_place(
         b"put, known code, negative page:",
         lots_c::lots_put(sound, b"a", -1, 2, 0, 0),

@@ -73,7 +73,7 @@ abbrev pub PutBy : List ℕ → ℕ → Type 0
 PutBy w m = ((m ≡ 0) × (w ≡ putWord)) ⊎ (((m ≡ 1) × (w ≡ addWord)) ⊎ ((m ≡ 2) × (w ≡ moveWord)))
 
 -- a line that puts by the mode m
-pub record Puts (k : List ℕ) (n : ℕ) (p : Place) (m : ℕ) (l : List ℕ) : Type 0 where
+pub record PutLine (k : List ℕ) (n : ℕ) (p : Place) (m : ℕ) (l : List ℕ) : Type 0 where
   pub word : List ℕ
   pub by : PutBy word m
   pub line : After l word (Putting k n p)
@@ -110,7 +110,7 @@ inspectWord = 105 ∷ 110 ∷ 115 ∷ 112 ∷ 101 ∷ 99 ∷ 116 ∷ []
 abbrev pub Asks : List ℕ → List ℕ → Command → Type 0
 Asks l k Nothing = (length l ≡ 0) ⊎ (byte l 0 ≡ 35)
 Asks l k (Format n) = After l formatWord (Decimal n)
-Asks l k (Put n p m) = Puts k n p m l
+Asks l k (Put n p m) = PutLine k n p m l
 Asks l k (Lookup n) = After l lookupWord (λ w. Coded w k n)
 Asks l k (Remove n) = After l removeWord (λ w. Coded w k n)
 Asks l k Count = l ≡ countWord

@@ -14,7 +14,7 @@ pub enum Command {
     Nothing,
     Unknown,
     Format(usize),
-    // and its mode
+    // with the mode that its word stands for
     Put(usize, Place, u64),
     Lookup(usize),
     Remove(usize),

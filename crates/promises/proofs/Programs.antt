@@ -24,8 +24,9 @@ use Rattle.page.specs.Places.{place, stored}
 use Rattle.store.specs.Pages.{S1024, rowsHeld}
 use Rattle.store.specs.Accepted.{Accepted}
 use Rattle.store.specs.Tables.{Out, row, new, found, rowTable}
-use Rattle.store.specs.Demands.{Hash, lookup, remove, count, put, ok, GoodCode, AtStart, Nth, map-of, update, answerOf, Refuses, no-code, negative, no-mode, known, absent as absent-code, prefix-full, pages-full, sized-1024}
+use Rattle.store.specs.Demands.{Hash, lookup, remove, count, put, ok, GoodCode, AtStart, Nth, map-of, update, answerOf, Refuses, known, sized-1024}
 use Rattle.store.proofs.Demands.Given.{member}
+use Rattle.store.proofs.Demands.Kept.{unrefused}
 use Rattle.store.proofs.Result.Fitted.{prefix-needs}
 use Rattle.store.proofs.Demands.Whole.{demand-2}
 use Rattle.promises.specs.Programs.{Program, Bytes, Meets, RefusesEveryPut, ReplacesSilently, OneFixedPlace, RepeatsOneRow, OnlyAnswers, StoresOnlyTheFirst, Miscounts}
@@ -137,13 +138,7 @@ module _ (h : List ℕ → ℕ) (hash : Hash h) where
     replaces-silently f = replaces (again 0 .0 (ap (λ x. ok (x .0)) (sym (f (one 0) a (at 1))) ∙ again 1 .1 (known refl (stored (at 0)) (holds-a 0 (omega arith)))))
       where
         replaces : Refuses S1024 h (one 0) a (at 1) 0 → ⊥
-        replaces (no-code x) = x (one-good 97)
-        replaces (negative x) = natural 1 x
-        replaces (no-mode x) = x (inl refl)
-        replaces (known x _ _) = omega (arith, x)
-        replaces (absent-code x _) = omega (arith, x)
-        replaces (prefix-full x _) = none-some x (holds-a 0 (omega arith))
-        replaces (pages-full x _) = none-some x (holds-a 0 (omega arith))
+        replaces = unrefused S1024 h (one 0) a (at 1) 0 (one-good 97) (natural 1) (inl refl) (λ x _ _. omega (arith, x)) (λ x. absurd (none-some x (holds-a 0 (omega arith))))
 
     -- LOOKUP WITH ONE FIXED PLACE
     looks-up : (n : ℕ) (l : n < 2) → P .lookup (one n) a ≡ found (at n)

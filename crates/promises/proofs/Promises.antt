@@ -17,12 +17,12 @@ use Rattle.store.specs.Pages.{S1024}
 use Rattle.store.specs.Accepted.{Accepted}
 use Rattle.store.specs.Moves.{pick}
 use Rattle.store.specs.Tables.{Out, refused, new, replaced, putAccepted, putByMode, putTable}
-use Rattle.store.specs.Demands.{Call, format, check, count, lookup, remove, put, rowAt, inspect, Made, ok, GoodCode, Mode, WholePages, faults, ExactlyWhen, map-of, putAnswer, Refuses, no-code, negative, no-mode, known, absent, prefix-full, pages-full, after, sized-1024}
+use Rattle.store.specs.Demands.{Call, format, check, count, lookup, remove, put, rowAt, inspect, Made, ok, GoodCode, Mode, WholePages, faults, ExactlyWhen, map-of, putAnswer, Refuses, after, sized-1024}
 use Rattle.store.proofs.Accepted.Rules.{accepted-whole}
 use Rattle.store.proofs.Demands.Settled.{format-settled, check-settled, count-settled, lookup-settled, row-settled, inspect-settled, put-settled, remove-settled}
 use Rattle.store.proofs.Demands.Meaning.{meaning-one}
-use Rattle.store.proofs.Demands.Kept.{no-three, no-fourteen}
-use Rattle.store.proofs.Demands.Outcomes.{is-known, is-absent, let-new}
+use Rattle.store.proofs.Demands.Kept.{no-three, no-fourteen, unrefused}
+use Rattle.store.proofs.Demands.Modes.{is-known, is-absent, let-new}
 use Rattle.store.proofs.Demands.Order.{good-length, whole-pages}
 use Rattle.store.proofs.Demands.Whole.{demand-1, demand-2, demand-3}
 use Rattle.store.proofs.Demands.Choice.{put-chooses, remove-chooses}
@@ -101,16 +101,7 @@ module _ (s c : List ℕ) (p : Place) (m : ℕ) (o : Out) (t : List ℕ) (a : Ac
     says-thirteen e b k = past (refused 13) (is-known S1024 fnv s m (record { code = c; place = stored p }) b k e)
 
     says-known : (m ≡ 1 → ⊥) → (b : List ℕ) → map-of S1024 s c ≡ some b → o ≡ replaced (place b)
-    says-known n b e = answers refuses ∙ ap putAnswer e
-      where
-        refuses : Refuses S1024 fnv s c p m → ⊥
-        refuses (no-code x) = x (fair .coded)
-        refuses (negative x) = fair .placed x
-        refuses (no-mode x) = x (fair .moded)
-        refuses (known x _ _) = n x
-        refuses (absent _ x) = none-some x e
-        refuses (prefix-full x _) = none-some x e
-        refuses (pages-full x _) = none-some x e
+    says-known n b e = answers (unrefused S1024 fnv s c p m (fair .coded) (fair .placed) (fair .moded) (λ x _ _. n x) (λ x. absurd (none-some x e))) ∙ ap putAnswer e
 
     says-five : m ≡ 2 → map-of S1024 s c ≡ none → o ≡ refused 5
     says-five e k = past (refused 5) (is-absent S1024 fnv s m (record { code = c; place = stored p }) k e)
@@ -128,16 +119,8 @@ module _ (s c : List ℕ) (p : Place) (m : ℕ) (o : Out) (t : List ℕ) (a : Ac
         says-seven k = through (refused 7) (inr ((λ b f. none-some e f), inr ((λ _ r. omega arith), inl (tt, (k, refl)))))
 
         says-new : length (buckets S1024 fnv (joining s c p)) ≤ length s / 1024 - 2 → o ≡ new
-        says-new k = answers refuses ∙ ap putAnswer e
-          where
-            refuses : Refuses S1024 fnv s c p m → ⊥
-            refuses (no-code x) = x (fair .coded)
-            refuses (negative x) = fair .placed x
-            refuses (no-mode x) = x (fair .moded)
-            refuses (known _ b x) = none-some e x
-            refuses (absent x _) = n x
-            refuses (prefix-full _ x) = omega arith
-            refuses (pages-full _ x) = omega arith
+        says-new k =
+            answers (unrefused S1024 fnv s c p m (fair .coded) (fair .placed) (fair .moded) (λ _ b x. none-some e x) (λ _. (n, (λ x. omega arith), (λ x. omega arith)))) ∙ ap putAnswer e
 
   put-says : PutSays s c p m o
   put-says = record {

@@ -28,8 +28,9 @@ use Rattle.store.specs.Pages.{S1024, pages, rowsHeld}
 use Rattle.store.specs.Accepted.{GoodLength, Accepted}
 use Rattle.store.specs.Moves.{pick}
 use Rattle.store.specs.Tables.{Out, formatted, new, blank, formatTable, putTable}
-use Rattle.store.specs.Demands.{Hash, format, put, Made, ok, GoodCode, map-of, putAnswer, Refuses, no-code, negative, no-mode, known, absent, prefix-full, pages-full, History, begin, next, after, sized-1024}
-use Rattle.store.proofs.Demands.Outcomes.{outcome}
+use Rattle.store.specs.Demands.{Hash, format, put, Made, ok, GoodCode, map-of, putAnswer, Refuses, History, begin, next, after, sized-1024}
+use Rattle.store.proofs.Demands.Kept.{unrefused}
+use Rattle.store.proofs.Demands.Modes.{put-each}
 use Rattle.store.proofs.Demands.Whole.{demand-2, demand-3}
 use Rattle.promises.specs.Programs.{Program, Bytes, Meets}
 
@@ -48,7 +49,7 @@ natural n x = ⊎-elim (positive n) (λ y. ⊎-elim (positive 0) (positive 0) y)
 
 -- a put leaves bytes
 put-bytes : (h : List ℕ → ℕ) (s c : List ℕ) (p : Place) (m : ℕ) → Bytes s → (x : Out × List ℕ) → Answers (putTable S1024 h s c p m) x → Bytes (x .1)
-put-bytes h s c p m b = outcome S1024 h s (λ x. Bytes (x .1)) c p (record { kept = λ _ _. b; over = λ _ _ t e. e .byte-size; fresh = λ _ _ _ t e. e .byte-size }) m
+put-bytes h s c p m b = put-each S1024 h s (λ x. Bytes (x .1)) c p (record { kept = λ _ _. b; over = λ _ _ t e. e .byte-size; fresh = λ _ _ _ t e. e .byte-size }) m
 
 -- rows that fit together have one bucket, whatever the hash
 module _ (h : List ℕ → ℕ) (hash : Hash h) where
@@ -129,13 +130,11 @@ module _ (h : List ℕ → ℕ) (hash : Hash h) (P : Program) (meets : Meets h P
     made = meets .puts t c p 0 (w .small) small range
 
     refuses : Refuses S1024 h t c p 0 → ⊥
-    refuses (no-code x) = x good
-    refuses (negative x) = natural x
-    refuses (no-mode x) = x (inl refl)
-    refuses (known x _ _) = omega (arith, x)
-    refuses (absent x _) = omega (arith, x)
-    refuses (prefix-full _ x) = omega (arith, load-reordered S1024 h (front (rowOf c p) (same-at w)) 8 (top 8 (h c)))
-    refuses (pages-full _ x) = let e : length t / 1024 ≡ 4 = rw (w .long) refl in omega (arith, ap length (reordered S1024 h (front (rowOf c p) (same-at w))))
+    refuses = unrefused S1024 h t c p 0 good natural (inl refl) (λ x _ _. omega (arith, x)) (λ _. (
+      (λ x. omega (arith, x)),
+      (λ x. omega (arith, load-reordered S1024 h (front (rowOf c p) (same-at w)) 8 (top 8 (h c)))),
+      (λ x. let e : length t / 1024 ≡ 4 = rw (w .long) refl in omega (arith, ap length (reordered S1024 h (front (rowOf c p) (same-at w))))),
+    ))
 
     sure : (b : Bool) → ok o ≡ b → ok o ≡ true
     sure true e = e

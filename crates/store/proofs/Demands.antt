@@ -1,6 +1,6 @@
 -- The three demands, proved of the tables.
 pub mod Settled
-pub mod Outcomes
+pub mod Modes
 pub mod Kept
 pub mod Unchecked
 pub mod Order

@@ -22,16 +22,16 @@ pub use Rattle.store.proofs.Remove.RemoveCases.{removed-loses, removed-
 pub use Rattle.store.proofs.Remove.RemoveShows.{remove-shows}
 -- ---- Every table has a result.
 pub use Rattle.store.proofs.Result.Answered.{format-answered, check-answered, count-answered, lookup-answered, row-answered, inspect-answered}
-pub use Rattle.store.proofs.Result.Total.{answered-always, put-answered, remove-answered}
+pub use Rattle.store.proofs.Result.Total.{answered-always, put-answered, mode-answered, remove-answered}
 -- ---- The three demands, proved of the tables.
 pub use Rattle.store.proofs.Demands.Afresh.{always-afresh}
 pub use Rattle.store.proofs.Demands.Choice.{put-chooses, remove-chooses}
 pub use Rattle.store.proofs.Demands.Given.{row-is-listed, count-is-size, place-comes-back, inspect-is-slot}
-pub use Rattle.store.proofs.Demands.Kept.{refusal-keeps, output-kept, check-exact, lookup-is-map, put-refused, either-as-before, no-three, three, no-fourteen, a-mode}
+pub use Rattle.store.proofs.Demands.Kept.{refusal-keeps, output-kept, check-exact, lookup-is-map, put-refused, unrefused, either-as-before, no-three, three, no-fourteen, a-mode}
 pub use Rattle.store.proofs.Demands.KeptPages.{kept-pages}
 pub use Rattle.store.proofs.Demands.Meaning.{meaning-one}
 pub use Rattle.store.proofs.Demands.Order.{refused-in-order, format-succeeds, good-length, whole-pages}
-pub use Rattle.store.proofs.Demands.Outcomes.{is-known, is-absent, let-known, let-new, by-mode, outcome}
+pub use Rattle.store.proofs.Demands.Modes.{is-known, is-absent, let-known, let-new, mode-0, mode-each, put-each}
 pub use Rattle.store.proofs.Demands.Plan.{put-is-map, remove-is-map}
 pub use Rattle.store.proofs.Demands.Said.{format-said, check-said, count-said, lookup-said, put-said, remove-said, row-said, inspect-said}
 pub use Rattle.store.proofs.Demands.Same.{same-refusals}

@@ -21,7 +21,7 @@ use Rattle.store.specs.Choice.{prefixOf, Free, On, PutPages, RemovePages
 use Rattle.store.proofs.Showing.Shows.{prefixOn, Shows}
 use Rattle.store.proofs.Showing.Shown.{within-pages}
 use Rattle.store.proofs.Accepted.Unique.{held}
-use Rattle.store.proofs.Demands.Outcomes.{outcome}
+use Rattle.store.proofs.Demands.Modes.{put-each}
 use Rattle.store.proofs.Showing.Showing.{accepted-shows, pages-held}
 use Rattle.store.proofs.Put.Chosen.{Has, Chosen, chosen}
 use Rattle.store.proofs.Remove.Rejoined.{Rejoined, rejoined}
@@ -114,7 +114,7 @@ refused-not x o o′ t e f g k = true≢false (sym k ∙ ap ok (sym g ∙ ap (λ
 
 module _ (S : Shape) (h : List ℕ → ℕ) (sized : Sized S) (hash : Hash h) where
   pub put-chooses : PutChooses S h
-  put-chooses s c p m t a made = outcome S h s (λ x. x .0 ≡ new → PutPages S h s c (x .1)) c p record {
+  put-chooses s c p m t a made = put-each S h s (λ x. x .0 ≡ new → PutPages S h s c (x .1)) c p record {
     kept = λ o f e. absurd (true≢false (sym (ap ok e) ∙ f));
     over = λ old k t b e. absurd (let z : _≡_ {A = ℕ} 0 1 = cc e in omega arith);
     fresh = λ un n6 n7 t b e. put-pages S h sized hash s a t _ b c

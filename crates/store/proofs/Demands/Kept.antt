@@ -3,24 +3,23 @@ use mathlib.Core.Path.{_≡_, refl, sym, ap, _∙_}
 use mathlib.Core.Bool.{true, false, true≢false}
 use mathlib.Core.List.{List}
 use mathlib.Core.Logic.{_⊎_, inl, inr, _↔_}
-use mathlib.Core.Option.{none}
+use mathlib.Core.Option.{some, none}
 use Prim.Native.Nat.{ℕ, _≤_, _<_}
 use native.Mathlib.Omega.{arith}
 use lib.ListN.{length}
 use Rattle.ground.proofs.Tests.{none-some}
 use Rattle.partition.specs.declared.Shape.{Shape}
-use Rattle.partition.specs.Partition.{Row}
 use Rattle.page.specs.declared.Place.{Place}
 use Rattle.ground.specs.Ladder.{Answers}
 use Rattle.store.specs.Pages.{Page, rowsHeld}
 use Rattle.store.specs.Accepted.{Accepted}
 use Rattle.page.specs.Places.{stored, Negative}
-use Rattle.store.specs.Tables.{Out, refused, accepted, Becomes, formatTable, checkTable, lookupTable, putTable, putBefore, removeTable, rowTable, inspectTable, Refusal3, Refusal5, Refusal6, Refusal7, Refusal13, Refusal14}
+use Rattle.store.specs.Tables.{Out, refused, accepted, Becomes, formatTable, checkTable, lookupTable, putTable, putBefore, removeTable, rowTable, inspectTable, Refusal3, Refusal6, Refusal7, Refusal14}
 use Rattle.store.specs.Demands.{format, check, count, lookup, remove, put, rowAt, inspect, Made, ok, RefusalKeeps, OutputKept, GoodCode, Mode, CheckExact, LookupIsMap, Refuses, no-code, negative, no-mode, known, absent, prefix-full, pages-full, PutRefused, EitherAsBefore, AcceptedAgain, map-of, answerOf}
 use Rattle.ground.proofs.Sides.{side}
 use Rattle.ground.proofs.Ladders.{each}
 use Rattle.store.proofs.Accepted.Rules.{accepted-whole}
-use Rattle.store.proofs.Demands.Outcomes.{nothing-there, outcome}
+use Rattle.store.proofs.Demands.Modes.{nothing-there, mode-0, put-each}
 
 -- the result, if it is refused, keeps x
 abbrev Keeps : List ℕ → Out × List ℕ → Type 0
@@ -44,7 +43,7 @@ module _ (S : Shape) (h : List ℕ → ℕ) where
       ((λ _ _. row-keeps), (λ _. ((λ _ _. row-keeps), (λ _. ((λ _ _. row-keeps), (λ _ _. ((λ old _ r e. free _ r refl (e .0)), (λ _. row-keeps))))))))
 
   put-keeps : (s c : List ℕ) (p : Place) (m : ℕ) (r : Out × List ℕ) → Answers (putTable S h s c p m) r → Keeps s r
-  put-keeps s c p m = outcome S h s (Keeps s) c p (record { kept = λ o _ _. refl; over = λ old k t b f. absurd (true≢false f); fresh = λ un n6 n7 t b f. absurd (true≢false f) }) m
+  put-keeps s c p m = put-each S h s (Keeps s) c p (record { kept = λ o _ _. refl; over = λ old k t b f. absurd (true≢false f); fresh = λ un n6 n7 t b f. absurd (true≢false f) }) m
 
   row-keeps-out : (s : List ℕ) (n : ℕ) (out : List ℕ) (r : Out × List ℕ) → Answers (rowTable S h s n out) r → Keeps out r
   unfolding rowTable
@@ -97,7 +96,7 @@ a-mode m n = go (side m 1) (side m 2) (side 2 m)
     go : (m < 1) ⊎ (1 ≤ m) → (m < 2) ⊎ (2 ≤ m) → (2 < m) ⊎ (m ≤ 2) → Mode m
     go (inl a) _ _ = inl (omega arith)
     go (inr a) (inl b) _ = inr (inl (omega arith))
-    go (inr a) (inr b) (inl l) = absurd (n l)
+    go (inr a) (inr b) (inl l) = absurd (n (omega arith))
     go (inr a) (inr b) (inr l) = inr (inr (omega arith))
 
 pub good-code : (c : List ℕ) → (Refusal3 c → ⊥) → GoodCode c
@@ -130,6 +129,18 @@ module _ (S : Shape) (h : List ℕ → ℕ) where
     )),
   ) o (m .0)
 
+  -- none of the ways to refuse a put: for a known code only the mode counts, for a new one the mode, 6 and 7
+  pub unrefused : (s c : List ℕ) (p : Place) (m : ℕ) → GoodCode c → (Negative p → ⊥) → Mode m → (m ≡ 1 → (old : List ℕ) → map-of S s c ≡ some old → ⊥)
+      → (map-of S s c ≡ none → (m ≡ 2 → ⊥) × (Refusal6 S h (rowsHeld S s) (record { code = c; place = stored p }) → ⊥) × (Refusal7 S h s (rowsHeld S s) (record { code = c; place = stored p }) → ⊥))
+      → Refuses S h s c p m → ⊥
+  unrefused s c p m g n q k u (no-code x) = x g
+  unrefused s c p m g n q k u (negative x) = n x
+  unrefused s c p m g n q k u (no-mode x) = x q
+  unrefused s c p m g n q k u (known e old x) = k e old x
+  unrefused s c p m g n q k u (absent e x) = u x .0 e
+  unrefused s c p m g n q k u (prefix-full x f) = u x .1 f
+  unrefused s c p m g n q k u (pages-full x f) = u x .2 f
+
   pub put-refused : PutRefused S h
   unfolding putTable
   put-refused s c p m o t a made = each (λ r. (ok (r .0) ≡ false) ↔ Refuses S h s c p m) (putTable S h s c p m) (
@@ -147,12 +158,12 @@ module _ (S : Shape) (h : List ℕ → ℕ) where
               (λ n13. (
                 (λ _ r. by (absent (r .0) (r .1))),
                 (λ n5. (
-                  (λ old k x e. stays (x .0) (ap ok (e .0)) (none-of (n3 tt) (n4 tt) (n14 tt) (n13 tt) (n5 tt) (λ z. absurd (none-some z k)) (λ z. absurd (none-some z k)))),
+                  (λ old k x e. stays (x .0) (ap ok (e .0)) (unrefused s c p m (good-code c (n3 tt)) (n4 tt) (a-mode m (n14 tt)) (λ f old q. n13 tt (f, (old, q))) (λ z. absurd (none-some z k)))),
                   (λ un. (
                     (λ _ r. by (prefix-full (nothing-there _ un) r)),
                     (λ n6. (
                       (λ _ r. by (pages-full (nothing-there _ un) r)),
-                      (λ n7 x e. stays (x .0) (ap ok (e .0)) (none-of (n3 tt) (n4 tt) (n14 tt) (n13 tt) (n5 tt) (λ _. n6 tt) (λ _. n7 tt))),
+                      (λ n7 x e. stays (x .0) (ap ok (e .0)) (unrefused s c p m (good-code c (n3 tt)) (n4 tt) (a-mode m (n14 tt)) (λ f old q. n13 tt (f, (old, q))) (λ z. ((λ f. n5 tt (f, z)), n6 tt, n7 tt)))),
                     )),
                   )),
                 )),
@@ -164,24 +175,11 @@ module _ (S : Shape) (h : List ℕ → ℕ) where
     )),
   ) (o, t) made
     where
-      r : Row
-      r = record { code = c; place = stored p }
-
       by : {n : ℕ} {u : List ℕ} → Refuses S h s c p m → (x : Out × List ℕ) → x ≡ (refused n, u) → (ok (x .0) ≡ false) ↔ Refuses S h s c p m
       by d x e = ((λ _. d), (λ _. ap (λ q. ok (q .0)) e))
 
       stays : (o : Out) → ok o ≡ true → (Refuses S h s c p m → ⊥) → (ok o ≡ false) ↔ Refuses S h s c p m
       stays o f n = ((λ g. absurd (true≢false (sym f ∙ g))), (λ d. absurd (n d)))
-
-      none-of : (Refusal3 c → ⊥) → (Negative p → ⊥) → (Refusal14 m → ⊥) → (Refusal13 (rowsHeld S s) c m → ⊥) → (Refusal5 (rowsHeld S s) c m → ⊥)
-          → (map-of S s c ≡ none → Refusal6 S h (rowsHeld S s) r → ⊥) → (map-of S s c ≡ none → Refusal7 S h s (rowsHeld S s) r → ⊥) → Refuses S h s c p m → ⊥
-      none-of n3 n4 n14 n13 n5 n6 n7 (no-code x) = x (good-code c n3)
-      none-of n3 n4 n14 n13 n5 n6 n7 (negative x) = n4 x
-      none-of n3 n4 n14 n13 n5 n6 n7 (no-mode x) = x (a-mode m n14)
-      none-of n3 n4 n14 n13 n5 n6 n7 (known e old k) = n13 (e, (old, k))
-      none-of n3 n4 n14 n13 n5 n6 n7 (absent e k) = n5 (e, k)
-      none-of n3 n4 n14 n13 n5 n6 n7 (prefix-full k x) = n6 k x
-      none-of n3 n4 n14 n13 n5 n6 n7 (pages-full k x) = n7 k x
 
   -- the store is accepted again, format's apart
   abbrev Again : List ℕ → Out × List ℕ → Type 0
@@ -194,9 +192,9 @@ module _ (S : Shape) (h : List ℕ → ℕ) where
   wrote-again s o gs r e = (e .1 .again, e .1 .long)
 
   pub put-again : (s c : List ℕ) (p : Place) (m : ℕ) → Accepted S h s → (r : Out × List ℕ) → Answers (putTable S h s c p m) r → Again s r
-  put-again s c p m a = outcome S h s (Again s) c p (record { kept = λ o _. (a, refl); over = λ old k t b. (b .again, b .long); fresh = λ un n6 n7 t b. (b .again, b .long) }) m
+  put-again s c p m a = put-each S h s (Again s) c p (record { kept = λ o _. (a, refl); over = λ old k t b. (b .again, b .long); fresh = λ un n6 n7 t b. (b .again, b .long) }) m
 
-  -- MODE 0 ANSWERS AS BEFORE: neither 14 nor 13 nor 5 stands in its way
+  -- MODE 0 ANSWERS AS BEFORE
   to-before : (s c : List ℕ) (p : Place) (x : Out × List ℕ) → Answers (putTable S h s c p 0) x → Answers (putBefore S h s c p) x
   unfolding putTable putBefore
   to-before s c p x (inl w) = inl w
@@ -204,9 +202,7 @@ module _ (S : Shape) (h : List ℕ → ℕ) where
   to-before s c p x (inr (n1, inr (n3, inl w))) = inr (n1, inr (n3, inl w))
   to-before s c p x (inr (n1, inr (n3, inr (n4, inl w)))) = absurd (omega (arith, w .1 .0))
   to-before s c p x (inr (n1, inr (n3, inr (n4, inr (n14, inl w))))) = inr (n1, inr (n3, inr (n4, inl w)))
-  to-before s c p x (inr (n1, inr (n3, inr (n4, inr (n14, inr (n2, (a, inl w))))))) = absurd (omega (arith, w .1 .0 .0))
-  to-before s c p x (inr (n1, inr (n3, inr (n4, inr (n14, inr (n2, (a, inr (n13, inl w)))))))) = absurd (omega (arith, w .1 .0 .0))
-  to-before s c p x (inr (n1, inr (n3, inr (n4, inr (n14, inr (n2, (a, inr (n13, inr (n5, w))))))))) = inr (n1, inr (n3, inr (n4, inr (n2, (a, w)))))
+  to-before s c p x (inr (n1, inr (n3, inr (n4, inr (n14, inr (n2, (a, w))))))) = inr (n1, inr (n3, inr (n4, inr (n2, (a, mode-0 S h s _ x .0 w)))))
 
   from-before : (s c : List ℕ) (p : Place) (x : Out × List ℕ) → Answers (putBefore S h s c p) x → Answers (putTable S h s c p 0) x
   unfolding putTable putBefore
@@ -215,7 +211,7 @@ module _ (S : Shape) (h : List ℕ → ℕ) where
   from-before s c p x (inr (n1, inr (n3, inl w))) = inr (n1, inr (n3, inl w))
   from-before s c p x (inr (n1, inr (n3, inr (n4, inl w)))) = inr (n1, inr (n3, inr (n4, inr ((λ _ l. omega arith), inl w))))
   from-before s c p x (inr (n1, inr (n3, inr (n4, inr (n2, (a, w)))))) =
-      inr (n1, inr (n3, inr (n4, inr ((λ _ l. omega arith), inr (n2, (a, inr ((λ _ f. omega (arith, f .0)), inr ((λ _ f. omega (arith, f .0)), w))))))))
+      inr (n1, inr (n3, inr (n4, inr ((λ _ l. omega arith), inr (n2, (a, mode-0 S h s _ x .1 w))))))
 
   pub either-as-before : EitherAsBefore S h
   either-as-before s c p x = (to-before s c p x, from-before s c p x)

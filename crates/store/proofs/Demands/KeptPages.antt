@@ -21,7 +21,7 @@ use Rattle.store.proofs.Showing.Shows.{Shows}
 use Rattle.store.proofs.Showing.Shown.{free-not}
 use Rattle.store.proofs.Showing.Rooms.{bucket-one}
 use Rattle.store.proofs.Accepted.Unique.{read-zero, read-bucket, page-long, held}
-use Rattle.store.proofs.Demands.Outcomes.{outcome}
+use Rattle.store.proofs.Demands.Modes.{put-each}
 use Rattle.store.proofs.Accepted.Format.{accepted-always}
 use Rattle.store.proofs.Showing.Showing.{accepted-shows, pages-held}
 use Rattle.store.proofs.Put.PutKept.{Kept, put-kept}
@@ -60,7 +60,7 @@ module _ (S : Shape) (h : List ℕ → ℕ) (sized : Sized S) (hash : Hash h) wh
   written s x gs b k = subst (Kept (contents S s)) (sym (b .held)) k
 
   put-keeps : (s c : List ℕ) (p : Place) (m : ℕ) → Accepted S h s → (x : Out × List ℕ) → Answers (putTable S h s c p m) x → Keeps s x
-  put-keeps s c p m a = outcome S h s (Keeps s) c p record {
+  put-keeps s c p m a = put-each S h s (Keeps s) c p record {
     kept = λ o _. same-kept S h (rowsHeld S s) (contents S s) (shown s a);
     over = λ old k t b. written s (replaced (place old), t) _ b (over-kept S h (rowsHeld S s) (contents S s) (shown s a) r);
     fresh = λ un n6 n7 t b. written s (new, t) _ b (put-kept S h hash (rowsHeld S s) r (contents S s) (shown s a) un (omega arith) (omega (arith, pages-held S s)));

@@ -24,7 +24,7 @@ use Rattle.partition.proofs.Maps.{cut, cut-none, cut-same, map-remove, map-put}
 use Rattle.partition.proofs.Sorted.{listing-same}
 use Rattle.store.proofs.Showing.Sorted.{afresh-same}
 use Rattle.store.proofs.Accepted.Rules.{accepted-whole}
-use Rattle.store.proofs.Demands.Outcomes.{nothing-there, outcome}
+use Rattle.store.proofs.Demands.Modes.{nothing-there, put-each}
 use Rattle.store.proofs.Demands.Kept.{no-three, refusal-keeps}
 use Rattle.store.proofs.Accepted.Format.{format-accepted, accepted-always, no-rows}
 
@@ -86,7 +86,7 @@ module _ (S : Shape) (h : List ℕ → ℕ) where
 
   module _ (sized : Sized S) (puts : PutRows S h) (over : OverRows S h) (removes : RemoveRows S h) where
     put-left : (s c : List ℕ) (p : Place) (m : ℕ) → Accepted S h s → (x : Out × List ℕ) → Answers (putTable S h s c p m) x → Left (put c p m) s x
-    put-left s c p m a = outcome S h s (Left (put c p m) s) c p record {
+    put-left s c p m a = put-each S h s (Left (put c p m) s) c p record {
       kept = λ o f. kept (put c p m) s (o, s) o refl f;
       over = λ old k t b. moved (put c p m) s (replaced (place old), t) _ _ refl refl b (over s r old a k);
       fresh = λ un n6 n7 t b. moved (put c p m) s (new, t) _ _ refl refl b (to-cut c (rowsHeld S s) _ _ un (puts s r a un n6 n7));
@@ -166,7 +166,7 @@ update-put r x rs = map-put r x rs
 
 module _ (S : Shape) (h : List ℕ → ℕ) (sized : Sized S) (fresh : AcceptedIsAfresh S h) (puts : PutRows S h) (over : OverRows S h) (removes : RemoveRows S h) where
   put-answer : (s c : List ℕ) (p : Place) (m : ℕ) (x : Out × List ℕ) → Answers (putTable S h s c p m) x → ok (x .0) ≡ true → x .0 ≡ putAnswer (map-of S s c)
-  put-answer s c p m = outcome S h s (λ x. ok (x .0) ≡ true → x .0 ≡ putAnswer (map-of S s c)) c p
+  put-answer s c p m = put-each S h s (λ x. ok (x .0) ≡ true → x .0 ≡ putAnswer (map-of S s c)) c p
       (record { kept = λ o f g. absurd (true≢false (sym g ∙ f)); over = λ old k t b f. ap putAnswer (sym k); fresh = λ un n6 n7 t b f. ap putAnswer (sym un) }) m
 
   remove-answer : (s c : List ℕ) → Accepted S h s → (x : Out × List ℕ) → Answers (removeTable S h s c) x

@@ -68,8 +68,8 @@ module _ (S : Shape) (h : List ℕ → ℕ) (sized : Sized S) (hash : Hash h) (s
         (store-of S h sized hash s (a .long) _ (putNew S h (contents S s) r) (put-shown S h sized hash s r a e six seven)
         (put-fits S h hash (pages S s - 2) (contents S s) (accepted-fits S h s a) r st sized)))))
 
-    by-mode : (m : ℕ) (r : Row) → Stores r → Result (putByMode S h s m r)
-    by-mode m r st =
+    pub mode-answered : (m : ℕ) (r : Row) → Stores r → Result (putByMode S h s m r)
+    mode-answered m r st =
         refused-or (both (ℕ-discrete m 1) (there-or-not (placeOf (rowsHeld S s) (r .code)))) (λ _.
         refused-or (both (ℕ-discrete m 2) (absent-or-not (placeOf (rowsHeld S s) (r .code)))) (λ _. put-accepted r st))
 
@@ -77,7 +77,7 @@ module _ (S : Shape) (h : List ℕ → ℕ) (sized : Sized S) (hash : Hash h) (s
   unfolding putTable
   put-answered c p m small range =
       unless (good-or-not S s) (λ g. refused-or (three-or-not c) (λ three. refused-or (negative-or-not p) (λ natural. refused-or (decLt 2 m) (λ _.
-      checked-or S h s (λ o. (o, s)) g (λ a. by-mode a m (record { code = c; place = stored p }) (stores c p small range three natural))))))
+      checked-or S h s (λ o. (o, s)) g (λ a. mode-answered a m (record { code = c; place = stored p }) (stores c p small range three natural))))))
 
   pub remove-answered : (c : List ℕ) → Result (removeTable S h s c)
   unfolding removeTable

@@ -60,7 +60,7 @@ part-put-start : tie.Need-part-put-start
 part-put-start c = search needs
 
 part-put-end : tie.Need-part-put-end
-part-put-end c = omega (arith, read (c .before .before .before .before .before) _ (c .before .before .before .c2 .given .1) .says .coded .within)
+part-put-end c = omega (arith, read (c .before .before .before .before .before) _ (c .before .before .before .c2 .given .1) .line .says .coded .within)
 
 put-requires : tie.Need-put-requires
 put-requires c κs = search needs

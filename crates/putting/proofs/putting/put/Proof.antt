@@ -47,8 +47,8 @@ module _ (c : tie.Else4) where
   ranged = let g = start .good .1 .1 .0 .1 .1 in record { page = g .0 .1; slot = g .1 .0 .1; volume = g .1 .1 .0 .1 }
 
 -- past the mode
-a-mode : (c : tie.Else5) → Refusal14 (start (c .before) .args .mode) → ⊥
-a-mode c l = omega (arith, c .if5 .left)
+moded : (c : tie.Else5) → Refusal14 (start (c .before) .args .mode) → ⊥
+moded c l = omega (arith, c .if5 .left)
 
 good-length-requires : tie.Need-good-length-requires
 good-length-requires c κs = sized-1024
@@ -108,7 +108,7 @@ returns-6 c =
     let d = f .before in
     inr (
       (λ _ n. n (good (e d .before .before))),
-      inr ((λ _ r. short (e d) r), inr ((λ _ n. positive d n), inr ((λ _ l. a-mode f l), inl (c .before .first-bad .result, (c .before .first-bad .ensures .bad (c .if6 .taken), refl))))),
+      inr ((λ _ r. short (e d) r), inr ((λ _ n. positive d n), inr ((λ _ l. moded f l), inl (c .before .first-bad .result, (c .before .first-bad .ensures .bad (c .if6 .taken), refl))))),
     )
 
 slice-aggregate-store-place : tie.Need-slice-aggregate-store-place
@@ -150,7 +150,7 @@ returns-7 c =
         inr (
           (λ _ n. positive d n),
           inr (
-            (λ _ l. a-mode f l),
+            (λ _ l. moded f l),
             inr (
               accepted-whole S1024 fnv (now (start d .args .s)) a,
               (

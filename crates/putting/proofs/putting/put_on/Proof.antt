@@ -1,7 +1,7 @@
 -- `putting::put_on` meets its contract, by where the code stands and the mode. Assumes nothing.
 use Rattle.directory.proofs.OnePage.{lent}
 use Rattle.store.proofs.Accepted.Reading.{Naming}
-use Rattle.store.proofs.Demands.Outcomes.{is-known, is-absent, let-known, let-new}
+use Rattle.store.proofs.Demands.Modes.{is-known, is-absent, let-known, let-new}
 use Rattle.store.proofs.Paging.PageTies.{found-at, found-not}
 use Rattle.store.specs.Tables.{putAccepted, meaning}
 use Rattle.store.specs.Demands.{sized-1024}

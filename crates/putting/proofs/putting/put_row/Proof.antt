@@ -1,6 +1,6 @@
 -- `putting::put_row` meets its contract, by the entry of the hash and the mode. Assumes nothing.
 use Rattle.store.proofs.Accepted.Reading.{entryOf, Naming, lookup-none, lookup-page}
-use Rattle.store.proofs.Demands.Outcomes.{is-absent, let-new}
+use Rattle.store.proofs.Demands.Modes.{is-absent, let-new}
 use Rattle.store.proofs.Accepted.Rules.{opened}
 use Rattle.store.specs.Demands.{sized-1024}
 use Rattle.store.specs.Pages.{S1024, dirDepth, entryAt, rowsHeld}

@@ -2,9 +2,10 @@
 use mathlib.Core.Path.{_≡_, refl, sym, subst}
 use mathlib.Core.Bool.{false}
 use mathlib.Core.List.{List}
-use mathlib.Core.Logic.{inl, inr}
+use mathlib.Core.Logic.{_↔_, inl, inr}
 use mathlib.Core.Option.{Option, some, none}
 use Prim.Native.Nat.{ℕ}
+use native.Mathlib.Omega.{arith}
 use Rattle.ground.specs.Ladder.{Answers}
 use Rattle.ground.proofs.Ladders.{Each, each}
 use Rattle.ground.proofs.Tests.{none-some}
@@ -38,10 +39,19 @@ module _ (S : Shape) (h : List ℕ → ℕ) (s : List ℕ) (m : ℕ) (r : Row) w
   pub let-new : placeOf (rowsHeld S s) (r .code) ≡ none → (m ≡ 2 → ⊥) → (x : Out × List ℕ) → Answers (putAccepted S h s r) x → Answers (putByMode S h s m r) x
   let-new k n x a = inr ((λ _ f. none-some k (f .1 .1)), inr ((λ _ f. n (f .0)), a))
 
+-- mode 0 lets everything through
+pub mode-0 : (S : Shape) (h : List ℕ → ℕ) (s : List ℕ) (r : Row) (x : Out × List ℕ) → Answers (putByMode S h s 0 r) x ↔ Answers (putAccepted S h s r) x
+mode-0 S h s r x = (back, λ a. inr ((λ _ f. omega (arith, f .0)), inr ((λ _ f. omega (arith, f .0)), a)))
+  where
+    back : Answers (putByMode S h s 0 r) x → Answers (putAccepted S h s r) x
+    back (inl w) = absurd (omega (arith, w .1 .0 .0))
+    back (inr (_, inl w)) = absurd (omega (arith, w .1 .0 .0))
+    back (inr (_, inr (_, a))) = a
+
 -- ---- the three ways
 
 -- Q holds of a refusal that keeps the store s, of the row r in the place of an old one, and of r as a new row
-pub record Outcomes (S : Shape) (h : List ℕ → ℕ) (s : List ℕ) (r : Row) (Q : Out × List ℕ → Type 0) : Type 0 where
+pub record PutWays (S : Shape) (h : List ℕ → ℕ) (s : List ℕ) (r : Row) (Q : Out × List ℕ → Type 0) : Type 0 where
   pub kept : (o : Out) → ok o ≡ false → Q (o, s)
   pub over : (old : List ℕ) → placeOf (rowsHeld S s) (r .code) ≡ some old
       → (t : List ℕ) → Becomes S h s (overwritten (contents S s) r) t → Q (replaced (place old), t)
@@ -49,10 +59,10 @@ pub record Outcomes (S : Shape) (h : List ℕ → ℕ) (s : List ℕ) (r : Row) 
       → (t : List ℕ) → Becomes S h s (putNew S h (contents S s) r) t → Q (new, t)
 
 module _ (S : Shape) (h : List ℕ → ℕ) (s : List ℕ) (Q : Out × List ℕ → Type 0) where
-  keep : {r : Row} → Outcomes S h s r Q → (o : Out) → ok o ≡ false → (x : Out × List ℕ) → x ≡ (o, s) → Q x
+  keep : {r : Row} → PutWays S h s r Q → (o : Out) → ok o ≡ false → (x : Out × List ℕ) → x ≡ (o, s) → Q x
   keep w o f x e = subst Q (sym e) (w .kept o f)
 
-  ways : (r : Row) → Outcomes S h s r Q → (m : ℕ) → Each Q (putByMode S h s m r)
+  ways : (r : Row) → PutWays S h s r Q → (m : ℕ) → Each Q (putByMode S h s m r)
   ways r w m = (
     (λ _ _. keep w _ refl),
     (λ _. (
@@ -71,14 +81,14 @@ module _ (S : Shape) (h : List ℕ → ℕ) (s : List ℕ) (Q : Out × List ℕ 
   )
 
   -- of a put on an accepted store
-  pub by-mode : (r : Row) → Outcomes S h s r Q → (m : ℕ) (x : Out × List ℕ) → Answers (putByMode S h s m r) x → Q x
-  by-mode r w m = each Q (putByMode S h s m r) (ways r w m)
+  pub mode-each : (r : Row) → PutWays S h s r Q → (m : ℕ) (x : Out × List ℕ) → Answers (putByMode S h s m r) x → Q x
+  mode-each r w m = each Q (putByMode S h s m r) (ways r w m)
 
   -- of a put on any bytes
-  pub outcome : (c : List ℕ) (p : Place) → Outcomes S h s (record { code = c; place = stored p }) Q
+  pub put-each : (c : List ℕ) (p : Place) → PutWays S h s (record { code = c; place = stored p }) Q
       → (m : ℕ) (x : Out × List ℕ) → Answers (putTable S h s c p m) x → Q x
   unfolding putTable
-  outcome c p w m = each Q (putTable S h s c p m) (
+  put-each c p w m = each Q (putTable S h s c p m) (
     (λ _ _. keep w _ refl),
     (λ _. (
       (λ _ _. keep w _ refl),
