@@ -2,6 +2,7 @@
 pub mod Settled
 pub mod Modes
 pub mod Kept
+pub mod Unchecked
 pub mod Order
 pub mod Same
 pub mod Plan
@@ -12,4 +13,3 @@ pub mod Said
 pub mod Meaning
 pub mod Whole
 pub mod Choice
-pub mod Unchecked
