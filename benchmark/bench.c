@@ -3,6 +3,7 @@
  *   bench build DIR             makes the stores
  *   bench CALL FILE [checks]    makes calls that are counted, and says how many: check, plain2, plain3 once; lookup, put, remove for several codes, and
  *                               with `checks` a check of the same store before each, which is then what the marks enclose
+ *   bench put_all FILE [checks] the same for one call of many puts, from FILE.before to FILE; says how many puts
  *   bench damage FILE TIMES     the three checks on damaged copies, which must all say the same; says how many were accepted
  *   bench time FILE             the least nanoseconds of a check, a plain check at -O2, one at -O3
  *   bench bytes FILE            how many codes there are, and their bytes together
@@ -185,6 +186,27 @@ static size_t check_once(uint64_t (*check)(const uint8_t *, size_t)) {
     return 1;
 }
 
+/* All of the codes in one call; it must leave the store that they left one by one. */
+static size_t put_at_once(const char *path, int checks) {
+    static uint8_t bytes[CODES * 64], after[MOST];
+    static uint32_t lengths[CODES], answers[CODES];
+    static uint64_t places[CODES];
+    size_t len = 0;
+    for (size_t i = 0; i < many; i++) {
+        memcpy(bytes + len, codes[i].bytes, codes[i].len);
+        len += lengths[i] = codes[i].len;
+        places[i] = place_word(i);
+        answers[i] = 77;
+    }
+    if (checks) check_once(lots_check);
+    else mark(0);
+    uint64_t r = lots_put_all(store, size, bytes, len, lengths, many, places, many, answers, many, LOTS_ONLY_NEW);
+    if (!checks) mark(1);
+    expect(r == 0 && load(path, "", after, MOST) == size && memcmp(after, store, size) == 0, "a batch");
+    for (size_t i = 0; i < many; i++) expect(answers[i] == 0, "a put of a batch");
+    return many;
+}
+
 /* ---- damage */
 
 static uint8_t *some_page(void) { return store + PAGE * (2 + below(size / PAGE - 2)); }
@@ -282,7 +304,7 @@ int main(int argc, char **argv) {
     many = load(path, ".codes", codes, sizeof codes) / sizeof codes[0];
     size = load(path, ".before", store, MOST);
     size_t rows = lots_count(store, size);
-    if (strcmp(call, "put") != 0) load(path, "", store, MOST);
+    if (strncmp(call, "put", 3) != 0) load(path, "", store, MOST);
     if (strcmp(call, "damage") == 0 && argc > 3) return damage(atoi(argv[3])), 0;
     if (strcmp(call, "time") == 0) return times(), 0;
     if (strcmp(call, "bytes") == 0) return code_bytes(), 0;
@@ -292,6 +314,7 @@ int main(int argc, char **argv) {
     else if (strcmp(call, "plain3") == 0) calls = check_once(plain3);
     else if (strcmp(call, "lookup") == 0) calls = look_up_some(checks);
     else if (strcmp(call, "put") == 0) calls = put_all(rows, checks);
+    else if (strcmp(call, "put_all") == 0) calls = put_at_once(path, checks);
     else if (strcmp(call, "remove") == 0) calls = remove_all(rows, checks);
     else return 2;
     printf("%zu\n", calls);

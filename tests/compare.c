@@ -13,8 +13,8 @@
 enum { PAGE = 1024, MOST = 258 * PAGE + 4 * PAGE, POOL = 12000 };
 
 static uint64_t state;
-static uint64_t steps, refused[16], inspected[16], reached[9], joins, splits;
-static const int numbers[] = {1, 2, 3, 4, 5, 6, 7, 8, 9, 13, 14};
+static uint64_t steps, refused[16], inspected[16], in_batch[16], reached[9], joins, splits;
+static const int numbers[] = {1, 2, 3, 4, 5, 6, 7, 8, 9, 12, 13, 14};
 enum { NUMBERS = sizeof numbers / sizeof *numbers };
 
 static uint32_t draw(void) {
@@ -345,6 +345,123 @@ static void modes(int bits, uint32_t value, unsigned number) {
     expect("no mode, a broken store", put_as(5, UINT64_MAX, len), LOTS_BAD_MODE);
 }
 
+/* ---- batches */
+
+enum { PUTS = 48, BYTES = 80 * PUTS };
+
+static struct lent codes_mem, lengths_mem, places_mem, answers_mem;
+
+struct batch {
+    uint8_t codes[BYTES];
+    uint32_t lengths[PUTS + 1];
+    uint64_t places[PUTS + 1];
+    size_t codes_len, lengths_len, places_len, answers_len;
+    uint64_t mode;
+};
+
+static uint64_t place_word(const struct call *c) { return (uint32_t)c->page | (uint64_t)(uint16_t)c->slot << 32 | (uint64_t)(uint16_t)c->volume << 48; }
+
+/* The batch on `ours`; the runs are lent read-only, and store and answers too where it is refused. */
+static uint64_t proved_batch(const struct batch *b, size_t len, int refusal, uint32_t *answers) {
+    uint8_t *s = store_mem.end - len, *codes = codes_mem.end - b->codes_len;
+    uint32_t *lengths = (uint32_t *)lengths_mem.end - b->lengths_len, *filled = (uint32_t *)answers_mem.end - b->answers_len;
+    uint64_t *places = (uint64_t *)places_mem.end - b->places_len;
+    const struct lent *const lent[] = {&store_mem, &answers_mem, &codes_mem, &lengths_mem, &places_mem};
+    for (int i = 0; i < 5; i++) writable(lent[i], 1);
+    memcpy(s, ours, len);
+    memcpy(codes, b->codes, b->codes_len);
+    memcpy(lengths, b->lengths, b->lengths_len * sizeof *lengths);
+    memcpy(places, b->places, b->places_len * sizeof *places);
+    memcpy(filled, answers, b->answers_len * sizeof *filled);
+    for (int i = refusal ? 0 : 2; i < 5; i++) writable(lent[i], 0);
+    uint64_t r = lots_put_all(s, len, codes, b->codes_len, lengths, b->lengths_len, places, b->places_len, filled, b->answers_len, b->mode);
+    memcpy(ours, s, len);
+    memcpy(answers, filled, b->answers_len * sizeof *answers);
+    for (int i = 0; i < 5; i++) writable(lent[i], 1);
+    return r;
+}
+
+/* The same puts, one by one, by the proved call: what the batch left, and its answers. */
+static void one_by_one(const struct batch *b, uint8_t *s, size_t len, const uint32_t *answers) {
+    for (size_t i = 0, at = 0; i < b->lengths_len; at += b->lengths[i++]) {
+        uint64_t w = b->places[i], r = lots_put(s, len, b->codes + at, b->lengths[i], lots_place_page(w), lots_place_slot(w), lots_place_volume(w), b->mode);
+        if (lots_refusal(r) != answers[i]) fail("a put of a batch, made by itself", answers[i], r);
+        in_batch[lots_refusal(r) & 15]++;
+    }
+    if (memcmp(s, ours, len) != 0) fail("the store after the same puts", 0, 0);
+}
+
+static uint64_t both_batch(const struct batch *b, size_t len) {
+    static uint8_t before[MOST];
+    uint32_t our_answers[PUTS + 1], their_answers[PUTS + 1];
+    for (size_t i = 0; i <= PUTS; i++) our_answers[i] = their_answers[i] = draw();
+    memcpy(before, ours, len);
+    uint64_t y = ref_put_all(theirs, len, b->codes, b->codes_len, b->lengths, b->lengths_len, b->places, b->places_len, their_answers, b->answers_len, b->mode);
+    uint64_t x = proved_batch(b, len, lots_refusal(y) != 0, our_answers);
+    if (x != y) fail("a batch's answer", x, y);
+    if (memcmp(ours, theirs, len) != 0) fail("the store after a batch", 0, 0);
+    if (memcmp(our_answers, their_answers, sizeof our_answers) != 0) fail("the answers of a batch", 0, 0);
+    if (lots_refusal(x) == 0) one_by_one(b, before, len, our_answers);
+    note(0, x);
+    return x;
+}
+
+/* Puts of codes of the pool, some of them twice, some of no or too many bytes, some at negative places. */
+static struct batch random_batch(size_t many, size_t puts) {
+    struct batch b = {.lengths_len = puts, .places_len = puts, .answers_len = puts, .mode = below(2) ? LOTS_EITHER : below(3)};
+    struct call c = {0};
+    for (size_t i = 0; i < puts; i++) {
+        if (i == 0 || below(4)) pick(&c, many); /* else the code before it once more */
+        if (below(30) == 0) c.code_len = below(2) ? 0 : 65 + below(8);
+        random_place(&c);
+        memcpy(b.codes + b.codes_len, c.code, c.code_len);
+        b.codes_len += b.lengths[i] = c.code_len;
+        b.places[i] = place_word(&c);
+    }
+    return b;
+}
+
+/* One of the shapes of refusal 12. */
+static void misfit(struct batch *b) {
+    size_t i = below(b->lengths_len), j = (i + 1) % b->lengths_len;
+    switch (below(9)) {
+    case 0: b->lengths_len--; break;
+    case 1: b->places_len--; break;
+    case 2: b->answers_len--; break;
+    case 3: b->places_len++; break;
+    case 4: b->answers_len++; break;
+    case 5: b->lengths[i]++; break;
+    case 6: b->codes_len++; break;
+    case 7: b->lengths[i] = UINT32_MAX; break;
+    default: /* a sum in 32 bits would come round to the same number */
+        b->lengths[i] += (uint32_t)1 << 31;
+        b->lengths[j] += (uint32_t)1 << 31;
+    }
+}
+
+static void batches(size_t pages, size_t many, int times) {
+    size_t len = pages * PAGE;
+    struct batch b;
+    for (int t = 0; t < times; t++) {
+        if (t % 16 == 0) format(len);
+        b = random_batch(many, below(8) ? 1 + below(PUTS) : below(3));
+        expect("a batch", both_batch(&b, len), 0);
+        b = random_batch(many, 2 + below(PUTS - 1));
+        misfit(&b);
+        if (below(2)) b.mode = no_modes[below(8)];
+        int hurt = below(2);
+        if (hurt) ours[PAGE - 1] ^= 1, theirs[PAGE - 1] ^= 1; /* on a store that breaks a rule it is 12 too */
+        expect("runs that do not fit", both_batch(&b, len), LOTS_BAD_RUNS);
+        expect("runs that do not fit, and no store", both_batch(&b, len - 1), LOTS_BAD_LENGTH);
+        b = random_batch(many, below(PUTS));
+        b.mode = no_modes[below(8)];
+        expect("a batch of no mode", both_batch(&b, len), LOTS_BAD_MODE);
+        b.mode = below(3);
+        if (hurt) expect("a batch on a broken store", both_batch(&b, len), LOTS_BAD_PAGE);
+        if (hurt) ours[PAGE - 1] ^= 1, theirs[PAGE - 1] ^= 1;
+    }
+}
+
 /* The fields of a word, at the ends of their ranges. */
 static void fields(uint8_t *s, size_t len, const uint8_t *key) {
     lots_format(s, len);
@@ -372,6 +489,10 @@ static void nothing_lent(void) {
     expect("lookup in nothing", lots_lookup(NULL, 0, NULL, 0), LOTS_BAD_LENGTH);
     expect("lookup of nothing", lots_lookup(s, sizeof s, NULL, 0), LOTS_BAD_CODE);
     expect("put in nothing", lots_put(NULL, 0, NULL, 0, 1, 2, 3, LOTS_EITHER), LOTS_BAD_LENGTH);
+    expect("no puts", lots_put_all(s, sizeof s, NULL, 0, NULL, 0, NULL, 0, NULL, 0, LOTS_ONLY_KNOWN), 0);
+    expect("no puts in nothing", lots_put_all(NULL, 0, NULL, 0, NULL, 0, NULL, 0, NULL, 0, LOTS_EITHER), LOTS_BAD_LENGTH);
+    expect("no puts of no mode", lots_put_all(s, sizeof s, NULL, 0, NULL, 0, NULL, 0, NULL, 0, 3), LOTS_BAD_MODE);
+    expect("one code, no puts", lots_put_all(s, sizeof s, key, 1, NULL, 0, NULL, 0, NULL, 0, LOTS_EITHER), LOTS_BAD_RUNS);
     expect("put of nothing", lots_put(s, sizeof s, NULL, 0, 1, 2, 3, UINT64_MAX), LOTS_BAD_CODE);
     expect("remove in nothing", lots_remove(NULL, 0, NULL, 0), LOTS_BAD_LENGTH);
     expect("remove of nothing", lots_remove(s, sizeof s, NULL, 0), LOTS_BAD_CODE);
@@ -394,6 +515,10 @@ int main(int argc, char **argv) {
     out_mem = guarded(256);
     page_mem = guarded(4 * PAGE);
     len_mem = guarded(sizeof(uint32_t));
+    codes_mem = guarded(BYTES + 1);
+    lengths_mem = guarded(sizeof(uint32_t) * (PUTS + 1));
+    places_mem = guarded(sizeof(uint64_t) * (PUTS + 1));
+    answers_mem = guarded(sizeof(uint32_t) * (PUTS + 1));
     nothing_lent();
     modes(0, 0, LOTS_PAGES_FULL);
     modes(8, below(256), LOTS_PREFIX_FULL);
@@ -407,6 +532,9 @@ int main(int argc, char **argv) {
         many = fill_pool(1500, 1, 64, 0, 0), history(70, many, 4, 1200), damage(70 * PAGE, 200, many);
         many = fill_pool(3000, 50, 64, 0, 0), history(258, many, 3, 2600), damage(258 * PAGE, 60, many);
         random_bytes(3000, many);
+        many = fill_pool(120, 1, 64, 0, 0), batches(3, many, 80), batches(12, many, 80);
+        many = fill_pool(60, 50, 64, 8, below(256)), batches(6, many, 80);
+        many = fill_pool(3000, 8, 20, 0, 0), batches(258, many, 40);
     }
     printf("compare: seed %llu, %llu calls, no difference; refusals", (unsigned long long)seed, (unsigned long long)steps);
     for (int i = 0; i < NUMBERS; i++) printf(" %d:%llu", numbers[i], (unsigned long long)refused[numbers[i]]);
@@ -422,6 +550,11 @@ int main(int argc, char **argv) {
         printf("compare: an answer of inspection was never reached\n");
         return 1;
     }
+    for (int i = 3; i <= 13; i++)
+        if (in_batch[i] == 0 && (i < 8 || i == 13)) {
+            printf("compare: no put of a batch was refused with %d\n", i);
+            return 1;
+        }
     if (reached[8] == 0) {
         printf("compare: depth 8 was never reached\n");
         return 1;

@@ -421,6 +421,22 @@ uint64_t ref_put(uint8_t *s, size_t len, const uint8_t *code, size_t code_len, i
     return NEW_ROW;
 }
 
+/* The runs are far shorter than 2^32, so that the sum fits. */
+uint64_t ref_put_all(uint8_t *s, size_t len, const uint8_t *codes, size_t codes_len, const uint32_t *lengths, size_t lengths_len, const uint64_t *places,
+                     size_t places_len, uint32_t *answers, size_t answers_len, uint64_t mode) {
+    uint64_t sum = 0, bad;
+    if (!good_length(len)) return refusal(1);
+    for (size_t i = 0; i < lengths_len; i++) sum += lengths[i];
+    if (places_len != lengths_len || answers_len != lengths_len || sum != codes_len) return refusal(12);
+    if (mode > 2) return refusal(14);
+    if ((bad = ref_check(s, len))) return bad;
+    for (size_t i = 0, at = 0; i < lengths_len; at += lengths[i++]) {
+        uint64_t r = ref_put(s, len, codes + at, lengths[i], (int32_t)places[i], (int16_t)(places[i] >> 32), (int16_t)(places[i] >> 48), mode);
+        answers[i] = r & REFUSED ? r & 255 : 0;
+    }
+    return 0;
+}
+
 uint64_t ref_remove(uint8_t *s, size_t len, const uint8_t *code, size_t code_len) {
     static struct bucket after[ENTRIES];
     struct row some[160];

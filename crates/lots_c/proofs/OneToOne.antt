@@ -16,7 +16,9 @@ use Rattle.store.specs.Pages.{S1024}
 use Rattle.store.specs.Tables.{Out, refused, refusedAt, formatted, accepted, new, replaced, found, counted, row, formatTable, checkTable, countTable, lookupTable, putTable, removeTable, rowTable, inspectTable}
 use Rattle.store.specs.Demands.{sized-1024}
 use Rattle.store.proofs.Demands.Said.{RefusedBelow, Placed, Rowed, Counted, Kept, Said, format-said, check-said, count-said, lookup-said, put-said, remove-said, row-said, inspect-said}
-use Rattle.lots_c.specs.Words.{plain, placeWord, refusalWord, word, lengthAfter, Tells, TellsAnd, TellsRow}
+use Rattle.batch.specs.Batch.{Runs, batchTable}
+use Rattle.batch.proofs.Settled.{batch-said}
+use Rattle.lots_c.specs.Words.{plain, placeWord, refusalWord, word, lengthAfter, Tells, TellsAnd, TellsAll, TellsRow}
 
 -- ---- what a caller reads off a word
 
@@ -55,13 +57,13 @@ refusal-off value o m (inr (p, (l, e))) =
 
 -- three numbers and their word
 module _ (x y z : ℕ) (hx : x < 2 ^ 31) (hy : y < 2 ^ 15) (hz : z < 2 ^ 15) where
-  page-of : (x + 4294967296 * y + 281474976710656 * z) % 4294967296 ≡ x
+  pub page-of : (x + 4294967296 * y + 281474976710656 * z) % 4294967296 ≡ x
   page-of = omega arith
 
-  slot-of : (x + 4294967296 * y + 281474976710656 * z) / 4294967296 % 65536 ≡ y
+  pub slot-of : (x + 4294967296 * y + 281474976710656 * z) / 4294967296 % 65536 ≡ y
   slot-of = omega arith
 
-  volume-of : (x + 4294967296 * y + 281474976710656 * z) / 281474976710656 ≡ z
+  pub volume-of : (x + 4294967296 * y + 281474976710656 * z) / 281474976710656 ≡ z
   volume-of = omega arith
 
 -- a place and its word
@@ -134,6 +136,10 @@ remove-one s t c d u v r a b = one (λ w. found (placeIn w)) (Placed found) 258 
 pub put-one : (s t c d u v : List ℕ) (p q : Place) (m n r : ℕ) (a : TellsAnd (putTable S1024 fnv s c p m) u r) (b : TellsAnd (putTable S1024 fnv t d q n) v r) → a .out ≡ b .out
 put-one s t c d u v p q m n r a b = one putIn Kept 258 (omega arith) put-off (a .is) (b .is)
     (put-said S1024 fnv sized-1024 fnv-lt s c p m (a .out, u) (a .allowed)) (put-said S1024 fnv sized-1024 fnv-lt t d q n (b .out, v) (b .allowed))
+
+pub all-one : (s t u v ns ks : List ℕ) (d e : Runs) (m n r : ℕ) (a : TellsAll (batchTable S1024 fnv s d m) u ns r) (b : TellsAll (batchTable S1024 fnv t e n) v ks r) → a .out ≡ b .out
+all-one s t u v ns ks d e m n r a b = one (λ _. accepted) (λ o. o ≡ accepted) 258 (omega arith) (λ o e. subst (λ x. readOff (λ _. accepted) (word x) ≡ x) (sym e) refl) (a .is) (b .is)
+    (batch-said S1024 fnv s d m (a .out, (u, ns)) (a .allowed)) (batch-said S1024 fnv t e n (b .out, (v, ks)) (b .allowed))
 
 -- a row, with the code's length
 abbrev Sized : ℕ → Out → Type 0

@@ -56,6 +56,12 @@ pub record TellsAnd (T : Ladder (Out × List ℕ)) (t : List ℕ) (r : ℕ) : Ty
   pub allowed : Answers T (out, t)
   pub is : r ≡ word out
 
+-- the same of a batch: ns is what its run of answers holds then
+pub record TellsAll (T : Ladder (Out × (List ℕ × List ℕ))) (t ns : List ℕ) (r : ℕ) : Type 0 where
+  pub out : Out
+  pub allowed : Answers T (out, (t, ns))
+  pub is : r ≡ word out
+
 -- the same of a call that gives a row: the code's length too
 pub record TellsRow (T : Ladder (Out × List ℕ)) (t : List ℕ) (old len r : ℕ) : Type 0 where
   pub out : Out

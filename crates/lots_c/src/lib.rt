@@ -5,7 +5,8 @@ ghost use Rattle.hash.specs.Fnv.{fnv};
 ghost use Rattle.page.specs.declared.Place.{Place};
 ghost use Rattle.store.specs.Pages.{S1024};
 ghost use Rattle.store.specs.Tables.{formatTable, checkTable, countTable, lookupTable, putTable, removeTable, rowTable, inspectTable, meaning};
-ghost use Rattle.lots_c.specs.Words.{plain, placeWord, refusalWord, word, lengthAfter, Tells, TellsAnd, TellsRow};
+ghost use Rattle.batch.specs.Batch.{runs, batchTable};
+ghost use Rattle.lots_c.specs.Words.{plain, placeWord, refusalWord, word, lengthAfter, Tells, TellsAnd, TellsAll, TellsRow};
 use page::Place;
 use store::Answer;
 use store::Numbers;
@@ -141,4 +142,18 @@ pub extern "C" fn lots_put(
 {
     let place = Place { page, slot, volume };
     word_of(putting::put(store, code, place, mode))
+}
+
+#[no_mangle]
+pub extern "C" fn lots_put_all(
+    store: &mut [u8],
+    codes: &[u8],
+    lengths: &[u32],
+    places: &[u64],
+    answers: &mut [u32],
+    mode: u64,
+) -> u64
+    ensures { λ r. ⌜ TellsAll (batchTable S1024 fnv (now (store .entry)) (runs (now (codes .entry)) (now (lengths .entry)) (now (places .entry)) (now (answers .entry))) mode) (now (store .exit)) (now (answers .exit)) r ⌝ }
+{
+    word_of(batch::put_all(store, codes, lengths, places, answers, mode))
 }

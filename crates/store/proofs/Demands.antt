@@ -2,6 +2,7 @@
 pub mod Settled
 pub mod Modes
 pub mod Kept
+pub mod Unchecked
 pub mod Order
 pub mod Same
 pub mod Plan

@@ -14,7 +14,7 @@ use Rattle.partition.specs.Partition.{Row, needs, rowsOf, buckets}
 use Rattle.page.specs.declared.Place.{Place}
 use Rattle.page.specs.Places.{place, stored, Negative}
 use Rattle.store.specs.declared.Refusal.{Refusal}
-use Rattle.store.specs.declared.Refusal.the-variants.{BadLength, BadPage, BadCode, BadPlace, NoCode, PrefixFull, PagesFull, ShortOutput, NoRow, KnownCode, BadMode}
+use Rattle.store.specs.declared.Refusal.the-variants.{BadLength, BadPage, BadCode, BadPlace, NoCode, PrefixFull, PagesFull, ShortOutput, NoRow, BadRuns, KnownCode, BadMode}
 use Rattle.store.specs.declared.Answer.{Answer}
 use Rattle.store.specs.declared.Answer.the-variants.{Refused, Formatted, Accepted as Passed, New, Replaced, Found, Rows, RowOf}
 use Rattle.ground.specs.Ladder.{Ladder, rung, given, ends, answer, refuse}
@@ -43,6 +43,7 @@ refusal PrefixFull = refused 6
 refusal PagesFull = refused 7
 refusal ShortOutput = refused 8
 refusal NoRow = refused 9
+refusal BadRuns = refused 12
 refusal KnownCode = refused 13
 refusal BadMode = refused 14
 

@@ -29,6 +29,8 @@ pub enum Refusal {
     ShortOutput,
     // n not below the number of rows
     NoRow,
+    // the runs of a batch differ in length, or its lengths do not add up
+    BadRuns,
     // only a new code was expected, and the code is there
     KnownCode,
     // no mode of a put
@@ -108,6 +110,10 @@ pub fn numbers_of(r: Refusal) -> Numbers
         Refusal::PagesFull => Numbers { number: 7, page: 0 },
         Refusal::ShortOutput => Numbers { number: 8, page: 0 },
         Refusal::NoRow => Numbers { number: 9, page: 0 },
+        Refusal::BadRuns => Numbers {
+            number: 12,
+            page: 0,
+        },
         Refusal::KnownCode => Numbers {
             number: 13,
             page: 0,

@@ -5,14 +5,14 @@ use mathlib.Core.List.{[], _∷_}
 use Prim.Native.Nat.{ℕ}
 use lib.ListN.{getD}
 use Rattle.store.specs.declared.Refusal.{Refusal}
-use Rattle.store.specs.declared.Refusal.the-variants.{BadLength, BadPage, BadCode, BadPlace, NoCode, PrefixFull, PagesFull, ShortOutput, NoRow, KnownCode, BadMode}
+use Rattle.store.specs.declared.Refusal.the-variants.{BadLength, BadPage, BadCode, BadPlace, NoCode, PrefixFull, PagesFull, ShortOutput, NoRow, BadRuns, KnownCode, BadMode}
 use Rattle.store.specs.declared.Answer.{Answer}
 use Rattle.store.specs.declared.Answer.the-variants.{Refused, Formatted, Accepted, New, Replaced, Found, Rows, RowOf}
 use Rattle.store.specs.Tables.{Out, refused, refusedAt, formatted, accepted, new, replaced, found, counted, row, refusal, meaning}
 
 -- the case of each number and value
 abbrev case : Out → Answer
-case (refused n) = Refused (getD (BadLength ∷ BadLength ∷ BadLength ∷ BadCode ∷ BadPlace ∷ NoCode ∷ PrefixFull ∷ PagesFull ∷ ShortOutput ∷ NoRow ∷ BadLength ∷ BadLength ∷ BadLength ∷ KnownCode ∷ BadMode ∷ []) n BadLength)
+case (refused n) = Refused (getD (BadLength ∷ BadLength ∷ BadLength ∷ BadCode ∷ BadPlace ∷ NoCode ∷ PrefixFull ∷ PagesFull ∷ ShortOutput ∷ NoRow ∷ BadLength ∷ BadLength ∷ BadRuns ∷ KnownCode ∷ BadMode ∷ []) n BadLength)
 case (refusedAt n p) = Refused (BadPage p)
 case formatted = Formatted
 case accepted = Accepted
@@ -32,6 +32,7 @@ back-refusal PrefixFull = refl
 back-refusal PagesFull = refl
 back-refusal ShortOutput = refl
 back-refusal NoRow = refl
+back-refusal BadRuns = refl
 back-refusal KnownCode = refl
 back-refusal BadMode = refl
 
@@ -59,5 +60,6 @@ by-refusal P f g PrefixFull = f 6
 by-refusal P f g PagesFull = f 7
 by-refusal P f g ShortOutput = f 8
 by-refusal P f g NoRow = f 9
+by-refusal P f g BadRuns = f 12
 by-refusal P f g KnownCode = f 13
 by-refusal P f g BadMode = f 14

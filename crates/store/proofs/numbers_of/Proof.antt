@@ -45,6 +45,9 @@ enum-told-9 c = search needs
 enum-told-10 : tie.Need-enum-told-10
 enum-told-10 c = search needs
 
+enum-told-11 : tie.Need-enum-told-11
+enum-told-11 c = search needs
+
 returns : tie.Need-returns
 returns c = plain 1 (λ e. omega (arith, e)) (c .enum-told .given .1) refl
 
@@ -73,10 +76,13 @@ returns-9 : tie.Need-returns-9
 returns-9 c = plain 9 (λ e. omega (arith, e)) (c .enum-told8 .given .1) refl
 
 returns-10 : tie.Need-returns-10
-returns-10 c = plain 13 (λ e. omega (arith, e)) (c .enum-told9 .given .1) refl
+returns-10 c = plain 12 (λ e. omega (arith, e)) (c .enum-told9 .given .1) refl
 
 returns-11 : tie.Need-returns-11
-returns-11 c = plain 14 (λ e. omega (arith, e)) (c .enum-told10 .given .1) refl
+returns-11 c = plain 13 (λ e. omega (arith, e)) (c .enum-told10 .given .1) refl
+
+returns-12 : tie.Need-returns-12
+returns-12 c = plain 14 (λ e. omega (arith, e)) (c .enum-told11 .given .1) refl
 
 pub numbers-of-spec : {M : Type 1} → statement M
 numbers-of-spec =
@@ -93,6 +99,7 @@ numbers-of-spec =
     enum-told-8
     enum-told-9
     enum-told-10
+    enum-told-11
     returns
     returns-2
     returns-3
@@ -103,4 +110,5 @@ numbers-of-spec =
     returns-8
     returns-9
     returns-10
-    returns-11)
+    returns-11
+    returns-12)

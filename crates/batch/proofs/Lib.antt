@@ -1,0 +1,6 @@
+pub mod Sums
+pub mod Signs
+pub mod Chains
+pub mod Settled
+pub mod Histories
+pub mod EndToEnd

@@ -1,0 +1,2 @@
+pub mod PlaceWords
+pub mod Batch

@@ -1,0 +1,7 @@
+// A whole tender in one call: many puts on a store that is checked once.
+mod parts;
+mod runs;
+mod tender;
+
+pub use parts::place_of;
+pub use tender::put_all;

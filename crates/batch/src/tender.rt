@@ -1,0 +1,71 @@
+// The puts of a batch, one after the other.
+ghost use mathlib.Core.Path.{_≡_};
+ghost use Rattle.ground.specs.Ladder.{Answers};
+ghost use Rattle.hash.specs.Fnv.{fnv};
+ghost use Rattle.store.specs.Pages.{S1024};
+ghost use Rattle.store.specs.Accepted.{Accepted};
+ghost use Rattle.store.specs.Demands.{Mode};
+ghost use Rattle.store.specs.Tables.{meaning};
+ghost use Rattle.batch.specs.Batch.{runs, GoodRuns, wanted, OnePut, Puts, batchTable};
+ghost use Rattle.batch.specs.PlaceWords.{wordPlace};
+use super::parts::number_of;
+use super::parts::place_of;
+use super::runs::good_runs;
+
+// One put, at the place of a word, and the number of its answer.
+fn put_word(s: &mut [u8], key: &[u8], w: u64, mode: u64) -> u32
+    requires { ⌜ Accepted S1024 fnv (now s) × Mode mode ⌝ }
+    ensures { λ r. ⌜ OnePut S1024 fnv mode (record { code = now (key .entry); place = wordPlace w }) (now (s .entry)) r (now (s .exit)) ⌝ }
+{
+    number_of(putting::put_checked(s, key, place_of(w), mode))
+}
+
+// Each put in turn, with the number of its answer.
+fn put_each(
+    s: &mut [u8],
+    codes: &[u8],
+    lengths: &[u32],
+    places: &[u64],
+    answers: &mut [u32],
+    mode: u64,
+)
+    requires { ⌜ Accepted S1024 fnv (now s) × Mode mode × GoodRuns (runs (now codes) (now lengths) (now places) (now answers)) ⌝ }
+    ensures { λ _. ⌜ Puts S1024 fnv mode (wanted (now (codes .entry)) (now (lengths .entry)) (now (places .entry))) (now (s .entry)) (now (answers .exit)) (now (s .exit)) ⌝ }
+{
+    let mut at = 0;
+    let mut i = 0;
+    while i < lengths.len() {
+        let e = at + lengths[i] as usize;
+        answers[i] = put_word(s, &codes[at..e], places[i], mode);
+        at = e;
+        i += 1;
+    }
+}
+
+// Each code gets its place, if it is what the mode expects; the store is checked once.
+pub fn put_all(
+    s: &mut [u8],
+    codes: &[u8],
+    lengths: &[u32],
+    places: &[u64],
+    answers: &mut [u32],
+    mode: u64,
+) -> store::Answer
+    ensures { λ r. ⌜ Answers (batchTable S1024 fnv (now (s .entry)) (runs (now (codes .entry)) (now (lengths .entry)) (now (places .entry)) (now (answers .entry))) mode) (meaning r, (now (s .exit), now (answers .exit))) ⌝ }
+{
+    if !store_check::good_length(s, partition::S1024) {
+        return store::Answer::Refused(store::Refusal::BadLength);
+    }
+    if !good_runs(codes, lengths, places, answers) {
+        return store::Answer::Refused(store::Refusal::BadRuns);
+    }
+    if 2 < mode {
+        return store::Answer::Refused(store::Refusal::BadMode);
+    }
+    let p = store_check::first_bad(s);
+    if p < s.len() / 1024 {
+        return store::Answer::Refused(store::Refusal::BadPage(p));
+    }
+    put_each(s, codes, lengths, places, answers, mode);
+    store::Answer::Accepted
+}
