@@ -60,7 +60,7 @@ pub fn row_known(s: &[u8], n: usize, out: &mut [u8], known: bool) -> Answer
     if !known {
         return query::row_at(s, n, out);
     }
-    query::give_row(s, n, out)
+    query::give_row(s, partition::S1024, n, out)
 }
 
 pub fn put_known(s: &mut [u8], key: &[u8], place: Place, mode: u64, known: bool) -> Answer

@@ -87,7 +87,7 @@ fn list_row(s: &[u8], p: usize, i: usize) -> bool
     requires { ⌜ OnPage S1024 (now s) p i ⌝ }
 {
     let mut code = [0u8; 64];
-    let a = query::read_row(s, p, i, &mut code);
+    let a = query::read_row(s, partition::S1024, p, i, &mut code);
     say::answer(a, &code)
 }
 

@@ -105,23 +105,24 @@ pub fn lookup(s: &[u8], key: &[u8]) -> Answer
 }
 
 // The row in slot i of the bucket page p, its code to the start of the output.
-pub fn read_row(s: &[u8], p: usize, i: usize, out: &mut [u8]) -> Answer
-    requires { ⌜ OnPage S1024 (now s) p i × (64 ≤ length (now out)) ⌝ }
-    ensures { λ r. ⌜ (meaning r, now (out .exit)) ≡ giving (asRow (rowAt (page S1024 (now (s .entry)) p) i)) (now (out .entry)) ⌝ }
+pub fn read_row(s: &[u8], z: Shape, p: usize, i: usize, out: &mut [u8]) -> Answer
+    requires { ⌜ OnPage z (now s) p i × (64 ≤ length (now out)) ⌝ }
+    ensures { λ r. ⌜ (meaning r, now (out .exit)) ≡ giving (asRow (rowAt (page z (now (s .entry)) p) i)) (now (out .entry)) ⌝ }
 {
-    let a = p * 1024;
-    let e = a + 1024;
+    let size = 8 + z.capacity;
+    let a = p * size;
+    let e = a + size;
     let len = page::read_code(&s[a..e], i, out);
     Answer::RowOf(len, page::read_place(&s[a..e], i))
 }
 
 // The row at place n of the listing, its code to the start of the output, on an accepted store.
-pub fn give_row(s: &[u8], n: usize, out: &mut [u8]) -> Answer
-    requires { ⌜ Accepted S1024 fnv (now s) × (64 ≤ length (now out)) ⌝ }
-    ensures { λ r. ⌜ Answers (rowOf (listing S1024 fnv (rowsHeld S1024 (now (s .entry)))) n (now (out .entry))) (meaning r, now (out .exit)) ⌝ }
+pub fn give_row(s: &[u8], z: Shape, n: usize, out: &mut [u8]) -> Answer
+    requires { ⌜ Sized z × Accepted z fnv (now s) × (64 ≤ length (now out)) ⌝ }
+    ensures { λ r. ⌜ Answers (rowOf (listing z fnv (rowsHeld z (now (s .entry)))) n (now (out .entry))) (meaning r, now (out .exit)) ⌝ }
 {
-    match spots::nth_row(s, partition::S1024, n) {
-        Spot::Here(p, i) => read_row(s, p, i, out),
+    match spots::nth_row(s, z, n) {
+        Spot::Here(p, i) => read_row(s, z, p, i, out),
         Spot::Nowhere => Answer::Refused(Refusal::NoRow),
     }
 }
@@ -140,5 +141,5 @@ pub fn row_at(s: &[u8], n: usize, out: &mut [u8]) -> Answer
     if p < s.len() / 1024 {
         return Answer::Refused(Refusal::BadPage(p));
     }
-    give_row(s, n, out)
+    give_row(s, partition::S1024, n, out)
 }

@@ -7,8 +7,8 @@ use mathlib.Core.Logic.{inl, inr}
 use Prim.Native.Nat.{ℕ}
 use Rattle.ground.proofs.Tests.{none-some}
 use Rattle.page.specs.Page.{rowAt}
-use Rattle.store.specs.Pages.{S1024, page, asRow}
-use Rattle.store.specs.Demands.{sized-1024}
+use Rattle.store.specs.Pages.{page, asRow}
+use Rattle.partition.specs.declared.Shape.{Shape}
 use Rattle.query.specs.Spots.{Listed}
 use Rattle.query.specs.declared.Spot.the-variants.{Here}
 use Rattle.query.proofs.give_row.Statement.{statement}
@@ -16,6 +16,9 @@ use Rattle.query.proofs.give_row.Tie as tie
 
 -- where the row stands
 module _ (b : tie.After-p) where
+  abbrev S : Shape
+  S = b .before .before .before .before .before .args .z
+
   abbrev store : List ℕ
   store = now (b .before .before .before .before .before .args .s)
 
@@ -28,17 +31,17 @@ module _ (b : tie.After-p) where
   abbrev slot-no : ℕ
   slot-no = b .p .given .0 .1 .0
 
-  here : Listed S1024 store n (Here page-no slot-no)
-  here = subst (Listed S1024 store n) (b .p .given .1) (b .before .before .nth-row .ensures)
+  here : Listed S store n (Here page-no slot-no)
+  here = subst (Listed S store n) (b .p .given .1) (b .before .before .nth-row .ensures)
 
 nth-row-requires : tie.Need-nth-row-requires
-nth-row-requires c κs = (sized-1024, c .before .before .pre .0)
+nth-row-requires c κs = let p = c .before .before .pre in (p .0, p .1)
 
 enum-known-p : tie.Need-enum-known-p
 enum-known-p c = search needs
 
 read-row-requires : tie.Need-read-row-requires
-read-row-requires c κs = let b = c .before .before in (here b .0, b .before .before .before .before .before .pre .1)
+read-row-requires c κs = let b = c .before .before in (here b .0, b .before .before .before .before .before .pre .2)
 
 enum-told : tie.Need-enum-told
 enum-told c = search needs
@@ -47,7 +50,7 @@ same-length : tie.Need-same-length
 same-length c = search needs
 
 returns : tie.Need-returns
-returns c = let b = c .before .before .before .before .before in inl (asRow (rowAt (page S1024 (store b) (page-no b)) (slot-no b)), (here b .1, c .before .before .read-row .ensures))
+returns c = let b = c .before .before .before .before .before in inl (asRow (rowAt (page (S b) (store b) (page-no b)) (slot-no b)), (here b .1, c .before .before .read-row .ensures))
 
 returns-2 : tie.Need-returns-2
 returns-2 c = let f = c .before .before in

@@ -42,7 +42,7 @@ unfolding rowTable
 returns-3 c = inr ((λ _ n. n (good (c .before .before .before))), inr ((λ _ l. omega (arith, c .before .before .if2 .left)), inl (c .before .first-bad .result, (c .before .first-bad .ensures .bad (c .if3 .taken), refl))))
 
 give-row-requires : tie.Need-give-row-requires
-give-row-requires c κs = (c .before .before .first-bad .ensures .sound (c .before .if3 .left), c .before .before .before .if2 .left)
+give-row-requires c κs = (sized-1024, c .before .before .first-bad .ensures .sound (c .before .if3 .left), c .before .before .before .if2 .left)
 
 same-length : tie.Need-same-length
 same-length c = search needs

@@ -2,6 +2,7 @@
 use borrow.Author.Needs.{needs}
 use borrow.Author.Tests.{not-true, not-false}
 use Rattle.hash.specs.Fnv.{fnv}
+use Rattle.store.specs.Demands.{sized-1024}
 use Rattle.store.specs.Pages.{S1024}
 use Rattle.store.proofs.Demands.Unchecked.{gives}
 use Rattle.lots.proofs.known.row_known.Statement.{statement}
@@ -17,7 +18,7 @@ returns : tie.Need-returns
 returns c = search needs
 
 give-row-requires : tie.Need-give-row-requires
-give-row-requires c κs = let p = c .before .before .before .before .pre in (p .0 (not-false _ (c .before .if1 .left)), p .1)
+give-row-requires c κs = let p = c .before .before .before .before .pre in (sized-1024, p .0 (not-false _ (c .before .if1 .left)), p .1)
 
 same-length-2 : tie.Need-same-length-2
 same-length-2 c = search needs
