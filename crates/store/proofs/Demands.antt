@@ -13,4 +13,3 @@ pub mod Said
 pub mod Meaning
 pub mod Whole
 pub mod Choice
-pub mod Unchecked
