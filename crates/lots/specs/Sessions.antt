@@ -5,7 +5,7 @@ use mathlib.Core.Bool.{false}
 use mathlib.Core.List.{List}
 use lib.ListN.{length, take}
 use Rattle.lots.specs.declared.Outcome.{Outcome}
-use Rattle.lots.specs.declared.Outcome.the-variants.{Same, Changed, Format, Stopped}
+use Rattle.lots.specs.declared.Outcome.the-variants.{Silent, Unknown, Told, Changed, Listed, Format, Stopped}
 use Rattle.lots.specs.declared.Session.{Session}
 use Rattle.lots.specs.Known.{Known}
 
@@ -20,9 +20,12 @@ Quiet z = (z .changed ≡ false) × (z .stopped ≡ false)
 
 -- the line has changed nothing so far, and its answer could be written
 abbrev pub Leaves : Outcome → Type 0
-Leaves Same = Unit {0}
+Leaves Silent = Unit {0}
+Leaves Unknown = Unit {0}
+Leaves (Told x) = Unit {0}
+Leaves (Listed n) = Unit {0}
 Leaves (Format n) = Unit {0}
-Leaves Changed = ⊥
+Leaves (Changed x) = ⊥
 Leaves Stopped = ⊥
 
 -- a line's outcome taken into the session z: a change or a stop is marked

@@ -26,13 +26,16 @@ fn after(z: Session, o: Outcome) -> Session
 {
     let mut y = z;
     match o {
-        Outcome::Changed => {
+        Outcome::Changed(_) => {
             y.changed = true;
         }
         Outcome::Stopped => {
             y.stopped = true;
         }
-        Outcome::Same => {}
+        Outcome::Silent => {}
+        Outcome::Unknown => {}
+        Outcome::Told(_) => {}
+        Outcome::Listed(_) => {}
         Outcome::Format(_) => {}
     }
     y
