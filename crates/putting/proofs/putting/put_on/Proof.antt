@@ -49,7 +49,7 @@ module _ (b : tie.After-found) where
   at : (b .found .given .0 .0 < count (g a1)) × (code (g a1) (b .found .given .0 .0) ≡ key a1)
   at = subst (FoundIn (g a1) (key a1)) (b .found .given .1) (found a1)
 
--- or it belongs at one, and there is so much room
+-- or it belongs at one
 module _ (b : tie.After-get16) where
   abbrev b2 : tie.After-found2
   b2 = b .before .before .before .before
@@ -59,9 +59,6 @@ module _ (b : tie.After-get16) where
 
   belongs : Belongs (g a2) (b2 .found2 .given .0 .0) (key a2)
   belongs = subst (FoundIn (g a2) (key a2)) (b2 .found2 .given .1) (found a2)
-
-  room : b .get16 .result ≡ free (g a2)
-  room = b .get16 .ensures .0 ∙ ap free (page-lent (S a2) (s a2) (z a2 .args .p))
 
 -- the page is there
 module _ (z : tie.Start) where
@@ -123,6 +120,7 @@ insert-lent-requires : tie.Need-insert-lent-requires
 insert-lent-requires c κs =
     let b = c .before .before in
     let q = z (a2 b) .pre in
+    let room = rw (page-lent (S (a2 b)) (s (a2 b)) (z (a2 b) .args .p)) at (b .get16 .ensures .0) in
     record {
       row = q;
       fits = record {
@@ -130,7 +128,7 @@ insert-lent-requires c κs =
         belongs = belongs b;
         natural = q .row .natural;
         good = q .row .good;
-        fits = omega (arith, room b, c .before .if1 .taken);
+        fits = omega (arith, room, c .before .if1 .taken);
       };
     }
 
@@ -144,7 +142,8 @@ split-lent-requires : tie.Need-split-lent-requires
 split-lent-requires c κs =
     let b = c .before .before in
     let q = z (a2 b) .pre in
-    record { row = q; belongs = belongs b; tight = omega (arith, room b, c .before .if1 .left) }
+    let room = rw (page-lent (S (a2 b)) (s (a2 b)) (z (a2 b) .args .p)) at (b .get16 .ensures .0) in
+    record { row = q; belongs = belongs b; tight = omega (arith, room, c .before .if1 .left) }
 
 same-length-2 : tie.Need-same-length-2
 same-length-2 c = search needs
