@@ -5,3 +5,4 @@ pub mod Ranks
 pub mod Halves
 pub mod Runs
 pub mod Rises
+pub mod Few

@@ -2,12 +2,16 @@
 use Prim.Native.Nat.{ℕ, zero, suc, _+_, _*_, _<_, _≤_}
 use mathlib.Core.Path.{_≡_, refl, sym, ap, subst, _∙_}
 use mathlib.Core.Bool.{Bool, true, false, cond}
-use mathlib.Core.List.{List, [], _∷_}
+use mathlib.Core.List.{List, [], _∷_, map}
+use mathlib.Core.Option.{some, none}
 use native.Mathlib.Nat.{le-of-suc-le-suc, not-suc-le-zero}
 use native.Mathlib.Omega.{arith}
 use lib.Dec.{ltb, leb, eqb}
-use lib.ListN.{length, getD, set, drop, length-set, drop-of-length-le}
-use Rattle.report.specs.Numbers.{AtMost, indexOf, markAt, tallied, ifSo, unmarked, unmarkedSum, remarked, Closed}
+use lib.ListN.{length, getD, set, drop, getElem?, length-set, drop-of-length-le}
+use Rattle.ground.proofs.Tests.{none-some}
+use Rattle.partition.specs.Partition.{Row}
+use Rattle.store.proofs.Demands.Settled.{some-one}
+use Rattle.report.specs.Numbers.{rankOn, AtMost, indexOf, markAt, tallied, ifSo, unmarked, unmarkedSum, remarked, Closed}
 use Rattle.report.proofs.Ranks.{lt-yes, lt-no, eq-true, ne-false, le-yes, le-no}
 
 drop-suc : (xs : List ℕ) (i : ℕ) → i < length xs → drop i xs ≡ getD {A = ℕ} xs i 0 ∷ drop (suc i) xs
@@ -17,6 +21,22 @@ drop-suc (x ∷ xs) (suc i) l = drop-suc xs i (le-of-suc-le-suc l)
 
 drop-at : (xs : List ℕ) (i : ℕ) → i < length xs → drop i xs ≡ getD {A = ℕ} xs i 0 ∷ drop (i + 1) xs
 drop-at xs i l = let e : suc i ≡ i + 1 = omega arith in drop-suc xs i l ∙ ap (λ (j : ℕ). getD {A = ℕ} xs i 0 ∷ drop j xs) e
+
+-- the row at place k of a listing, as a number
+pub listed-below : (rs : List Row) (k : ℕ) (r : Row) → getElem? rs k ≡ some r → k < length rs
+listed-below [] k r e = absurd (none-some refl e)
+listed-below (q ∷ rs) zero r e = omega arith
+listed-below (q ∷ rs) (suc k) r e = let l : k < length rs = listed-below rs k r e in omega (arith, l)
+
+pub unlisted : (rs : List Row) (k : ℕ) → getElem? rs k ≡ none → length rs ≤ k
+unlisted [] k e = omega arith
+unlisted (q ∷ rs) zero e = absurd (none-some e refl)
+unlisted (q ∷ rs) (suc k) e = let l : length rs ≤ k = unlisted rs k e in omega (arith, l)
+
+pub listed-rank : (rs : List Row) (k : ℕ) (r : Row) → getElem? rs k ≡ some r → getD {A = ℕ} (map rankOn rs) k 0 ≡ rankOn r
+listed-rank [] k r e = absurd (none-some refl e)
+listed-rank (q ∷ rs) zero r e = ap rankOn (some-one q r refl e)
+listed-rank (q ∷ rs) (suc k) r e = listed-rank rs k r e
 
 mark-length : (cs : List ℕ) (i : ℕ) (t : Bool) → length (cond t (set cs i (getD cs i 0 + 1)) cs) ≡ length cs
 mark-length cs i true = length-set cs i (getD cs i 0 + 1)

@@ -2,7 +2,7 @@
 use mathlib.Core.Path.{_≡_}
 use mathlib.Core.Bool.{Bool, cond, _&&_}
 use mathlib.Core.List.{List, [], _∷_, map}
-use mathlib.Core.Option.{some, none}
+use mathlib.Core.Option.{none}
 use Prim.Native.Nat.{ℕ, suc, _+_, _*_, _-_, _≤_, _<_}
 use lib.Dec.{leb, ltb, eqb}
 use lib.ListN.{length, getD, set, take, drop, replicate, getElem?}
@@ -24,7 +24,7 @@ use Rattle.report.specs.declared.Left.{Left}
 use Rattle.report.specs.declared.Sums.{Sums}
 use Rattle.report.specs.declared.Ending.{Ending}
 use Rattle.report.specs.declared.Ending.the-variants.{Missing, Whole}
-use Rattle.report.specs.Report.{limit, Reported, other, missing, summed}
+use Rattle.report.specs.Report.{limit, PlaceAt, Reported, other, missing, summed}
 
 -- what no place and no amount has
 abbrev pub outside : ℕ
@@ -101,7 +101,7 @@ tallied ps ls (w ∷ ws) k s cs = cond (ltb (indexOf w ps) (length ps)) (tallied
 
 -- the place of the row at place n of the listing, with a cursor before the next; or there is no such row
 abbrev pub Follows : Shape → List ℕ → ℕ → Next → Type 0
-Follows S s n (Placed p c) = ((r : Row) × (getElem? (listing S fnv (rowsHeld S s)) n ≡ some r) × (p ≡ place (r .place))) × At S s (n + 1) c
+Follows S s n (Placed p c) = PlaceAt (listing S fnv (rowsHeld S s)) n p × At S s (n + 1) c
 Follows S s n End = getElem? (listing S fnv (rowsHeld S s)) n ≡ none
 
 -- a code's place as a number
@@ -110,7 +110,7 @@ rankOn r = rank (place (r .place))
 
 -- the tally of the rows rs from the marks cs ends with the marks cs′: at the first place that is not there, or whole
 abbrev pub Ends : List ℕ → List ℕ → List Row → List ℕ → Ending → List ℕ → Type 0
-Ends ps ls rs cs (Missing p) cs′ = (r : Row) × (getElem? rs (tallied ps ls (map rankOn rs) 0 0 cs .0) ≡ some r) × (p ≡ place (r .place))
+Ends ps ls rs cs (Missing p) cs′ = PlaceAt rs (tallied ps ls (map rankOn rs) 0 0 cs .0) p
 Ends ps ls rs cs (Whole k s) cs′ = (k ≡ length rs) × ((k, (s, cs′)) ≡ tallied ps ls (map rankOn rs) 0 0 cs)
 
 -- ---- the closing pass
@@ -155,7 +155,7 @@ pub record SumsOf (ps ls : List ℕ) (rs : List Row) (cs : List ℕ) (x : Sums) 
 -- over a sound sheet, from the marks cs
 abbrev pub Told : List ℕ → List ℕ → List Row → List ℕ → Reported → Type 0
 Told ps ls rs cs (other o) = ⊥
-Told ps ls rs cs (missing p) = (r : Row) × (getElem? rs (tallied ps ls (map rankOn rs) 0 0 cs .0) ≡ some r) × (p ≡ place (r .place))
+Told ps ls rs cs (missing p) = PlaceAt rs (tallied ps ls (map rankOn rs) 0 0 cs .0) p
 Told ps ls rs cs (summed x) = SumsOf ps ls rs cs x
 
 -- the report over the numbers of n rows

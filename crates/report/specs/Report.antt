@@ -113,14 +113,18 @@ reportOf xs rs = record { total = totalOf xs rs; hidden = hiddenOf rs xs; cents 
 abbrev pub InSheet : List SheetRow → Place → Type 0
 InSheet xs p = (i : ℕ) × (i < length xs) × (sheetRow xs i .place ≡ p)
 
--- the first place in the listing that is not in the sheet
-pub record FirstMissing (xs : List SheetRow) (rs : List Row) (p : Place) : Type 0 where
-  pub n : ℕ
+-- p is the place of the row at place n of the listing
+pub record PlaceAt (rs : List Row) (n : ℕ) (p : Place) : Type 0 where
   pub row : Row
   pub there : getElem? rs n ≡ some row
   pub is : p ≡ place (row .place)
+
+-- the first place in the listing that is not in the sheet
+pub record FirstMissing (xs : List SheetRow) (rs : List Row) (p : Place) : Type 0 where
+  pub n : ℕ
+  pub listed : PlaceAt rs n p
   pub absent : InSheet xs p → ⊥
-  pub before : (m : ℕ) (q : Row) → m < n → getElem? rs m ≡ some q → InSheet xs (place (q .place))
+  pub before : (m : ℕ) (q : Place) → m < n → PlaceAt rs m q → InSheet xs q
 
 -- a refusal by its number, 11 with its place; or the sums
 pub data Reported : Type 0 where

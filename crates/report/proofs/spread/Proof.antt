@@ -243,8 +243,13 @@ module _ {M : Type 1} (𝓤 : URA M) (H : Heap 𝓤) (A : Atoms 𝓤) (W : Given
         next-fits = lt-of-le-of-lt (add-one-le less) (gn .0)
 
         next : (r : ℕ) (zs : List ℕ) → (r ≡ t .i + 1) × (zs ≡ laid (t .fl) (t .i) (sheetRow ys (t .i))) → length zs ≡ length (t .fl) → Turn
-        next r zs e′ l = record { i = r; fl = zs; le = subst (λ (k : ℕ). k ≤ n) (sym (e′ .0)) (add-one-le less);
-            is = e′ .1 ∙ ap (λ (w : List ℕ). laid w (t .i) (sheetRow ys (t .i))) (t .is) ∙ sym (upto-next (t .i) ys fl₀ less) ∙ ap (λ (k : ℕ). upto 0 k ys fl₀) (sym (e′ .0)); len = l ∙ t .len }
+        next r zs e′ l = record {
+          i = r;
+          fl = zs;
+          le = subst (λ (k : ℕ). k ≤ n) (sym (e′ .0)) (add-one-le less);
+          is = e′ .1 ∙ ap (λ (w : List ℕ). laid w (t .i) (sheetRow ys (t .i))) (t .is) ∙ sym (upto-next (t .i) ys fl₀ less) ∙ ap (λ (k : ℕ). upto 0 k ys fl₀) (sym (e′ .0));
+          len = l ∙ t .len;
+        }
 
         nearer : (r : ℕ) → r ≡ t .i + 1 → n - r < n - t .i
         nearer r e′ = subst (λ (k : ℕ). n - k < n - t .i) (sym e′) (add-one-dec n (t .i) less)

@@ -42,7 +42,7 @@ shared-slice-read-close-step-2 : tie.Need-shared-slice-read-close-step-2 Inv-loo
 shared-slice-read-close-step-2 c = c .before .before .loop-test .taken
 
 close-step-requires : tie.Need-close-step-requires Inv-loop μ-loop
-close-step-requires c κs = 
+close-step-requires c κs =
     let i = c .before .before in
     let p = i .before .loop .inv in
     let l : i .before .loop .i < length (K (S i)) = i .loop-test .taken in
@@ -58,7 +58,7 @@ loop-less : tie.Need-loop-less Inv-loop μ-loop
 loop-less c = omega (arith, c .before .before .before .loop-test .taken)
 
 loop-again : tie.Need-loop-again Inv-loop μ-loop
-loop-again c = 
+loop-again c =
     let i = c .before .before .before in
     let r = c .close-step .result in
     let e = c .close-step .ensures in
