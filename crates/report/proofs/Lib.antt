@@ -1,3 +1,4 @@
+pub mod Big
 pub mod Room
 pub mod Again
 pub mod Upto
@@ -6,3 +7,4 @@ pub mod Halves
 pub mod Runs
 pub mod Rises
 pub mod Few
+pub mod Tells

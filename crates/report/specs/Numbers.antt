@@ -77,11 +77,11 @@ pub record Sound (ps ls : List ℕ) : Type 0 where
   pub places : AtMost 9223372036854775807 ps
   pub amounts : AtMost 2000000000000 ls
 
--- a sound sheet of as many amounts as places, and a mark for each
-pub record Markable (ps ls cs : List ℕ) : Type 0 where
+-- of as many amounts as places, at most the limit
+pub record SoundSheet (ps ls : List ℕ) : Type 0 where
   pub sound : Sound ps ls
-  pub amounts : length ls ≡ length ps
-  pub marks : length cs ≡ length ps
+  pub paired : length ls ≡ length ps
+  pub most : length ps ≤ limit
 
 -- ---- the tally
 

@@ -1,13 +1,22 @@
 // The bid report: one call over a store and a sheet. `spread` and `report` take the run of sheet rows and are walked by hand; the rest works on numbers.
 ghost use mathlib.Core.Path.{_≡_};
-ghost use lib.ListN.{length};
-ghost use Rattle.report.specs.Numbers.{spreadFrom};
+ghost use Prim.Native.Nat.{_*_};
+ghost use lib.ListN.{length, replicate};
+ghost use Rattle.ground.specs.Ladder.{Answers};
+ghost use Rattle.hash.specs.Fnv.{fnv};
+ghost use Rattle.store.specs.Pages.{S1024};
+ghost use Rattle.report.specs.Report.{limit, reported};
+ghost use Rattle.report.specs.Numbers.{spreadFrom, numbersTable};
 use page::Place;
 use query::Cursor;
 use store::Refusal;
 
+mod answer;
 mod rows;
 mod tally;
+
+// The most rows of a sheet.
+pub const LIMIT: usize = 20000;
 
 // A row of the sheet: a row place and an amount in cents.
 pub struct SheetRow {
@@ -61,4 +70,13 @@ pub fn spread(sheet: &[SheetRow], flat: &mut [u64]) -> usize
         i = rows::lay(flat, i, sheet[i]);
     }
     i
+}
+
+// The one call: the sums over the store's listing and the sheet.
+pub fn report(store: &[u8], sheet: &[SheetRow]) -> Outcome
+    ensures { λ r. ⌜ Answers (numbersTable S1024 fnv (now (store .entry)) (spreadFrom 0 (now (sheet .entry)) (replicate (2 * limit) 0)) (length (now (sheet .entry)))) (reported r) ⌝ }
+{
+    let mut flat = [0u64; 2 * LIMIT];
+    let n = spread(sheet, &mut flat);
+    answer::judge(store, &flat, n)
 }

@@ -2,6 +2,7 @@
 ghost use mathlib.Core.Path.{_≡_};
 ghost use Prim.Native.Nat.{_+_, _<_, _^_};
 ghost use Rattle.report.specs.Numbers.{natPart, ranked, rank, raise, laid};
+use crate::LIMIT;
 use crate::SheetRow;
 use page::Place;
 
@@ -69,13 +70,13 @@ pub fn lay(flat: &mut [u64], i: usize, r: SheetRow) -> usize
 {
     let w = rank_of(r.place);
     let c = raise_of(r.cents);
-    if 20000 <= i {
+    if LIMIT <= i {
         return i + 1;
     }
-    if flat.len() != 40000 {
+    if flat.len() != 2 * LIMIT {
         return i + 1;
     }
     flat[i] = w;
-    flat[20000 + i] = c;
+    flat[LIMIT + i] = c;
     i + 1
 }

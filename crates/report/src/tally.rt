@@ -10,7 +10,7 @@ ghost use Rattle.store.specs.Accepted.{Accepted};
 ghost use Rattle.store.specs.Demands.{Sized};
 ghost use Rattle.store.specs.Pages.{rowsHeld};
 ghost use Rattle.query.specs.Cursors.{At};
-ghost use Rattle.report.specs.Numbers.{Rising, AtMost, Sound, Markable, indexOf, markAt, Follows, Ends, ifSo, unmarked, unmarkedSum, remarked, Closed};
+ghost use Rattle.report.specs.Numbers.{Rising, AtMost, Sound, SoundSheet, indexOf, markAt, Follows, Ends, ifSo, unmarked, unmarkedSum, remarked, Closed};
 use super::rows::rank_of;
 use crate::Ending;
 use crate::Left;
@@ -96,7 +96,7 @@ fn next_place(s: &[u8], z: Shape, c: Cursor) -> Next
 
 // Each row of the listing once: its place found in the sheet, its amount added and its sheet row marked.
 pub fn tally(s: &[u8], z: Shape, ranks: &[u64], raised: &[u64], counts: &mut [u8]) -> Ending
-    requires { ⌜ Sized z × Accepted z fnv (now s) × Markable (now ranks) (now raised) (now counts) ⌝ }
+    requires { ⌜ Sized z × Accepted z fnv (now s) × SoundSheet (now ranks) (now raised) × (length (now counts) ≡ length (now ranks)) ⌝ }
     ensures { λ r. ⌜ Ends (now (ranks .entry)) (now (raised .entry)) (listing z fnv (rowsHeld z (now (s .entry)))) (now (counts .entry)) r (now (counts .exit)) ⌝ }
 {
     let mut c = query::cursor_at(s, z, 0);

@@ -25,6 +25,9 @@ add-result c = search needs
 returns : tie.Need-returns
 returns c = let a = c .before .before .before .before .before .args in (refl, laid-far (a .flat .now) (a .i) (a .r) (c .if1 .taken))
 
+mul-if2 : tie.Need-mul-if2
+mul-if2 c = search needs
+
 add-result-2 : tie.Need-add-result-2
 add-result-2 c = search needs
 
@@ -67,4 +70,4 @@ returns-3 c =
     (refl, sets (a .flat .now) (a .i) (c .before .before .before .before .rank-of .ensures) (rw (toZ-ofZ h) at (c .before .before .raise-of .ensures)) ∙ laid-in (a .flat .now) (a .i) (a .r) (c .before .if1 .left) (eq-true (length (a .flat .now)) (2 * limit) (c .if2 .left)))
 
 pub lay-spec : {M : Type 1} → statement M
-lay-spec = tie.close (tie.spec rank-of-requires raise-of-requires add-result returns add-result-2 returns-2 mul-flat slice-write-flat add-flat mul-flat-2 slice-write-flat-2 add-result-3 same-length returns-3)
+lay-spec = tie.close (tie.spec rank-of-requires raise-of-requires add-result returns mul-if2 add-result-2 returns-2 mul-flat slice-write-flat add-flat mul-flat-2 slice-write-flat-2 add-result-3 same-length returns-3)

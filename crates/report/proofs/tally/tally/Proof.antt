@@ -89,13 +89,13 @@ module _ (f : tie.After-find Inv-loop μ-loop) where
   index = f .find .ensures ∙ ap (λ w. indexOf w (ps (b g))) (f .before .rank-of .ensures ∙ its-rank g)
 
 index-lt : (c : tie.Else1 Inv-loop μ-loop) → c .before .find .result < length (ls (b (g (c .before))))
-index-lt c = omega (arith, c .if1 .left, start (b (g (c .before))) .pre .2 .amounts)
+index-lt c = omega (arith, c .if1 .left, start (b (g (c .before))) .pre .2 .paired)
 
 cursor-at-requires : tie.Need-cursor-at-requires Inv-loop μ-loop
 cursor-at-requires c κs = let q = c .before .before .before .before in (q .pre .0, q .pre .1)
 
 loop-holds : tie.Need-loop-holds Inv-loop μ-loop
-loop-holds c = let q = c .before .before .before .before .before in (going-start (now (q .args .ranks)) (now (q .args .raised)) (ranksIn (q .args .z) (now (q .args .s))) (now (q .args .counts)) (q .pre .2 .marks), c .cursor-at .ensures)
+loop-holds c = let q = c .before .before .before .before .before in (going-start (now (q .args .ranks)) (now (q .args .raised)) (ranksIn (q .args .z) (now (q .args .s))) (now (q .args .counts)) (q .pre .3), c .cursor-at .ensures)
 
 next-place-requires : tie.Need-next-place-requires Inv-loop μ-loop
 next-place-requires c κs = let q = start c in (q .pre .0, q .pre .1, (c .loop .k, c .loop .inv .1))
@@ -110,7 +110,7 @@ find-requires : tie.Need-find-requires Inv-loop μ-loop
 find-requires c κs = start (b (c .before .before)) .pre .2 .sound .ascending
 
 same-length : tie.Need-same-length Inv-loop μ-loop
-same-length c = let l = b (g (c .before)) in l .loop .inv .0 .len ∙ sym (start l .pre .2 .marks)
+same-length c = let l = b (g (c .before)) in l .loop .inv .0 .len ∙ sym (start l .pre .3)
 
 returns : tie.Need-returns Inv-loop μ-loop
 returns c = let f = c .before in
@@ -144,13 +144,13 @@ loop-again : tie.Need-loop-again Inv-loop μ-loop
 loop-again c = let f = c .before .before .before .before .before .before in
     let l = b (g f) in
     let m = start l .pre .2 in
-    (going-next (l .loop .inv .0) (below (g f)) (m .sound .amounts) (m .amounts) (f .find .result) (index f) (c .before .before .before .before .before .if1 .left) (c .before .before .mark .last .0) (c .before .before .mark .ensures), follows (g f) .1)
+    (going-next (l .loop .inv .0) (below (g f)) (m .sound .amounts) (m .paired) (f .find .result) (index f) (c .before .before .before .before .before .if1 .left) (c .before .before .mark .last .0) (c .before .before .mark .ensures), follows (g f) .1)
 
 enum-told : tie.Need-enum-told Inv-loop μ-loop
 enum-told c = search needs
 
 same-length-2 : tie.Need-same-length-2 Inv-loop μ-loop
-same-length-2 c = let l = c .before .before .before in l .loop .inv .0 .len ∙ sym (start l .pre .2 .marks)
+same-length-2 c = let l = c .before .before .before in l .loop .inv .0 .len ∙ sym (start l .pre .3)
 
 returns-2 : tie.Need-returns-2 Inv-loop μ-loop
 returns-2 c = let l = c .before .before .before in
