@@ -8,3 +8,9 @@ pub mod Runs
 pub mod Rises
 pub mod Few
 pub mod Tells
+pub mod Laid
+pub mod Marks
+pub mod Orders
+pub mod Raises
+pub mod Sheets
+pub mod Names

@@ -64,9 +64,12 @@ same (pos m) (negsuc n) = false
 same (negsuc m) (pos n) = false
 same (negsuc m) (negsuc n) = eqb m n
 
+abbrev pub samePlace : Place → Place → Bool
+samePlace p q = same (p .page) (q .page) && (same (p .slot) (q .slot) && same (p .volume) (q .volume))
+
 -- a code names the sheet row that has its place
 abbrev pub names : Row → SheetRow → Bool
-names r x = same (place (r .place) .page) (x .place .page) && (same (place (r .place) .slot) (x .place .slot) && same (place (r .place) .volume) (x .place .volume))
+names r x = samePlace (place (r .place)) (x .place)
 
 -- how many codes of the listing name a sheet row
 unfoldable pub timesNamed : List Row → SheetRow → ℕ
