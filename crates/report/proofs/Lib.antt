@@ -14,3 +14,6 @@ pub mod Orders
 pub mod Raises
 pub mod Sheets
 pub mod Names
+pub mod Found
+pub mod Totals
+pub mod Refines

@@ -8,7 +8,7 @@ use lib.Dec.{leb, ltb, eqb}
 use lib.ListN.{length, getD, set, take, drop, replicate, getElem?}
 use lib.IntN.{ℤ, pos, negsuc, _+ℤ_}
 use Rattle.hash.specs.Fnv.{fnv}
-use Rattle.ground.specs.Ladder.{Ladder, ends, refuse}
+use Rattle.ground.specs.Ladder.{Ladder, given, ends, refuse}
 use Rattle.page.specs.declared.Place.{Place}
 use Rattle.page.specs.Places.{place}
 use Rattle.partition.specs.declared.Shape.{Shape}
@@ -163,5 +163,6 @@ unfoldable pub numbersTable : Shape → (List ℕ → ℕ) → List ℕ → List
 numbersTable S h s fl n =
     refuse (Refusal1 S s) (other (refused 1))
     (refuse ((n ≤ limit) × Sound (ranksOf fl n) (raisedOf fl n) → ⊥) (other (refused 10))
+    (given ((n ≤ limit) × Sound (ranksOf fl n) (raisedOf fl n))
     (checked S h s other
-    (ends (Told (ranksOf fl n) (raisedOf fl n) (listing S h (rowsHeld S s)) (replicate n 0)))))
+    (ends (Told (ranksOf fl n) (raisedOf fl n) (listing S h (rowsHeld S s)) (replicate n 0))))))

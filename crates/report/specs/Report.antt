@@ -8,7 +8,7 @@ use lib.Dec.{eqb, leb}
 use lib.ListN.{length, getD, getElem?}
 use lib.IntN.{ℤ, pos, negsuc, negℤ, _+ℤ_}
 use lib.Signed.{_≤ℤ_, _<ℤ_}
-use Rattle.ground.specs.Ladder.{Ladder, rung, answer, refuse}
+use Rattle.ground.specs.Ladder.{Ladder, rung, given, answer, refuse}
 use Rattle.page.specs.declared.Place.{Place}
 use Rattle.page.specs.Places.{place, Negative, InRange}
 use Rattle.partition.specs.declared.Shape.{Shape}
@@ -146,6 +146,7 @@ unfoldable pub reportTable : Shape → (List ℕ → ℕ) → List ℕ → List 
 reportTable S h s xs =
     refuse (Refusal1 S s) (other (refused 1))
     (refuse (GoodSheet xs → ⊥) (other (refused 10))
+    (given (GoodSheet xs)
     (checked S h s other
     (rung (FirstMissing xs (listing S h (rowsHeld S s))) (λ p. answer (missing p))
-    (answer (summed (reportOf xs (listing S h (rowsHeld S s))))))))
+    (answer (summed (reportOf xs (listing S h (rowsHeld S s)))))))))

@@ -117,7 +117,7 @@ first-bad-requires c κs = good (e (e2 c))
 returns-4 : tie.Need-returns-4
 unfolding numbersTable
 returns-4 c = let d = c .before .before in
-    inr ((λ _ x. x (good (e (e2 d)))), inr ((λ _ x. not-ten d x), inl (c .before .first-bad .result, (c .before .first-bad .ensures .bad (c .if4 .taken), refl))))
+    inr ((λ _ x. x (good (e (e2 d)))), inr ((λ _ x. not-ten d x), ((e2 d .if2 .left, sound-here d), inl (c .before .first-bad .result, (c .before .first-bad .ensures .bad (c .if4 .taken), refl)))))
 
 accepted : (c : tie.Else4) → Accepted S1024 fnv (store (e (e2 (c .before .before))))
 accepted c = c .before .first-bad .ensures .sound (c .if4 .left)
@@ -136,7 +136,7 @@ returns-5 c =
     let told : Told (ranksOf (flat (e f)) (n (e f))) (raisedOf (flat (e f)) (n (e f))) rs (replicate (n (e f)) 0) r =
     subst (λ ls. Told (ranksOf (flat (e f)) (n (e f))) ls rs (replicate (n (e f)) 0) r) (raised-here f)
     (subst (λ m. Told (ranksOf (flat (e f)) (n (e f))) (take ((limit + n (e f)) - limit) (drop limit (flat (e f)))) rs (replicate m 0) r) (ranks-here f) (c .told-fresh .ensures)) in
-    inr ((λ _ x. x (good (e f))), inr ((λ _ x. not-ten d x), inr (accepted-whole S1024 fnv _ (accepted (c .before)), (accepted (c .before), told))))
+    inr ((λ _ x. x (good (e f))), inr ((λ _ x. not-ten d x), ((f .if2 .left, sound-here d), inr (accepted-whole S1024 fnv _ (accepted (c .before)), (accepted (c .before), told)))))
 
 pub judge-spec : {M : Type 1} → statement M
 judge-spec =
