@@ -60,16 +60,16 @@ words-are (r ∷ rs) k fl zero e h l =
     let m : k + suc (length rs) ≤ limit = h in
     let g : k < limit = omega (arith, m) in
     let z : k + 0 ≡ k = omega arith in
-    let t = keeps rs (suc k) (laid fl k r) k (laid-length fl k r e g) (omega (arith, m)) (omega arith) in
-    (ap (λ (j : ℕ). getD {A = ℕ} (spreadFrom (suc k) rs (laid fl k r)) j 0) z ∙ t .0 ∙ laid-place fl k r e g,
-     ap (λ (j : ℕ). getD {A = ℕ} (spreadFrom (suc k) rs (laid fl k r)) (limit + j) 0) z ∙ t .1 ∙ laid-raise fl k r e g)
+    let t = keeps rs (suc k) (laid fl k r) k (laid-length fl k r e g) (omega (arith, m)) (omega arith) in (
+      ap (λ (j : ℕ). getD {A = ℕ} (spreadFrom (suc k) rs (laid fl k r)) j 0) z ∙ t .0 ∙ laid-place fl k r e g,
+      ap (λ (j : ℕ). getD {A = ℕ} (spreadFrom (suc k) rs (laid fl k r)) (limit + j) 0) z ∙ t .1 ∙ laid-raise fl k r e g,
+    )
 words-are (r ∷ rs) k fl (suc i) e h l =
     let m : k + suc (length rs) ≤ limit = h in
     let g : k < limit = omega (arith, m) in
     let z : k + suc i ≡ suc k + i = omega arith in
     let t = words-are rs (suc k) (laid fl k r) i (laid-length fl k r e g) (omega (arith, m)) (le-of-suc-le-suc l) in
     (ap (λ (j : ℕ). getD {A = ℕ} (spreadFrom (suc k) rs (laid fl k r)) j 0) z ∙ t .0, ap (λ (j : ℕ). getD {A = ℕ} (spreadFrom (suc k) rs (laid fl k r)) (limit + j) 0) z ∙ t .1)
-
 
 pub map-at : (f : SheetRow → ℕ) (xs : List SheetRow) (i : ℕ) → i < length xs → getD {A = ℕ} (map f xs) i 0 ≡ f (sheetRow xs i)
 map-at f [] i l = absurd (not-suc-le-zero l)

@@ -105,10 +105,11 @@ module _ {p q : Place} (P : Parts p) (Q : Parts q) where
           (λ j. ⊎-elim (λ g. volumes f g) (λ n. absurd (omega (arith, P .rank-is, Q .rank-is, Q .volume-low, f, n, j, l))) (same (P .b) (Q .b))) (side (P .b) (Q .b))
 
   parts-same : rank p ≡ rank q → (P .a ≡ Q .a) × (P .b ≡ Q .b) × (P .c ≡ Q .c)
-  parts-same e =
-      (omega (arith, P .rank-is, Q .rank-is, P .slot-low, P .volume-low, Q .slot-low, Q .volume-low, e),
-      omega (arith, P .rank-is, Q .rank-is, P .slot-low, P .volume-low, Q .slot-low, Q .volume-low, e),
-      omega (arith, P .rank-is, Q .rank-is, P .slot-low, P .volume-low, Q .slot-low, Q .volume-low, e))
+  parts-same e = (
+    omega (arith, P .rank-is, Q .rank-is, P .slot-low, P .volume-low, Q .slot-low, Q .volume-low, e),
+    omega (arith, P .rank-is, Q .rank-is, P .slot-low, P .volume-low, Q .slot-low, Q .volume-low, e),
+    omega (arith, P .rank-is, Q .rank-is, P .slot-low, P .volume-low, Q .slot-low, Q .volume-low, e),
+  )
 
   -- a rank is of one place
   pub rank-one : rank p ≡ rank q → p ≡ q

@@ -66,7 +66,7 @@ module _ (xs : List SheetRow) where
       most = few;
       places = place-at;
       ascending = λ i l. let k : i < length xs = omega (arith, l) in
-        rank-precedes (parts (sheetRow xs i .place) (place-at i k)) (parts (sheetRow xs (i + 1) .place) (place-at (i + 1) l))
-        (omega (arith, rank-at i k, rank-at (i + 1) l, s .ascending .rises i (i + 1) (omega arith) (omega (arith, l, ranks-long))));
+          rank-precedes (parts (sheetRow xs i .place) (place-at i k)) (parts (sheetRow xs (i + 1) .place) (place-at (i + 1) l))
+          (omega (arith, rank-at i k, rank-at (i + 1) l, s .ascending .rises i (i + 1) (omega arith) (omega (arith, l, ranks-long))));
       amounts = λ i l. amount-out (sheetRow xs i .cents) (omega (arith, raised-at i l, s .amounts .le i (omega (arith, l, raised-long))));
     }

@@ -1,12 +1,11 @@
 // The bid report: one call over a store and a sheet. `spread` and `report` take the run of sheet rows and are walked by hand; the rest works on numbers.
 ghost use mathlib.Core.Path.{_≡_};
-ghost use Prim.Native.Nat.{_*_};
-ghost use lib.ListN.{length, replicate};
+ghost use lib.ListN.{length};
 ghost use Rattle.ground.specs.Ladder.{Answers};
 ghost use Rattle.hash.specs.Fnv.{fnv};
 ghost use Rattle.store.specs.Pages.{S1024};
-ghost use Rattle.report.specs.Report.{limit, reported};
-ghost use Rattle.report.specs.Numbers.{spreadFrom, numbersTable};
+ghost use Rattle.report.specs.Report.{reported, reportTable};
+ghost use Rattle.report.specs.Numbers.{spreadFrom};
 use page::Place;
 use query::Cursor;
 use store::Refusal;
@@ -74,7 +73,7 @@ pub fn spread(sheet: &[SheetRow], flat: &mut [u64]) -> usize
 
 // The one call: the sums over the store's listing and the sheet.
 pub fn report(store: &[u8], sheet: &[SheetRow]) -> Outcome
-    ensures { λ r. ⌜ Answers (numbersTable S1024 fnv (now (store .entry)) (spreadFrom 0 (now (sheet .entry)) (replicate (2 * limit) 0)) (length (now (sheet .entry)))) (reported r) ⌝ }
+    ensures { λ r. ⌜ Answers (reportTable S1024 fnv (now (store .entry)) (now (sheet .entry))) (reported r) ⌝ }
 {
     let mut flat = [0u64; 2 * LIMIT];
     let n = spread(sheet, &mut flat);
