@@ -17,3 +17,4 @@ pub mod Names
 pub mod Found
 pub mod Totals
 pub mod Refines
+pub mod Theorems

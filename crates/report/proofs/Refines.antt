@@ -57,7 +57,7 @@ module _ (xs : List SheetRow) (g : GoodSheet xs) (rs : List Row) where
   sound : Sound ps ls
   sound = good-sound xs g
 
-  placed : InPlace xs
+  pub placed : InPlace xs
   placed = in-place xs (g .places) (λ i l. amount-in (sheetRow xs i .cents) (g .amounts i l .0) (g .amounts i l .1))
 
   ws-long : length ws ≡ length rs

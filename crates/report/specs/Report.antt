@@ -6,7 +6,7 @@ use mathlib.Core.Option.{some}
 use Prim.Native.Nat.{ℕ, _+_, _≤_, _<_}
 use lib.Dec.{eqb, leb}
 use lib.ListN.{length, getD, getElem?}
-use lib.IntN.{ℤ, pos, negsuc, negℤ, _+ℤ_}
+use lib.IntN.{ℤ, pos, negsuc, negℤ, _+ℤ_, _*ℤ_}
 use lib.Signed.{_≤ℤ_, _<ℤ_}
 use Rattle.ground.specs.Ladder.{Ladder, rung, given, answer, refuse}
 use Rattle.page.specs.declared.Place.{Place}
@@ -107,10 +107,29 @@ unfolding timesNamed
 doubledOf rs [] = 0
 doubledOf rs (x ∷ xs) = cond (leb 2 (timesNamed rs x)) 1 0 + doubledOf rs xs
 
-abbrev pub reportOf : List SheetRow → List Row → Sums
-reportOf xs rs = record { total = totalOf xs rs; hidden = hiddenOf rs xs; cents = hiddenCents rs xs; doubled = doubledOf rs xs }
+-- ---- the same sums, said again
+
+-- the sheet's sum
+unfoldable pub sheetCents : List SheetRow → ℤ
+sheetCents [] = pos 0
+sheetCents (x ∷ xs) = x .cents +ℤ sheetCents xs
+
+-- the sum of the rows named at least once
+unfoldable pub namedCents : List Row → List SheetRow → ℤ
+unfolding timesNamed
+namedCents rs [] = pos 0
+namedCents rs (x ∷ xs) = cond (eqb (timesNamed rs x) 0) (pos 0) (x .cents) +ℤ namedCents rs xs
+
+-- each sheet row's cents times the number of codes that name it
+unfoldable pub rowByRow : List Row → List SheetRow → ℤ
+unfolding timesNamed
+rowByRow rs [] = pos 0
+rowByRow rs (x ∷ xs) = (x .cents *ℤ pos (timesNamed rs x)) +ℤ rowByRow rs xs
 
 -- ---- the answer
+
+abbrev pub reportOf : List SheetRow → List Row → Sums
+reportOf xs rs = record { total = totalOf xs rs; hidden = hiddenOf rs xs; cents = hiddenCents rs xs; doubled = doubledOf rs xs }
 
 -- some sheet row has this place
 abbrev pub InSheet : List SheetRow → Place → Type 0
