@@ -13,7 +13,7 @@ use Rattle.page.specs.declared.Place.{Place}
 use Rattle.page.specs.Places.{place}
 use Rattle.partition.specs.Partition.{Row}
 use Rattle.report.specs.declared.SheetRow.{SheetRow}
-use Rattle.report.specs.Report.{sheetRow, RowPlace, same, samePlace, names, InSheet}
+use Rattle.report.specs.Report.{placeIn, sheetRow, RowPlace, same, samePlace, names, InSheet}
 use Rattle.report.specs.Numbers.{rank, rankOn, indexOf, Rising}
 use Rattle.report.proofs.Ranks.{holds, eq-true}
 use Rattle.report.proofs.Halves.{index-is}
@@ -53,10 +53,10 @@ place-refl p = ap (λ (t : Bool). t && (same (p .slot) (p .slot) && same (p .vol
 pub rank-names : (p q : Place) → RowPlace q → rank q ≡ rank p → p ≡ q
 rank-names p q r e = let Q = parts q r in rank-one (parts p (low-place p (omega (arith, e, Q .rank-low)))) Q (sym e)
 
-pub names-is : (r : Row) (x : SheetRow) → RowPlace (x .place) → names r x ≡ eqb (rank (x .place)) (rankOn r)
-names-is r x h = alike (names r x) (eqb (rank (x .place)) (rankOn r))
-    (λ e. eq-true (rank (x .place)) (rankOn r) (ap rank (sym (place-yes (place (r .place)) (x .place) e))))
-    (λ e. subst (λ (p : Place). samePlace (place (r .place)) p ≡ true) (rank-names (place (r .place)) (x .place) h (eqb→eq (rank (x .place)) (rankOn r) (holds e))) (place-refl (place (r .place))))
+pub names-is : (r : Row) (x : SheetRow) → RowPlace (placeIn x) → names r x ≡ eqb (rank (placeIn x)) (rankOn r)
+names-is r x h = alike (names r x) (eqb (rank (placeIn x)) (rankOn r))
+    (λ e. eq-true (rank (placeIn x)) (rankOn r) (ap rank (sym (place-yes (place (r .place)) (placeIn x) e))))
+    (λ e. subst (λ (p : Place). samePlace (place (r .place)) p ≡ true) (rank-names (place (r .place)) (placeIn x) h (eqb→eq (rank (placeIn x)) (rankOn r) (holds e))) (place-refl (place (r .place))))
 
 -- where a number stands
 hit-when : (t : Bool) (p w : ℕ) (ps : List ℕ) (k m : ℕ) → eqb p w ≡ t → (k < m → getD {A = ℕ} ps k 0 ≡ w) → cond t 0 (suc k) < suc m → getD {A = ℕ} (p ∷ ps) (cond t 0 (suc k)) 0 ≡ w
@@ -70,7 +70,7 @@ index-hit w (p ∷ ps) l = hit-when (eqb p w) p w ps (indexOf w ps) (length ps) 
 pub index-there : (w : ℕ) (ps : List ℕ) → Rising ps → (i : ℕ) → i < length ps → getD {A = ℕ} ps i 0 ≡ w → i ≡ indexOf w ps
 index-there w ps r i l e = index-is w ps i l e (λ k m. let d : getD {A = ℕ} ps k 0 < getD {A = ℕ} ps i 0 = r .rises k i m l in omega (arith, d, e))
 
-module _ (xs : List SheetRow) (places : (i : ℕ) → i < length xs → RowPlace (sheetRow xs i .place)) (r : Rising (ranks xs)) where
+module _ (xs : List SheetRow) (places : (i : ℕ) → i < length xs → RowPlace (placeIn (sheetRow xs i))) (r : Rising (ranks xs)) where
   -- its index is that of the row that has its place
   pub index-names : (q : Row) (j : ℕ) → j < length xs → eqb (indexOf (rankOn q) (ranks xs)) j ≡ names q (sheetRow xs j)
   index-names q j l = alike (eqb (indexOf (rankOn q) (ranks xs)) j) (names q (sheetRow xs j)) to from
@@ -82,11 +82,11 @@ module _ (xs : List SheetRow) (places : (i : ℕ) → i < length xs → RowPlace
       to e =
           let f : indexOf (rankOn q) (ranks xs) ≡ j = eqb→eq (indexOf (rankOn q) (ranks xs)) j (holds e) in
           let h : getD {A = ℕ} (ranks xs) j 0 ≡ rankOn q = subst (λ (i : ℕ). getD {A = ℕ} (ranks xs) i 0 ≡ rankOn q) f (index-hit (rankOn q) (ranks xs) (omega (arith, f, k))) in
-          names-is q (sheetRow xs j) (places j l) ∙ eq-true (rank (sheetRow xs j .place)) (rankOn q) (sym (rank-at xs j l) ∙ h)
+          names-is q (sheetRow xs j) (places j l) ∙ eq-true (rank (placeIn (sheetRow xs j))) (rankOn q) (sym (rank-at xs j l) ∙ h)
 
       from : names q (sheetRow xs j) ≡ true → eqb (indexOf (rankOn q) (ranks xs)) j ≡ true
       from e =
-          let h : rank (sheetRow xs j .place) ≡ rankOn q = eqb→eq (rank (sheetRow xs j .place)) (rankOn q) (holds (sym (names-is q (sheetRow xs j) (places j l)) ∙ e)) in
+          let h : rank (placeIn (sheetRow xs j)) ≡ rankOn q = eqb→eq (rank (placeIn (sheetRow xs j))) (rankOn q) (holds (sym (names-is q (sheetRow xs j) (places j l)) ∙ e)) in
           eq-true (indexOf (rankOn q) (ranks xs)) j (sym (index-there (rankOn q) (ranks xs) r j k (rank-at xs j l ∙ h)))
 
   -- a place is in the sheet where its rank is in the ranks
@@ -94,7 +94,7 @@ module _ (xs : List SheetRow) (places : (i : ℕ) → i < length xs → RowPlace
   in-sheet p l =
       let i = indexOf (rank p) (ranks xs) in
       let k : indexOf (rank p) (ranks xs) < length xs = omega (arith, l, ranks-long xs) in
-      (i, k, sym (rank-names p (sheetRow xs i .place) (places i k) (sym (rank-at xs i k) ∙ index-hit (rank p) (ranks xs) l)))
+      (i, k, sym (rank-names p (placeIn (sheetRow xs i)) (places i k) (sym (rank-at xs i k) ∙ index-hit (rank p) (ranks xs) l)))
 
   pub sheet-in : (p : Place) → InSheet xs p → indexOf (rank p) (ranks xs) < length (ranks xs)
   sheet-in p w =

@@ -10,7 +10,7 @@ use lib.ListN.{length, set}
 use lib.IntN.{ℤ, pos, negsuc, natAbs, _+ℤ_}
 use lib.Signed.{mag, ltZ, nonNeg}
 use Rattle.report.specs.declared.SheetRow.{SheetRow}
-use Rattle.report.specs.Report.{limit}
+use Rattle.report.specs.Report.{placeIn, limit}
 use Rattle.report.specs.Numbers.{outside, natPart, ranked, rank, raise, laid}
 
 pub is-true : (b : Bool) → T b → b ≡ true
@@ -113,7 +113,7 @@ and-no false = refl
 
 module _ (fl : List ℕ) (i : ℕ) (r : SheetRow) where
   abbrev by-test : Bool → List ℕ
-  by-test t = cond t (set (set fl i (rank (r .place))) (limit + i) (raise (r .cents))) fl
+  by-test t = cond t (set (set fl i (rank (placeIn r))) (limit + i) (raise (r .cents))) fl
 
   pub laid-far : limit ≤ i → fl ≡ laid fl i r
   laid-far l = sym (ap (λ (t : Bool). by-test (t && eqb (length fl) (2 * limit))) (lt-no i limit l))
@@ -121,5 +121,5 @@ module _ (fl : List ℕ) (i : ℕ) (r : SheetRow) where
   pub laid-odd : eqb (length fl) (2 * limit) ≡ false → fl ≡ laid fl i r
   laid-odd e = sym (ap (λ (t : Bool). by-test (ltb i limit && t)) e ∙ ap by-test (and-no (ltb i limit)))
 
-  pub laid-in : i < limit → eqb (length fl) (2 * limit) ≡ true → set (set fl i (rank (r .place))) (limit + i) (raise (r .cents)) ≡ laid fl i r
+  pub laid-in : i < limit → eqb (length fl) (2 * limit) ≡ true → set (set fl i (rank (placeIn r))) (limit + i) (raise (r .cents)) ≡ laid fl i r
   laid-in l e = sym (ap (λ (t : Bool). by-test (t && eqb (length fl) (2 * limit))) (lt-yes i limit l) ∙ ap by-test e)

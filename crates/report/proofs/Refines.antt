@@ -15,7 +15,7 @@ use Rattle.partition.specs.Listing.{listing}
 use Rattle.store.specs.Pages.{rowsHeld}
 use Rattle.report.specs.declared.SheetRow.{SheetRow}
 use Rattle.report.specs.declared.Sums.{Sums}
-use Rattle.report.specs.Report.{limit, sheetRow, RowPlace, GoodSheet, totalOf, hiddenOf, hiddenCents, doubledOf, reportOf, PlaceAt, FirstMissing, Reported, other, missing, summed, reportTable}
+use Rattle.report.specs.Report.{placeIn, limit, sheetRow, RowPlace, GoodSheet, totalOf, hiddenOf, hiddenCents, doubledOf, reportOf, PlaceAt, FirstMissing, Reported, other, missing, summed, reportTable}
 use Rattle.report.specs.Numbers.{rank, raise, rankOn, ranksOf, raisedOf, spreadFrom, Sound, indexOf, tallied, unmarked, unmarkedSum, remarked, Lowered, SumsOf, Told, numbersTable}
 use Rattle.report.proofs.Runs.{listed-below, listed-rank}
 use Rattle.report.proofs.Laid.{map-at, ranks-are, raised-are}
@@ -26,7 +26,7 @@ use Rattle.report.proofs.Marks.{AllFound, bumped, times, marks-are}
 use Rattle.report.proofs.Found.{before, stopped, all-found, marks-long}
 use Rattle.report.proofs.Totals.{InPlace, lowered-one, total-is, times-is, markOf, hidden-is, doubled-is, cents-is}
 
-in-place : (xs : List SheetRow) → ((i : ℕ) → i < length xs → RowPlace (sheetRow xs i .place)) → ((i : ℕ) → i < length xs → raise (sheetRow xs i .cents) ≤ 2000000000000) → InPlace xs
+in-place : (xs : List SheetRow) → ((i : ℕ) → i < length xs → RowPlace (placeIn (sheetRow xs i))) → ((i : ℕ) → i < length xs → raise (sheetRow xs i .cents) ≤ 2000000000000) → InPlace xs
 in-place [] p a = tt
 in-place (x ∷ xs) p a = ((p 0 (omega arith), a 0 (omega arith)), in-place xs (λ i l. p (suc i) (omega (arith, l))) (λ i l. a (suc i) (omega (arith, l))))
 
@@ -106,7 +106,7 @@ module _ (xs : List SheetRow) (g : GoodSheet xs) (rs : List Row) where
 
     mark-at : (j : ℕ) → j < length xs → getD {A = ℕ} (t .marks) j 0 ≡ markOf rs (sheetRow xs j)
     mark-at j l =
-        let e : length cs ≡ length ps = length-replicate {A = ℕ} (length xs) 0 ∙ sym (length-map xs (λ (x : SheetRow). rank (x .place))) in
+        let e : length cs ≡ length ps = length-replicate {A = ℕ} (length xs) 0 ∙ sym (length-map xs (λ (x : SheetRow). rank (placeIn x))) in
         ap (λ (ms : List ℕ). getD {A = ℕ} ms j 0) marks-at ∙ marks-are ps ls ws 0 0 cs j found e
         ∙ (λ i. bumped (getD-replicate {A = ℕ} (length xs) j 0 0 l i) (times-is xs (g .places) (sound .ascending) rs j l i))
 

@@ -25,7 +25,7 @@ use Rattle.store.proofs.Accepted.Rules.{broken-one, accepted-whole}
 use Rattle.store.proofs.Demands.Settled.{same, some-one}
 use Rattle.store.proofs.Showing.Showing.{accepted-shows}
 use Rattle.report.specs.declared.SheetRow.{SheetRow}
-use Rattle.report.specs.Report.{GoodSheet, names, timesNamed, amountOf, totalOf, hiddenCents, sheetCents, namedCents, rowByRow, reportOf, FirstMissing, Reported, missing, summed, reportTable}
+use Rattle.report.specs.Report.{placeIn, GoodSheet, names, timesNamed, amountOf, totalOf, hiddenCents, sheetCents, namedCents, rowByRow, reportOf, FirstMissing, Reported, missing, summed, reportTable}
 use Rattle.report.specs.Numbers.{rank, rankOn, Rising}
 use Rattle.report.proofs.Ranks.{holds, ne-false}
 use Rattle.report.proofs.Raises as R
@@ -131,8 +131,8 @@ rising-tail p ps r = record { rises = λ i j l m. r .rises (suc i) (suc j) (omeg
 above : (r : Row) (p : ℕ) (xs : List SheetRow) → InPlace xs → rankOn r ≡ p → ((i : ℕ) → i < length (ranks xs) → p < getD {A = ℕ} (ranks xs) i 0) → Unnamed r xs
 above r p [] h e b = tt
 above r p (x ∷ xs) h e b =
-    let l : p < rank (x .place) = b 0 (omega arith) in
-    (names-is r x (h .0 .0) ∙ ne-false (rank (x .place)) (rankOn r) (λ f. omega (arith, f, e, l)), above r p xs (h .1) e (λ i k. b (suc i) (omega (arith, k))))
+    let l : p < rank (placeIn x) = b 0 (omega arith) in
+    (names-is r x (h .0 .0) ∙ ne-false (rank (placeIn x)) (rankOn r) (λ f. omega (arith, f, e, l)), above r p xs (h .1) e (λ i k. b (suc i) (omega (arith, k))))
 
 row-when : (t : Bool) (r : Row) (rs : List Row) (x : SheetRow) (xs : List SheetRow) → (t ≡ true → Unnamed r xs) → rowByRow (r ∷ rs) xs ≡ amountOf xs r +ℤ rowByRow rs xs
     → (x .cents *ℤ pos (cond t 1 0 + timesNamed rs x)) +ℤ rowByRow (r ∷ rs) xs ≡ cond t (x .cents) (amountOf xs r) +ℤ ((x .cents *ℤ pos (timesNamed rs x)) +ℤ rowByRow rs xs)
@@ -149,8 +149,8 @@ unfolding rowByRow amountOf
 row-more r rs [] h u = refl
 row-more r rs (x ∷ xs) h u =
     row-when (names r x) r rs x xs
-    (λ e. above r (rank (x .place)) xs (h .1) (sym (eqb→eq (rank (x .place)) (rankOn r) (holds (sym (names-is r x (h .0 .0)) ∙ e)))) (λ i l. u .rises 0 (suc i) (omega arith) (omega (arith, l))))
-    (row-more r rs xs (h .1) (rising-tail (rank (x .place)) (ranks xs) u))
+    (λ e. above r (rank (placeIn x)) xs (h .1) (sym (eqb→eq (rank (placeIn x)) (rankOn r) (holds (sym (names-is r x (h .0 .0)) ∙ e)))) (λ i l. u .rises 0 (suc i) (omega arith) (omega (arith, l))))
+    (row-more r rs xs (h .1) (rising-tail (rank (placeIn x)) (ranks xs) u))
 
 no-codes : (xs : List SheetRow) → rowByRow [] xs ≡ pos 0
 unfolding rowByRow

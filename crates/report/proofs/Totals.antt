@@ -10,7 +10,7 @@ use lib.IntN.{ℤ, pos, _+ℤ_, +ℤ-assoc, +ℤ-idl, +ℤ-idr, +ℤ-negℤ-canc
 use lib.ListN.{length, getD}
 use Rattle.partition.specs.Partition.{Row}
 use Rattle.report.specs.declared.SheetRow.{SheetRow}
-use Rattle.report.specs.Report.{sheetRow, RowPlace, names, timesNamed, amountOf, totalOf, hiddenOf, hiddenCents, doubledOf}
+use Rattle.report.specs.Report.{placeIn, sheetRow, RowPlace, names, timesNamed, amountOf, totalOf, hiddenOf, hiddenCents, doubledOf}
 use Rattle.report.specs.Numbers.{rank, raise, rankOn, indexOf, markAt, tallied, Rising, unmarked, unmarkedSum, remarked, Lowered}
 use Rattle.report.proofs.Ranks.{lt-yes, le-yes, ne-false}
 use Rattle.report.proofs.Marks.{AllFound, bump, bumped, times}
@@ -24,7 +24,7 @@ lowered-one s k x y e f = sym (+ℤ-negℤ-cancel x (pos (k * 1000000000000))) �
 
 abbrev pub InPlace : List SheetRow → Type 0
 InPlace [] = Unit {0}
-InPlace (x ∷ xs) = (RowPlace (x .place) × (raise (x .cents) ≤ 2000000000000)) × InPlace xs
+InPlace (x ∷ xs) = (RowPlace (placeIn x) × (raise (x .cents) ≤ 2000000000000)) × InPlace xs
 
 -- the amount at a code's place
 amount-when : (t : Bool) (x : SheetRow) (ls : List ℕ) (k m : ℕ) (y : ℤ) → raise (x .cents) ≤ 2000000000000 → (k < m → pos (getD {A = ℕ} ls k 0) ≡ y +ℤ pos 1000000000000)
@@ -36,7 +36,7 @@ pub amount-is : (xs : List SheetRow) → InPlace xs → (r : Row) → indexOf (r
 unfolding amountOf
 amount-is [] h r l = absurd (not-suc-le-zero l)
 amount-is (x ∷ xs) h r l =
-    amount-when (eqb (rank (x .place)) (rankOn r)) x (raised xs) (indexOf (rankOn r) (ranks xs)) (length (ranks xs)) (amountOf xs r) (h .0 .1) (amount-is xs (h .1) r) l
+    amount-when (eqb (rank (placeIn x)) (rankOn r)) x (raised xs) (indexOf (rankOn r) (ranks xs)) (length (ranks xs)) (amountOf xs r) (h .0 .1) (amount-is xs (h .1) r) l
     ∙ ap (λ (t : Bool). cond t (x .cents) (amountOf xs r) +ℤ pos 1000000000000) (sym (names-is r x (h .0 .0)))
 
 module _ (xs : List SheetRow) (h : InPlace xs) where
@@ -74,7 +74,7 @@ cond-suc : (t : Bool) (m : ℕ) → cond t (suc m) m ≡ cond t 1 0 + m
 cond-suc true m = omega arith
 cond-suc false m = omega arith
 
-module _ (xs : List SheetRow) (places : (i : ℕ) → i < length xs → RowPlace (sheetRow xs i .place)) (r : Rising (ranks xs)) where
+module _ (xs : List SheetRow) (places : (i : ℕ) → i < length xs → RowPlace (placeIn (sheetRow xs i))) (r : Rising (ranks xs)) where
   pub times-is : (rs : List Row) (j : ℕ) → j < length xs → times j (ranks xs) (map rankOn rs) ≡ timesNamed rs (sheetRow xs j)
   unfolding timesNamed
   times-is [] j l = refl

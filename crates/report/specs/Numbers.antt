@@ -24,7 +24,7 @@ use Rattle.report.specs.declared.Left.{Left}
 use Rattle.report.specs.declared.Sums.{Sums}
 use Rattle.report.specs.declared.Ending.{Ending}
 use Rattle.report.specs.declared.Ending.the-variants.{Missing, Whole}
-use Rattle.report.specs.Report.{limit, PlaceAt, Reported, other, missing, summed}
+use Rattle.report.specs.Report.{placeIn, limit, PlaceAt, Reported, other, missing, summed}
 
 -- what no place and no amount has
 abbrev pub outside : ℕ
@@ -51,7 +51,7 @@ raise (negsuc n) = cond (ltb n 1000000000000) (1000000000000 - suc n) outside
 
 -- row i, where there is room
 abbrev pub laid : List ℕ → ℕ → SheetRow → List ℕ
-laid fl i r = cond (ltb i limit && eqb (length fl) (2 * limit)) (set (set fl i (rank (r .place))) (limit + i) (raise (r .cents))) fl
+laid fl i r = cond (ltb i limit && eqb (length fl) (2 * limit)) (set (set fl i (rank (placeIn r))) (limit + i) (raise (r .cents))) fl
 
 -- all rows, from row i on
 abbrev pub spreadFrom : ℕ → List SheetRow → List ℕ → List ℕ

@@ -31,9 +31,13 @@ limit = 20000
 abbrev pub highest : ℤ
 highest = pos 1000000000000
 
+-- a sheet row's place
+abbrev pub placeIn : SheetRow → Place
+placeIn x = record { page = x .page; slot = x .slot; volume = x .volume }
+
 -- row i; past the end one of zeros
 abbrev pub zeroRow : SheetRow
-zeroRow = record { place = record { page = pos 0; slot = pos 0; volume = pos 0 }; cents = pos 0 }
+zeroRow = record { page = pos 0; slot = pos 0; volume = pos 0; cents = pos 0 }
 
 abbrev pub sheetRow : List SheetRow → ℕ → SheetRow
 sheetRow xs i = getD xs i zeroRow
@@ -52,8 +56,8 @@ pub data Precedes (a b : Place) : Type 0 where
 -- the rules
 pub record GoodSheet (xs : List SheetRow) : Type 0 where
   pub most : length xs ≤ limit
-  pub places : (i : ℕ) → i < length xs → RowPlace (sheetRow xs i .place)
-  pub ascending : (i : ℕ) → i + 1 < length xs → Precedes (sheetRow xs i .place) (sheetRow xs (i + 1) .place)
+  pub places : (i : ℕ) → i < length xs → RowPlace (placeIn (sheetRow xs i))
+  pub ascending : (i : ℕ) → i + 1 < length xs → Precedes (placeIn (sheetRow xs i)) (placeIn (sheetRow xs (i + 1)))
   pub amounts : (i : ℕ) → i < length xs → (negℤ highest ≤ℤ sheetRow xs i .cents) × (sheetRow xs i .cents ≤ℤ highest)
 
 -- ---- which sheet row a code names
@@ -69,7 +73,7 @@ samePlace p q = same (p .page) (q .page) && (same (p .slot) (q .slot) && same (p
 
 -- a code names the sheet row that has its place
 abbrev pub names : Row → SheetRow → Bool
-names r x = samePlace (place (r .place)) (x .place)
+names r x = samePlace (place (r .place)) (placeIn x)
 
 -- how many codes of the listing name a sheet row
 unfoldable pub timesNamed : List Row → SheetRow → ℕ
@@ -133,7 +137,7 @@ reportOf xs rs = record { total = totalOf xs rs; hidden = hiddenOf rs xs; cents 
 
 -- some sheet row has this place
 abbrev pub InSheet : List SheetRow → Place → Type 0
-InSheet xs p = (i : ℕ) × (i < length xs) × (sheetRow xs i .place ≡ p)
+InSheet xs p = (i : ℕ) × (i < length xs) × (placeIn (sheetRow xs i) ≡ p)
 
 -- p is the place of the row at place n of the listing
 pub record PlaceAt (rs : List Row) (n : ℕ) (p : Place) : Type 0 where

@@ -17,9 +17,12 @@ mod tally;
 // The most rows of a sheet.
 pub const LIMIT: usize = 20000;
 
-// A row of the sheet: a row place and an amount in cents.
+// A row of the sheet: the parts of a row place, and an amount in cents.
+#[repr(C)]
 pub struct SheetRow {
-    pub place: Place,
+    pub page: i32,
+    pub slot: i16,
+    pub volume: i16,
     pub cents: i64,
 }
 

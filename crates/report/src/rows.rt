@@ -1,6 +1,7 @@
 // A sheet row as two numbers.
 ghost use mathlib.Core.Path.{_≡_};
 ghost use Prim.Native.Nat.{_+_, _<_, _^_};
+ghost use Rattle.report.specs.Report.{placeIn};
 ghost use Rattle.report.specs.Numbers.{natPart, ranked, rank, raise, laid};
 use crate::LIMIT;
 use crate::SheetRow;
@@ -50,6 +51,17 @@ pub fn rank_of(p: Place) -> u64
     rank_parts(a, b, c)
 }
 
+// The rank of a sheet row's place.
+fn rank_row(r: SheetRow) -> u64
+    ensures { λ n. ⌜ n ≡ rank (placeIn r) ⌝ }
+{
+    rank_of(Place {
+        page: r.page,
+        slot: r.slot,
+        volume: r.volume,
+    })
+}
+
 // An amount raised by 10^12, so that no sum is negative; 2^63 for what is out of range.
 fn raise_of(c: i64) -> u64
     ensures { λ r. ⌜ r ≡ raise c ⌝ }
@@ -68,7 +80,7 @@ pub fn lay(flat: &mut [u64], i: usize, r: SheetRow) -> usize
     requires { ⌜ i + 1 < 2 ^ 64 ⌝ }
     ensures { λ n. ⌜ (n ≡ i + 1) × (now (flat .exit) ≡ laid (now (flat .entry)) i r) ⌝ }
 {
-    let w = rank_of(r.place);
+    let w = rank_row(r);
     let c = raise_of(r.cents);
     if LIMIT <= i {
         return i + 1;

@@ -13,8 +13,8 @@ use Rattle.report.proofs.Ranks.{eq-true, ne-false, laid-far, laid-odd, 
 use Rattle.report.proofs.rows.lay.Statement.{statement}
 use Rattle.report.proofs.rows.lay.Tie as tie
 
-rank-of-requires : tie.Need-rank-of-requires
-rank-of-requires c κs = search needs
+rank-row-requires : tie.Need-rank-row-requires
+rank-row-requires c κs = search needs
 
 raise-of-requires : tie.Need-raise-of-requires
 raise-of-requires c κs = search needs
@@ -49,7 +49,7 @@ mul-flat-2 c = search needs
 slice-write-flat-2 : tie.Need-slice-write-flat-2
 slice-write-flat-2 c =
     let a = c .before .before .before .before .before .before .args in
-    let l : length (set (a .flat .now) (a .i) (c .before .before .before .before .rank-of .result)) ≡ length (a .flat .now) = length-set (a .flat .now) (a .i) (c .before .before .before .before .rank-of .result) in
+    let l : length (set (a .flat .now) (a .i) (c .before .before .before .before .rank-row .result)) ≡ length (a .flat .now) = length-set (a .flat .now) (a .i) (c .before .before .before .before .rank-row .result) in
     let i-lt : a .i < limit = c .before .if1 .left in
     let n : length (a .flat .now) ≡ (2 * limit) = c .if2 .left in
     omega (arith, l, i-lt, n)
@@ -66,8 +66,8 @@ sets fl i e f j = set (set fl i (e j)) (limit + i) (f j)
 returns-3 : tie.Need-returns-3
 returns-3 c =
     let a = c .before .before .before .before .before .before .args in
-    let h : SFits w64 (a .r .cents) = record { sfits = c .before .before .before .struct-told .given .1 .0 .1 } in
-    (refl, sets (a .flat .now) (a .i) (c .before .before .before .before .rank-of .ensures) (rw (toZ-ofZ h) at (c .before .before .raise-of .ensures)) ∙ laid-in (a .flat .now) (a .i) (a .r) (c .before .if1 .left) (eq-true (length (a .flat .now)) (2 * limit) (c .if2 .left)))
+    let h : SFits w64 (a .r .cents) = record { sfits = c .before .before .before .struct-told .given .1 .1 .1 .0 .1 } in
+    (refl, sets (a .flat .now) (a .i) (c .before .before .before .before .rank-row .ensures) (rw (toZ-ofZ h) at (c .before .before .raise-of .ensures)) ∙ laid-in (a .flat .now) (a .i) (a .r) (c .before .if1 .left) (eq-true (length (a .flat .now)) (2 * limit) (c .if2 .left)))
 
 pub lay-spec : {M : Type 1} → statement M
-lay-spec = tie.close (tie.spec rank-of-requires raise-of-requires add-result returns mul-if2 add-result-2 returns-2 mul-flat slice-write-flat add-flat mul-flat-2 slice-write-flat-2 add-result-3 same-length returns-3)
+lay-spec = tie.close (tie.spec rank-row-requires raise-of-requires add-result returns mul-if2 add-result-2 returns-2 mul-flat slice-write-flat add-flat mul-flat-2 slice-write-flat-2 add-result-3 same-length returns-3)
