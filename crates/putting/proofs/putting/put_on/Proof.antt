@@ -9,7 +9,7 @@ use Rattle.store.specs.Pages.{size, page, dirDepth}
 use Rattle.partition.specs.Bits.{top}
 use Rattle.partition.specs.declared.Shape.{Shape}
 use Rattle.page.specs.Found.{FoundIn}
-use Rattle.page.specs.Page.{Slotted, Belongs, count, free, code}
+use Rattle.page.specs.Page.{Slotted, Belongs, count, code}
 use Rattle.hash.specs.Fnv.{fnv, fnv-lt}
 use Rattle.ground.specs.Ladder.{Answers}
 use denote.Ref.{now}
@@ -17,7 +17,7 @@ use native.Mathlib.Omega.{arith}
 use Prim.Native.Nat.{ℕ, _+_, _*_, _≤_, _<_}
 use lib.ListN.{length}
 use mathlib.Core.List.{List}
-use mathlib.Core.Path.{_≡_, sym, ap, subst, _∙_}
+use mathlib.Core.Path.{_≡_, sym, subst}
 use borrow.Author.Needs.{needs}
 use Rattle.putting.proofs.putting.put_on.Statement.{statement}
 use Rattle.putting.proofs.putting.put_on.Tie as tie
