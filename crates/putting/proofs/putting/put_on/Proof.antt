@@ -13,7 +13,7 @@ use Rattle.partition.specs.declared.Shape.{Shape}
 use Rattle.partition.specs.Listing.{placeOf}
 use Rattle.partition.specs.Partition.{Row}
 use Rattle.page.specs.Found.{FoundIn}
-use Rattle.page.specs.Page.{Slotted, Belongs, count, free, code, place, rows}
+use Rattle.page.specs.Page.{Slotted, Belongs, count, code, place, rows}
 use Rattle.hash.specs.Fnv.{fnv, fnv-lt}
 use Rattle.ground.specs.Ladder.{Answers}
 use denote.Ref.{now}
@@ -22,7 +22,7 @@ use Prim.Native.Nat.{ℕ, _+_, _*_, _≤_, _<_}
 use lib.ListN.{length}
 use mathlib.Core.List.{List, map}
 use mathlib.Core.Option.{some, none}
-use mathlib.Core.Path.{_≡_, sym, ap, subst, _∙_}
+use mathlib.Core.Path.{_≡_, sym, subst, _∙_}
 use borrow.Author.Needs.{needs}
 use Rattle.putting.proofs.putting.put_on.Statement.{statement}
 use Rattle.putting.proofs.putting.put_on.Tie as tie
