@@ -130,11 +130,13 @@ does-still k (Inspect n) s o t d a = still-same s t a (d .1)
 pub front-back : (xs ys : List ℕ) (n : ℕ) → length ys ≡ n → take n (take 0 xs ++ (ys ++ drop (n - 0) (drop 0 xs))) ≡ ys
 front-back xs ys n e = take-at ys (drop (n - 0) (drop 0 xs)) n e
 
+-- which they are, if the call left as many
+pub still-back : (xs ys : List ℕ) (n : ℕ) → n ≤ length xs → Still (take (n - 0) (drop 0 xs)) ys → take n (take 0 xs ++ (ys ++ drop (n - 0) (drop 0 xs))) ≡ ys
+still-back xs ys n l y = front-back xs ys n (y .long ∙ simp sub-zero (length-take-le n xs l))
+
 -- then what stands there is accepted, if the call left it so
 pub still-front : (xs ys : List ℕ) (n : ℕ) → n ≤ length xs → Still (take (n - 0) (drop 0 xs)) ys → Accepted S1024 fnv (take n (take 0 xs ++ (ys ++ drop (n - 0) (drop 0 xs))))
-still-front xs ys n l y =
-    let e : length ys ≡ n = y .long ∙ simp sub-zero (length-take-le n xs l) in
-    subst (Accepted S1024 fnv) (sym (front-back xs ys n e)) (y .again)
+still-front xs ys n l y = subst (Accepted S1024 fnv) (sym (still-back xs ys n l y)) (y .again)
 
 -- what is known is known of the part that is lent
 pub lent-known : {z : Session} {xs : List ℕ} → Holds z xs → Known (z .known) (take (z .len - 0) (drop 0 xs))

@@ -1,8 +1,8 @@
 // The input taken apart into lines, and what is kept from one to the next.
 ghost use mathlib.Core.Path.{_≡_};
-ghost use Prim.Native.Nat.{_≤_};
+ghost use Prim.Native.Nat.{_*_, _≤_};
 ghost use lib.ListN.{length};
-ghost use Rattle.lots.specs.Sessions.{After, Holds, Kept, Ran};
+ghost use Rattle.lots.specs.Sessions.{After, FormatAsked, Holds, Kept, Ran};
 use super::known;
 use super::obey;
 use crate::Outcome;
@@ -11,7 +11,7 @@ use libc::STDIN_FILENO;
 
 // The length of a store of n pages; of too many, the whole buffer, which is no store either.
 fn length_of(n: usize, most: usize) -> usize
-    ensures { λ r. ⌜ r ≤ most ⌝ }
+    ensures { λ r. ⌜ (r ≤ most) × (n ≤ 258 → n * 1024 ≤ most → r ≡ n * 1024) ⌝ }
 {
     if n > 258 {
         return most;
@@ -44,7 +44,7 @@ fn after(z: Session, o: Outcome) -> Session
 // A store of n pages in the place of the old one, unless that is refused.
 fn format(store: &mut [u8], z: Session, n: usize) -> Session
     requires { ⌜ Holds z (now store) ⌝ }
-    ensures { λ r. ⌜ Kept z (now (store .entry)) r (now (store .exit)) × (r .fill ≡ z .fill) ⌝ }
+    ensures { λ r. ⌜ Kept z (now (store .entry)) r (now (store .exit)) × (r .fill ≡ z .fill) × FormatAsked n z (now (store .entry)) r (now (store .exit)) ⌝ }
 {
     let len = length_of(n, store.len());
     let a = directory::format(&mut store[0..len]);
