@@ -10,7 +10,7 @@ use Rattle.partition.specs.Partition.{Row}
 use Rattle.page.specs.Places.{stored}
 use Rattle.store.specs.Demands.{put, ok, surviving, History, next}
 use Rattle.store.specs.Tables.{Out, putTable, putByMode}
-use Rattle.batch.specs.Batch.{Runs, Wanted, wanted, number, OnePut, Puts, none-left, and-then, batchTable, leftBy, survivors}
+use Rattle.batch.specs.Batch.{Runs, Wanted, wanted, number, OnePut, OneByOne, none-left, and-then, batchTable, leftBy, survivors}
 
 module _ (S : Shape) (h : List ℕ → ℕ) (m : ℕ) where
   -- the answer number says whether the put was refused
@@ -43,7 +43,7 @@ module _ (S : Shape) (h : List ℕ → ℕ) (m : ℕ) where
   left-by : (w : Wanted) (s : List ℕ) (n : ℕ) (t : List ℕ) (p : OnePut S h m w s n t) (rs : List Row) → surviving (put (w .code) (w .place) m) (p .out) rs ≡ leftBy n w rs
   left-by w s n t p rs = sym (ap (λ k. leftBy k w rs) (p .is) ∙ by-answer w s rs (p .out, t) (p .made))
 
-  pub puts-history : {l : List Wanted} {rs : List Row} {s ns t : List ℕ} → History S h rs s → Puts S h m l s ns t → History S h (survivors l ns rs) t
+  pub puts-history : {l : List Wanted} {rs : List Row} {s ns t : List ℕ} → History S h rs s → OneByOne S h m l s ns t → History S h (survivors l ns rs) t
   puts-history H none-left = H
   puts-history {rs = rs} H (and-then {w} {l} {s} {t} {u} {n} {ns} p ps) =
       puts-history (subst (λ x. History S h x t) (left-by w s n t p rs) (next (put (w .code) (w .place) m) (p .out) H (p .made))) ps

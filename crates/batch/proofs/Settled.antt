@@ -16,7 +16,7 @@ use Rattle.store.proofs.Accepted.Rules.{broken-one}
 use Rattle.store.proofs.Demands.Kept.{put-again}
 use Rattle.store.proofs.Demands.Said.{Said, check-said}
 use Rattle.store.proofs.Demands.Settled.{same, put-settled}
-use Rattle.batch.specs.Batch.{Runs, Wanted, number, OnePut, Puts, none-left, and-then, batchTable}
+use Rattle.batch.specs.Batch.{Runs, Wanted, number, OnePut, OneByOne, none-left, and-then, batchTable}
 
 module _ (S : Shape) (h : List ℕ → ℕ) where
   pub one-settled : Sized S → (m : ℕ) (w : Wanted) (s : List ℕ) (n k : ℕ) (t u : List ℕ) → OnePut S h m w s n t → OnePut S h m w s k u → (n ≡ k) × (t ≡ u)
@@ -25,11 +25,11 @@ module _ (S : Shape) (h : List ℕ → ℕ) where
       (p .is ∙ ap (λ x. number (x .0)) e ∙ sym (q .is), ap (λ x. x .1) e)
 
   -- the answers and every byte of the store
-  pub puts-settled : Sized S → (m : ℕ) {l : List Wanted} {s ns ks t u : List ℕ} → Puts S h m l s ns t → Puts S h m l s ks u → (ns ≡ ks) × (t ≡ u)
+  pub puts-settled : Sized S → (m : ℕ) {l : List Wanted} {s ns ks t u : List ℕ} → OneByOne S h m l s ns t → OneByOne S h m l s ks u → (ns ≡ ks) × (t ≡ u)
   puts-settled z m none-left none-left = (refl, refl)
   puts-settled z m {ns = n ∷ ns} {ks = k ∷ ks} {u = u} (and-then {w} {l} {s} {t} p ps) (and-then {t = v} q qs) =
       let e = one-settled z m w s n k t v p q in
-      let r = puts-settled z m ps (subst (λ x. Puts S h m l x ks u) (sym (e .1)) qs) in
+      let r = puts-settled z m ps (subst (λ x. OneByOne S h m l x ks u) (sym (e .1)) qs) in
       ((λ i. e .0 i ∷ r .0 i), r .1)
 
   pub batch-settled : Sized S → (s : List ℕ) (b : Runs) (m : ℕ) (x y : Out × (List ℕ × List ℕ)) → Answers (batchTable S h s b m) x → Answers (batchTable S h s b m) y → x ≡ y
@@ -80,7 +80,7 @@ module _ (S : Shape) (h : List ℕ → ℕ) where
   )
 
   -- the store is accepted again, as long as it was
-  pub puts-again : (m : ℕ) {l : List Wanted} {s ns t : List ℕ} → Accepted S h s → Puts S h m l s ns t → Accepted S h t × (length t ≡ length s)
+  pub puts-again : (m : ℕ) {l : List Wanted} {s ns t : List ℕ} → Accepted S h s → OneByOne S h m l s ns t → Accepted S h t × (length t ≡ length s)
   puts-again m a none-left = (a, refl)
   puts-again m a (and-then {w} {l} {s} {t} p ps) =
       let x = put-again S h s (w .code) (w .place) m a (p .out, t) (p .made) in

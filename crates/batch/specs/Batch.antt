@@ -66,9 +66,9 @@ pub record OnePut (S : Shape) (h : List ℕ → ℕ) (m : ℕ) (w : Wanted) (s :
   pub is : n ≡ number out
 
 -- the same puts made one by one, refused ones included: their answer numbers, and the store that they leave
-pub data Puts (S : Shape) (h : List ℕ → ℕ) (m : ℕ) : List Wanted → List ℕ → List ℕ → List ℕ → Type 0 where
-  none-left : {s : List ℕ} → Puts S h m [] s [] s
-  and-then : {w : Wanted} {l : List Wanted} {s t u : List ℕ} {n : ℕ} {ns : List ℕ} → OnePut S h m w s n t → Puts S h m l t ns u → Puts S h m (w ∷ l) s (n ∷ ns) u
+pub data OneByOne (S : Shape) (h : List ℕ → ℕ) (m : ℕ) : List Wanted → List ℕ → List ℕ → List ℕ → Type 0 where
+  none-left : {s : List ℕ} → OneByOne S h m [] s [] s
+  and-then : {w : Wanted} {l : List Wanted} {s t u : List ℕ} {n : ℕ} {ns : List ℕ} → OnePut S h m w s n t → OneByOne S h m l t ns u → OneByOne S h m (w ∷ l) s (n ∷ ns) u
 
 -- answer, store and answer numbers; a batch that is taken is answered as a store is by the check
 unfoldable pub batchTable : Shape → (List ℕ → ℕ) → List ℕ → Runs → ℕ → Ladder (Out × (List ℕ × List ℕ))
@@ -77,7 +77,7 @@ batchTable S h s b m =
     (refuse (Refusal12 b) (refused 12, (s, b .answers))
     (refuse (Refusal14 m) (refused 14, (s, b .answers))
     (checked S h s (λ o. (o, (s, b .answers)))
-    (ends (λ r. (r .0 ≡ accepted) × Puts S h m (wanted (b .codes) (b .lengths) (b .places)) s (r .1 .1) (r .1 .0))))))
+    (ends (λ r. (r .0 ≡ accepted) × OneByOne S h m (wanted (b .codes) (b .lengths) (b .places)) s (r .1 .1) (r .1 .0))))))
 
 -- the rows that a put leaves, by its answer number
 abbrev pub leftBy : ℕ → Wanted → List Row → List Row

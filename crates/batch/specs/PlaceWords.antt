@@ -6,9 +6,9 @@ use Rattle.page.specs.declared.Place.{Place}
 use Rattle.store.specs.Moves.{pick}
 
 -- the bits of a part as a signed number, k of them below the sign
-abbrev pub signed : ℕ → ℕ → ℤ
-signed k x = pick (ltb x (2 ^ k)) (pos x) (negsuc (2 ^ suc k - suc x))
+abbrev pub signedBits : ℕ → ℕ → ℤ
+signedBits k x = pick (ltb x (2 ^ k)) (pos x) (negsuc (2 ^ suc k - suc x))
 
 -- page in bits 0 to 31, slot in 32 to 47, volume in 48 to 63
 abbrev pub wordPlace : ℕ → Place
-wordPlace w = record { page = signed 31 (w % 2 ^ 32); slot = signed 15 (w / 2 ^ 32 % 2 ^ 16); volume = signed 15 (w / 2 ^ 48 % 2 ^ 16) }
+wordPlace w = record { page = signedBits 31 (w % 2 ^ 32); slot = signedBits 15 (w / 2 ^ 32 % 2 ^ 16); volume = signedBits 15 (w / 2 ^ 48 % 2 ^ 16) }

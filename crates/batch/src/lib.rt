@@ -3,5 +3,5 @@ mod parts;
 mod runs;
 mod tender;
 
-pub use parts::place_of;
+pub use parts::word_place;
 pub use tender::put_all;

@@ -3,14 +3,14 @@ ghost use mathlib.Core.Path.{_≡_};
 ghost use Prim.Native.Nat.{_<_};
 ghost use Rattle.store.specs.Tables.{meaning};
 ghost use Rattle.batch.specs.Batch.{number};
-ghost use Rattle.batch.specs.PlaceWords.{signed, wordPlace};
+ghost use Rattle.batch.specs.PlaceWords.{signedBits, wordPlace};
 use page::Place;
 use store::Answer;
 
 // 32 bits as a signed number.
 fn part32(x: u64) -> i32
     requires { ⌜ x < 4294967296 ⌝ }
-    ensures { λ r. ⌜ r ≡ signed 31 x ⌝ }
+    ensures { λ r. ⌜ r ≡ signedBits 31 x ⌝ }
 {
     if x < 2147483648 {
         return x as i32;
@@ -21,7 +21,7 @@ fn part32(x: u64) -> i32
 // 16 bits as a signed number.
 fn part16(x: u64) -> i16
     requires { ⌜ x < 65536 ⌝ }
-    ensures { λ r. ⌜ r ≡ signed 15 x ⌝ }
+    ensures { λ r. ⌜ r ≡ signedBits 15 x ⌝ }
 {
     if x < 32768 {
         return x as i16;
@@ -30,7 +30,7 @@ fn part16(x: u64) -> i16
 }
 
 // The place of a word.
-pub fn place_of(w: u64) -> Place
+pub fn word_place(w: u64) -> Place
     ensures { λ r. ⌜ r ≡ wordPlace w ⌝ }
 {
     Place {
@@ -41,7 +41,7 @@ pub fn place_of(w: u64) -> Place
 }
 
 // The number of a put's answer.
-pub fn number_of(a: Answer) -> u32
+pub fn answer_number(a: Answer) -> u32
     ensures { λ r. ⌜ r ≡ number (meaning a) ⌝ }
 {
     match a {

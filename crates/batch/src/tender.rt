@@ -6,10 +6,10 @@ ghost use Rattle.store.specs.Pages.{S1024};
 ghost use Rattle.store.specs.Accepted.{Accepted};
 ghost use Rattle.store.specs.Demands.{Mode};
 ghost use Rattle.store.specs.Tables.{meaning};
-ghost use Rattle.batch.specs.Batch.{runs, GoodRuns, wanted, OnePut, Puts, batchTable};
+ghost use Rattle.batch.specs.Batch.{runs, GoodRuns, wanted, OnePut, OneByOne, batchTable};
 ghost use Rattle.batch.specs.PlaceWords.{wordPlace};
-use super::parts::number_of;
-use super::parts::place_of;
+use super::parts::answer_number;
+use super::parts::word_place;
 use super::runs::good_runs;
 
 // One put, at the place of a word, and the number of its answer.
@@ -17,7 +17,7 @@ fn put_word(s: &mut [u8], key: &[u8], w: u64, mode: u64) -> u32
     requires { ⌜ Accepted S1024 fnv (now s) × Mode mode ⌝ }
     ensures { λ r. ⌜ OnePut S1024 fnv mode (record { code = now (key .entry); place = wordPlace w }) (now (s .entry)) r (now (s .exit)) ⌝ }
 {
-    number_of(putting::put_checked(s, key, place_of(w), mode))
+    answer_number(putting::put_checked(s, key, word_place(w), mode))
 }
 
 // Each put in turn, with the number of its answer.
@@ -30,7 +30,7 @@ fn put_each(
     mode: u64,
 )
     requires { ⌜ Accepted S1024 fnv (now s) × Mode mode × GoodRuns (runs (now codes) (now lengths) (now places) (now answers)) ⌝ }
-    ensures { λ _. ⌜ Puts S1024 fnv mode (wanted (now (codes .entry)) (now (lengths .entry)) (now (places .entry))) (now (s .entry)) (now (answers .exit)) (now (s .exit)) ⌝ }
+    ensures { λ _. ⌜ OneByOne S1024 fnv mode (wanted (now (codes .entry)) (now (lengths .entry)) (now (places .entry))) (now (s .entry)) (now (answers .exit)) (now (s .exit)) ⌝ }
 {
     let mut at = 0;
     let mut i = 0;

@@ -6,11 +6,11 @@ use native.Mathlib.Omega.{arith}
 use borrow.Author.Tests.{lt-ltb}
 use lib.IntN.{pos}
 use Rattle.page.specs.Places.{place, InRange}
-use Rattle.batch.specs.PlaceWords.{signed, wordPlace}
+use Rattle.batch.specs.PlaceWords.{signedBits, wordPlace}
 use Rattle.lots_c.specs.Words.{plain, placeWord}
 use Rattle.lots_c.proofs.OneToOne.{page-of, slot-of, volume-of}
 
-low : (k x : ℕ) → x < 2 ^ k → signed k x ≡ pos x
+low : (k x : ℕ) → x < 2 ^ k → signedBits k x ≡ pos x
 low k x h = rw (lt-ltb x (2 ^ k) h) refl
 
 pub word-back : (b : List ℕ) → InRange (place b) → wordPlace (placeWord (place b)) ≡ place b
@@ -20,7 +20,7 @@ word-back b r =
     let z : ℕ = plain (place b .volume) in
     let e : z % 65536 ≡ z = omega (arith, r .volume) in
     λ i. record {
-      page = (ap (signed 31) (page-of x y z (r .page) (r .slot) (r .volume)) ∙ low 31 x (r .page)) i;
-      slot = (ap (signed 15) (slot-of x y z (r .page) (r .slot) (r .volume)) ∙ low 15 y (r .slot)) i;
-      volume = (ap (λ v. signed 15 (v % 65536)) (volume-of x y z (r .page) (r .slot) (r .volume)) ∙ ap (signed 15) e ∙ low 15 z (r .volume)) i;
+      page = (ap (signedBits 31) (page-of x y z (r .page) (r .slot) (r .volume)) ∙ low 31 x (r .page)) i;
+      slot = (ap (signedBits 15) (slot-of x y z (r .page) (r .slot) (r .volume)) ∙ low 15 y (r .slot)) i;
+      volume = (ap (λ v. signedBits 15 (v % 65536)) (volume-of x y z (r .page) (r .slot) (r .volume)) ∙ ap (signedBits 15) e ∙ low 15 z (r .volume)) i;
     }

@@ -9,14 +9,14 @@ use borrow.Author.Needs.{needs}
 use Rattle.batch.proofs.tender.put_word.Statement.{statement}
 use Rattle.batch.proofs.tender.put_word.Tie as tie
 
-place-of-requires : tie.Need-place-of-requires
-place-of-requires c κs = search needs
+word-place-requires : tie.Need-word-place-requires
+word-place-requires c κs = search needs
 
 put-checked-requires : tie.Need-put-checked-requires
 put-checked-requires c κs = search needs
 
-number-of-requires : tie.Need-number-of-requires
-number-of-requires c κs = search needs
+answer-number-requires : tie.Need-answer-number-requires
+answer-number-requires c κs = search needs
 
 same-length : tie.Need-same-length
 same-length c = search needs
@@ -24,15 +24,15 @@ same-length c = search needs
 returns : tie.Need-returns
 returns c =
     let w = c .before .before .before .put-checked in
-    let p = c .before .before .before .before .place-of in
+    let p = c .before .before .before .before .word-place in
     let z = c .before .before .before .before .before .before .before .before in
     record {
       out = meaning (w .result);
       made = subst (λ x. Answers (putTable S1024 fnv (now (z .args .s)) (now (z .args .key)) x (z .args .mode)) (meaning (w .result), w .last .0)) (p .ensures) (w .ensures);
-      is = c .number-of .ensures;
+      is = c .answer-number .ensures;
     }
 
 pub put-word-spec : {M : Type 1} → statement M
 put-word-spec =
     tie.close
-    (tie.spec place-of-requires put-checked-requires number-of-requires same-length returns)
+    (tie.spec word-place-requires put-checked-requires answer-number-requires same-length returns)

@@ -1,12 +1,12 @@
--- `batch::number_of` meets its contract, answer by answer. Assumes nothing.
+-- `batch::answer_number` meets its contract, answer by answer. Assumes nothing.
 use mathlib.Core.Path.{_≡_, sym, ap, _∙_}
 use mathlib.Core.Logic.{inl, inr}
 use Prim.Native.Nat.{ℕ}
 use Rattle.store.specs.Tables.{Out, Numbered, meaning}
 use Rattle.batch.specs.Batch.{number}
 use borrow.Author.Needs.{needs}
-use Rattle.batch.proofs.parts.number_of.Statement.{statement}
-use Rattle.batch.proofs.parts.number_of.Tie as tie
+use Rattle.batch.proofs.parts.answer_number.Statement.{statement}
+use Rattle.batch.proofs.parts.answer_number.Tie as tie
 
 numbered : (n p : ℕ) (o : Out) → Numbered n p o → n ≡ number o
 numbered n p o (inl h) = sym (ap number (h .2))
@@ -63,8 +63,8 @@ returns-7 c = search needs
 returns-8 : tie.Need-returns-8
 returns-8 c = search needs
 
-pub number-of-spec : {M : Type 1} → statement M
-number-of-spec =
+pub answer-number-spec : {M : Type 1} → statement M
+answer-number-spec =
     tie.close
     (tie.spec
     enum-known-a

@@ -1,12 +1,12 @@
--- `batch::place_of` meets its contract, part by part. Assumes nothing.
+-- `batch::word_place` meets its contract, part by part. Assumes nothing.
 use mathlib.Core.Path.{refl}
 use Prim.Native.Nat.{_/_, _%_, _^_}
 use native.Mathlib.Omega.{arith}
 use mir.Syntax.{w16, w32}
 use Rattle.batch.proofs.Signs.{kept-signed}
 use borrow.Author.Needs.{needs}
-use Rattle.batch.proofs.parts.place_of.Statement.{statement}
-use Rattle.batch.proofs.parts.place_of.Tie as tie
+use Rattle.batch.proofs.parts.word_place.Statement.{statement}
+use Rattle.batch.proofs.parts.word_place.Tie as tie
 
 part32-requires : tie.Need-part32-requires
 part32-requires c κs = search needs
@@ -26,5 +26,5 @@ returns c =
       volume = kept-signed w16 (c .part162 .result) (w / 2 ^ 48 % 2 ^ 16) refl (record { fits = omega arith }) (c .part162 .ensures) k;
     }
 
-pub place-of-spec : {M : Type 1} → statement M
-place-of-spec = tie.close (tie.spec part32-requires part16-requires part16-requires-2 returns)
+pub word-place-spec : {M : Type 1} → statement M
+word-place-spec = tie.close (tie.spec part32-requires part16-requires part16-requires-2 returns)
