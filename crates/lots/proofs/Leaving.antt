@@ -30,7 +30,7 @@ use Rattle.lots.specs.declared.Outcome.the-variants.{Silent, Unknown as 
 use Rattle.lots.specs.declared.Session.{Session}
 use Rattle.lots.specs.Known.{Known}
 use Rattle.lots.specs.Obeys.{Outcomes, Passes, Reads, Numbers, Untouched, Does, Obeys}
-use Rattle.lots.proofs.Unchecked.{check-says}
+use Rattle.store.proofs.Demands.Unchecked.{check-says}
 use Rattle.lots.specs.Sessions.{Leaves, After, Holds, Kept, Ran}
 
 -- a check that is no refusal accepts
