@@ -4,3 +4,4 @@ pub mod Chains
 pub mod Settled
 pub mod Histories
 pub mod EndToEnd
+pub mod Answered
