@@ -29,9 +29,9 @@ use Rattle.lots.specs.declared.Outcome.{Outcome}
 use Rattle.lots.specs.declared.Outcome.the-variants.{Silent, Unknown as NotKnown, Told, Changed, Listed, Format as Formats, Stopped}
 use Rattle.lots.specs.declared.Session.{Session}
 use Rattle.lots.specs.Known.{Known}
-use Rattle.lots.specs.Obeys.{Outcomes, Passes, Reads, Numbers, Untouched, Does, Obeys}
+use Rattle.lots.specs.Obeys.{Outcomes, Passes, TellsOnly, Numbers, Untouched, Does, Obeys}
 use Rattle.store.proofs.Demands.Unchecked.{check-says}
-use Rattle.lots.specs.Sessions.{Leaves, After, Holds, Kept, Ran}
+use Rattle.lots.specs.Sessions.{Leaves, After, SessionHolds, Kept, Ran}
 
 -- a check that is no refusal accepts
 pub checked-accepted : (s : List ℕ) (o : Out) → Answers (checkTable S1024 fnv s) o → ok o ≡ true → Accepted S1024 fnv s
@@ -84,7 +84,7 @@ passes-untouched (Listed n) p = tt
 passes-untouched (Changed x) p = p
 passes-untouched (Formats n) p = p
 
-pub reads-untouched : (a : Out) (o : Outcome) → Reads a o → Untouched o
+pub reads-untouched : (a : Out) (o : Outcome) → TellsOnly a o → Untouched o
 reads-untouched a NotKnown p = tt
 reads-untouched a Stopped p = tt
 reads-untouched a Silent p = tt
@@ -139,19 +139,19 @@ pub still-front : (xs ys : List ℕ) (n : ℕ) → n ≤ length xs → Still (ta
 still-front xs ys n l y = subst (Accepted S1024 fnv) (sym (still-back xs ys n l y)) (y .again)
 
 -- what is known is known of the part that is lent
-pub lent-known : {z : Session} {xs : List ℕ} → Holds z xs → Known (z .known) (take (z .len - 0) (drop 0 xs))
+pub lent-known : {z : Session} {xs : List ℕ} → SessionHolds z xs → Known (z .known) (take (z .len - 0) (drop 0 xs))
 lent-known {z} {xs} h e = simp sub-zero (h .known e)
 
 -- a line is obeyed on the first bytes of the buffer xs: what was known of them is known
-pub still-holds : {z : Session} {line xs ys : List ℕ} {o : Outcome} → Holds z xs → Obeys line (take (z .len - 0) (drop 0 xs)) o ys
-    → z .len ≤ length (take 0 xs ++ (ys ++ drop (z .len - 0) (drop 0 xs))) → Holds z (take 0 xs ++ (ys ++ drop (z .len - 0) (drop 0 xs)))
+pub still-holds : {z : Session} {line xs ys : List ℕ} {o : Outcome} → SessionHolds z xs → Obeys line (take (z .len - 0) (drop 0 xs)) o ys
+    → z .len ≤ length (take 0 xs ++ (ys ++ drop (z .len - 0) (drop 0 xs))) → SessionHolds z (take 0 xs ++ (ys ++ drop (z .len - 0) (drop 0 xs)))
 still-holds {z} {line} {xs} {ys} {o} h x l = record {
   within = l;
   known = λ e. still-front xs ys (z .len) (h .within) (does-still (x .code) (x .command) _ o ys (x .does) (lent-known {z = z} {xs = xs} h e));
 }
 
 -- a session that begins with what the check says
-pub begun : {z : Session} {xs : List ℕ} (n : ℕ) (b : Bool) → z .len ≡ n → z .known ≡ b → Says b (Accepted S1024 fnv (take (n - 0) (drop 0 xs))) → n ≤ length xs → Holds z xs
+pub begun : {z : Session} {xs : List ℕ} (n : ℕ) (b : Bool) → z .len ≡ n → z .known ≡ b → Says b (Accepted S1024 fnv (take (n - 0) (drop 0 xs))) → n ≤ length xs → SessionHolds z xs
 begun {z} {xs} n b e f s l = record {
   within = omega arith;
   known = λ k. subst (λ m. Accepted S1024 fnv (take m xs)) (sym e) (simp sub-zero at (says-true b (sym f ∙ k) s));
@@ -190,14 +190,14 @@ then a b = record {
 }
 
 -- what is held, by another session of the same length that knows the same
-pub holds-as : {z y : Session} {s : List ℕ} → y .len ≡ z .len → y .known ≡ z .known → Holds z s → Holds y s
+pub holds-as : {z y : Session} {s : List ℕ} → y .len ≡ z .len → y .known ≡ z .known → SessionHolds z s → SessionHolds y s
 holds-as {z} {y} {s} e f h = record {
   within = omega (arith, e, h .within);
   known = subst (λ b. Known b (take (y .len) s)) (sym f) (subst (λ n. Known (z .known) (take n s)) (sym e) (h .known));
 }
 
 -- a step that is not about the store
-pub beside : {z y : Session} {s : List ℕ} → y .len ≡ z .len → y .known ≡ z .known → y .changed ≡ z .changed → y .stopped ≡ z .stopped → Holds z s → Kept z s y s
+pub beside : {z y : Session} {s : List ℕ} → y .len ≡ z .len → y .known ≡ z .known → y .changed ≡ z .changed → y .stopped ≡ z .stopped → SessionHolds z s → Kept z s y s
 beside e k f g h = record {
   quiet = λ q. (sym f ∙ q .0, sym g ∙ q .1);
   same = λ q. refl;
@@ -206,7 +206,7 @@ beside e k f g h = record {
 }
 
 -- a line's outcome is taken into the session
-pub taken-in : {z r : Session} {o : Outcome} {s t : List ℕ} → After z o r → (Leaves o → t ≡ s) → Holds z t → Kept z s r t
+pub taken-in : {z r : Session} {o : Outcome} {s t : List ℕ} → After z o r → (Leaves o → t ≡ s) → SessionHolds z t → Kept z s r t
 taken-in a f h = record {
   quiet = a .quiet;
   same = λ q. f (a .leaves q);

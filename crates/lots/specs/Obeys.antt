@@ -36,14 +36,14 @@ Passes (Changed x) = ⊥
 Passes (Formats n) = ⊥
 
 -- a line that reads tells the answer a
-abbrev pub Reads : Out → Outcome → Type 0
-Reads a (Told x) = meaning x ≡ a
-Reads a Stopped = Unit {0}
-Reads a Silent = ⊥
-Reads a NotKnown = ⊥
-Reads a (Listed n) = ⊥
-Reads a (Changed x) = ⊥
-Reads a (Formats n) = ⊥
+abbrev pub TellsOnly : Out → Outcome → Type 0
+TellsOnly a (Told x) = meaning x ≡ a
+TellsOnly a Stopped = Unit {0}
+TellsOnly a Silent = ⊥
+TellsOnly a NotKnown = ⊥
+TellsOnly a (Listed n) = ⊥
+TellsOnly a (Changed x) = ⊥
+TellsOnly a (Formats n) = ⊥
 
 -- a line that writes tells the answer a, and the store counts as changed exactly where that is no refusal
 abbrev pub Outcomes : Out → Outcome → Type 0
@@ -75,7 +75,7 @@ pub record Written (c : Call) (s : List ℕ) (o : Outcome) (t : List ℕ) : Type
 pub record Asked (c : Call) (s : List ℕ) (o : Outcome) : Type 0 where
   pub answer : Out
   pub made : Made S1024 fnv c s answer s
-  pub told : Reads answer o
+  pub told : TellsOnly answer o
 
 -- row at place n, into a buffer of 64 bytes
 pub record RowAsked (n : ℕ) (s : List ℕ) (o : Outcome) : Type 0 where
@@ -87,7 +87,7 @@ pub record RowAsked (n : ℕ) (s : List ℕ) (o : Outcome) : Type 0 where
 pub record ListAsked (s : List ℕ) (o : Outcome) : Type 0 where
   pub answer : Out
   pub made : Made S1024 fnv check s answer s
-  pub refused : ok answer ≡ false → Reads answer o
+  pub refused : ok answer ≡ false → TellsOnly answer o
   pub rows : ok answer ≡ true → Numbers (length (listing S1024 fnv (rowsHeld S1024 s))) o
 
 -- a command on the store s; its code begins the buffer k

@@ -14,7 +14,7 @@ use Rattle.lots.specs.declared.Session.{Session}
 use Rattle.lots.specs.Known.{Known}
 
 -- the store is the first bytes of the buffer s, and what is known of it holds
-pub record Holds (z : Session) (s : List ℕ) : Type 0 where
+pub record SessionHolds (z : Session) (s : List ℕ) : Type 0 where
   pub within : z .len ≤ length s
   pub known : Known (z .known) (take (z .len) s)
 
@@ -45,13 +45,13 @@ pub record Kept (z : Session) (s : List ℕ) (r : Session) (t : List ℕ) : Type
   pub quiet : Quiet r → Quiet z
   pub same : Quiet r → t ≡ s
   pub long : Quiet r → r .len ≡ z .len
-  pub holds : Holds r t
+  pub holds : SessionHolds r t
 
 -- the whole input on the first len bytes of s: where r is quiet, they are as they were
 pub record Ran (len : ℕ) (s : List ℕ) (r : Session) (t : List ℕ) : Type 0 where
   pub same : Quiet r → t ≡ s
   pub long : Quiet r → r .len ≡ len
-  pub holds : Holds r t
+  pub holds : SessionHolds r t
 
 -- A format of n pages: the call answers on so many of the buffer's bytes, whatever they held, and these are the store then, unless it is refused.
 pub record FormatAsked (n : ℕ) (z : Session) (s : List ℕ) (r : Session) (t : List ℕ) : Type 0 where

@@ -10,7 +10,7 @@ ghost use Rattle.store.specs.Pages.{S1024, rowsHeld};
 ghost use Rattle.store.specs.Tables.{meaning};
 ghost use Rattle.query.specs.Spots.{OnPage};
 ghost use Rattle.lots.specs.Known.{Known};
-ghost use Rattle.lots.specs.Obeys.{ListAsked, Numbers, Obeys, Outcomes, Passes, Reads, RowAsked, Untouched};
+ghost use Rattle.lots.specs.Obeys.{ListAsked, Numbers, Obeys, Outcomes, Passes, TellsOnly, RowAsked, Untouched};
 use super::known::check_known;
 use super::known::count_known;
 use super::known::lookup_known;
@@ -27,7 +27,7 @@ use store::Refusal;
 // A line that reads: its answer was written, or could not be. Of a row the code stands in the buffer.
 fn tell(a: Answer, code: &[u8]) -> Outcome
     requires { ⌜ length (now code) ≤ 64 ⌝ }
-    ensures { λ r. ⌜ Reads (meaning a) r ⌝ }
+    ensures { λ r. ⌜ TellsOnly (meaning a) r ⌝ }
 {
     if !say::answer(a, code) {
         return Outcome::Stopped;
@@ -36,7 +36,7 @@ fn tell(a: Answer, code: &[u8]) -> Outcome
 }
 
 fn told(a: Answer) -> Outcome
-    ensures { λ r. ⌜ Reads (meaning a) r ⌝ }
+    ensures { λ r. ⌜ TellsOnly (meaning a) r ⌝ }
 {
     tell(a, b"")
 }

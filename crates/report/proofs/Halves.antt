@@ -8,7 +8,7 @@ use mathlib.Core.Logic.{_⊎_, inl, inr}
 use native.Mathlib.Omega.{arith}
 use lib.Dec.{T, eqb, ltb, ltb→lt, nltb→le}
 use lib.ListN.{length, getD}
-use Rattle.report.specs.Numbers.{Rising, indexOf}
+use Rattle.report.specs.Numbers.{RisingNumbers, indexOf}
 use Rattle.report.proofs.Ranks.{holds, fails, eq-true, ne-false}
 
 side : (a b : ℕ) → (a < b) ⊎ (b ≤ a)
@@ -35,7 +35,7 @@ pub record Between (ps : List ℕ) (w lo hi : ℕ) : Type 0 where
 pub between-start : (ps : List ℕ) (w : ℕ) → Between ps w 0 (length ps)
 between-start ps w = record { lo-le = omega arith; hi-le = omega arith; below = λ k l. absurd (not-suc-le-zero l); above = λ k h l. absurd (omega (arith, h, l)) }
 
-module _ {ps : List ℕ} {w lo hi : ℕ} (s : Rising ps) (b : Between ps w lo hi) (m : ℕ) (lm : lo ≤ m) (mh : m < hi) where
+module _ {ps : List ℕ} {w lo hi : ℕ} (s : RisingNumbers ps) (b : Between ps w lo hi) (m : ℕ) (lm : lo ≤ m) (mh : m < hi) where
   upper : (k : ℕ) → (k ≡ m) ⊎ (k < m) → getD {A = ℕ} ps m 0 < w → getD {A = ℕ} ps k 0 < w
   upper k (inl e) c = subst (λ (j : ℕ). getD {A = ℕ} ps j 0 < w) (sym e) c
   upper k (inr l) c = let h : getD {A = ℕ} ps k 0 < getD {A = ℕ} ps m 0 = s .rises k m l (omega (arith, b .hi-le)) in omega (arith, h, c)
@@ -71,7 +71,7 @@ module _ {ps : List ℕ} {w lo hi : ℕ} where
   pub found-none : Between ps w lo hi → length ps ≤ lo → length ps ≡ indexOf w ps
   found-none b h = index-none w ps (λ k l e. let d : getD {A = ℕ} ps k 0 < w = b .below k (omega (arith, h, l)) in omega (arith, d, e))
 
-  other : Rising ps → Between ps w lo hi → hi ≤ lo → lo < length ps → (getD {A = ℕ} ps lo 0 ≡ w → ⊥) → (k : ℕ) → k < length ps → (k < lo) ⊎ (lo ≤ k) → getD {A = ℕ} ps k 0 ≡ w → ⊥
+  other : RisingNumbers ps → Between ps w lo hi → hi ≤ lo → lo < length ps → (getD {A = ℕ} ps lo 0 ≡ w → ⊥) → (k : ℕ) → k < length ps → (k < lo) ⊎ (lo ≤ k) → getD {A = ℕ} ps k 0 ≡ w → ⊥
   other s b g l n k m (inl h) e = let d : getD {A = ℕ} ps k 0 < w = b .below k h in omega (arith, d, e)
   other s b g l n k m (inr h) e = beyond (eq-or-lt-of-le h)
     where
@@ -82,5 +82,5 @@ module _ {ps : List ℕ} {w lo hi : ℕ} where
           let c : w ≤ getD {A = ℕ} ps lo 0 = b .above lo g l in
           omega (arith, d, c, e)
 
-  pub found-other : Rising ps → Between ps w lo hi → hi ≤ lo → lo < length ps → (getD {A = ℕ} ps lo 0 ≡ w → ⊥) → length ps ≡ indexOf w ps
+  pub found-other : RisingNumbers ps → Between ps w lo hi → hi ≤ lo → lo < length ps → (getD {A = ℕ} ps lo 0 ≡ w → ⊥) → length ps ≡ indexOf w ps
   found-other s b g l n = index-none w ps (λ k m. other s b g l n k m (side k lo))

@@ -14,7 +14,7 @@ use Rattle.page.specs.Places.{place}
 use Rattle.partition.specs.Partition.{Row}
 use Rattle.report.specs.declared.SheetRow.{SheetRow}
 use Rattle.report.specs.Report.{placeIn, sheetRow, RowPlace, same, samePlace, names, InSheet}
-use Rattle.report.specs.Numbers.{rank, rankOn, indexOf, Rising}
+use Rattle.report.specs.Numbers.{rank, rankOn, indexOf, RisingNumbers}
 use Rattle.report.proofs.Ranks.{holds, eq-true}
 use Rattle.report.proofs.Halves.{index-is}
 use Rattle.report.proofs.Orders.{Parts, parts, low-place, rank-one}
@@ -67,10 +67,10 @@ pub index-hit : (w : ℕ) (ps : List ℕ) → indexOf w ps < length ps → getD 
 index-hit w [] l = absurd (not-suc-le-zero l)
 index-hit w (p ∷ ps) l = hit-when (eqb p w) p w ps (indexOf w ps) (length ps) refl (index-hit w ps) l
 
-pub index-there : (w : ℕ) (ps : List ℕ) → Rising ps → (i : ℕ) → i < length ps → getD {A = ℕ} ps i 0 ≡ w → i ≡ indexOf w ps
+pub index-there : (w : ℕ) (ps : List ℕ) → RisingNumbers ps → (i : ℕ) → i < length ps → getD {A = ℕ} ps i 0 ≡ w → i ≡ indexOf w ps
 index-there w ps r i l e = index-is w ps i l e (λ k m. let d : getD {A = ℕ} ps k 0 < getD {A = ℕ} ps i 0 = r .rises k i m l in omega (arith, d, e))
 
-module _ (xs : List SheetRow) (places : (i : ℕ) → i < length xs → RowPlace (placeIn (sheetRow xs i))) (r : Rising (ranks xs)) where
+module _ (xs : List SheetRow) (places : (i : ℕ) → i < length xs → RowPlace (placeIn (sheetRow xs i))) (r : RisingNumbers (ranks xs)) where
   -- its index is that of the row that has its place
   pub index-names : (q : Row) (j : ℕ) → j < length xs → eqb (indexOf (rankOn q) (ranks xs)) j ≡ names q (sheetRow xs j)
   index-names q j l = alike (eqb (indexOf (rankOn q) (ranks xs)) j) (names q (sheetRow xs j)) to from

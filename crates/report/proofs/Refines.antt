@@ -16,7 +16,7 @@ use Rattle.store.specs.Pages.{rowsHeld}
 use Rattle.report.specs.declared.SheetRow.{SheetRow}
 use Rattle.report.specs.declared.Sums.{Sums}
 use Rattle.report.specs.Report.{placeIn, limit, sheetRow, RowPlace, GoodSheet, totalOf, hiddenOf, hiddenCents, doubledOf, reportOf, PlaceAt, FirstMissing, Reported, other, missing, summed, reportTable}
-use Rattle.report.specs.Numbers.{rank, raise, rankOn, ranksOf, raisedOf, spreadFrom, Sound, indexOf, tallied, unmarked, unmarkedSum, remarked, Lowered, SumsOf, Told, numbersTable}
+use Rattle.report.specs.Numbers.{rank, raise, rankOn, ranksOf, raisedOf, spreadFrom, Sound, indexOf, tallied, unmarked, unmarkedSum, remarked, Lowered, SumsOf, ToldBy, numbersTable}
 use Rattle.report.proofs.Runs.{listed-below, listed-rank}
 use Rattle.report.proofs.Laid.{map-at, ranks-are, raised-are}
 use Rattle.report.proofs.Raises.{amount-in}
@@ -129,7 +129,7 @@ module _ (xs : List SheetRow) (g : GoodSheet xs) (rs : List Row) where
     sums-same : x ≡ reportOf xs rs
     sums-same = λ i. record { total = total-same i; hidden = hidden-same i; cents = cents-same i; doubled = doubled-same i }
 
-  told-is : (r : Reported) → Told ps ls rs cs r → Answers (rung (FirstMissing xs rs) (λ p. answer (missing p)) (answer (summed (reportOf xs rs)))) r
+  told-is : (r : Reported) → ToldBy ps ls rs cs r → Answers (rung (FirstMissing xs rs) (λ p. answer (missing p)) (answer (summed (reportOf xs rs)))) r
   told-is (other o) t = absurd t
   told-is (missing p) t = inl (p, (first-missing p t, refl))
   told-is (summed x) t = inr (none-missing x t, ap summed (sums-same x t))
@@ -147,8 +147,8 @@ module _ (S : Shape) (h : List ℕ → ℕ) (s : List ℕ) (xs : List SheetRow) 
   of-good : GoodSheet xs → (n ≤ limit) × Sound (ranksOf fl n) (raisedOf fl n)
   of-good g = (g .most, subst (λ (q : List ℕ). Sound q (raisedOf fl n)) (sym (ranks-are xs (g .most))) (subst (λ (q : List ℕ). Sound (ranks xs) q) (sym (raised-are xs (g .most))) (good-sound xs g)))
 
-  over-rows : (r : Reported) → n ≤ limit → Told (ranksOf fl n) (raisedOf fl n) (listing S h (rowsHeld S s)) (replicate n 0) r → Told (ranks xs) (raised xs) (listing S h (rowsHeld S s)) (replicate n 0) r
-  over-rows r l t = subst (λ (q : List ℕ). Told q (raised xs) (listing S h (rowsHeld S s)) (replicate n 0) r) (ranks-are xs l) (subst (λ (q : List ℕ). Told (ranksOf fl n) q (listing S h (rowsHeld S s)) (replicate n 0) r) (raised-are xs l) t)
+  over-rows : (r : Reported) → n ≤ limit → ToldBy (ranksOf fl n) (raisedOf fl n) (listing S h (rowsHeld S s)) (replicate n 0) r → ToldBy (ranks xs) (raised xs) (listing S h (rowsHeld S s)) (replicate n 0) r
+  over-rows r l t = subst (λ (q : List ℕ). ToldBy q (raised xs) (listing S h (rowsHeld S s)) (replicate n 0) r) (ranks-are xs l) (subst (λ (q : List ℕ). ToldBy (ranksOf fl n) q (listing S h (rowsHeld S s)) (replicate n 0) r) (raised-are xs l) t)
 
   pub refines : (r : Reported) → Answers (numbersTable S h s fl n) r → Answers (reportTable S h s xs) r
   unfolding numbersTable reportTable

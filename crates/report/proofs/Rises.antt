@@ -6,7 +6,7 @@ use mathlib.Core.List.{List, [], _∷_}
 use native.Mathlib.Nat.{not-suc-le-zero, eq-or-lt-of-le}
 use native.Mathlib.Omega.{arith}
 use lib.ListN.{length, getD}
-use Rattle.report.specs.Numbers.{Rising, AtMost, Sound}
+use Rattle.report.specs.Numbers.{RisingNumbers, AtMost, Sound}
 
 -- a row before i whose place is at least x
 pub record EarlierRow (ps : List ℕ) (i x : ℕ) : Type 0 where

@@ -11,7 +11,7 @@ use lib.ListN.{length, getD, set, drop, getElem?, length-set, drop-of-length-le}
 use Rattle.ground.proofs.Tests.{none-some}
 use Rattle.partition.specs.Partition.{Row}
 use Rattle.store.proofs.Demands.Settled.{some-one}
-use Rattle.report.specs.Numbers.{rankOn, AtMost, indexOf, markAt, tallied, ifSo, unmarked, unmarkedSum, remarked, Closed}
+use Rattle.report.specs.Numbers.{rankOn, AtMost, indexOf, markAt, tallied, ifSo, unmarked, unmarkedSum, remarked, ClosedWith}
 use Rattle.report.proofs.Ranks.{lt-yes, lt-no, eq-true, ne-false, le-yes, le-no}
 
 drop-suc : (xs : List ℕ) (i : ℕ) → i < length xs → drop i xs ≡ getD {A = ℕ} xs i 0 ∷ drop (suc i) xs
@@ -134,7 +134,7 @@ module _ {ls cs : List ℕ} {i h s d : ℕ} (p : Passed ls cs i h s d) where
       nil [] = refl
       nil (x ∷ xs) = refl
 
-  pub passed-end : length cs ≤ i → Closed ls cs (record { hidden = h; sum = s; doubled = d })
+  pub passed-end : length cs ≤ i → ClosedWith ls cs (record { hidden = h; sum = s; doubled = d })
   passed-end e =
       let cs-at : drop i cs ≡ [] = drop-of-length-le cs e in
       let fh : unmarked (drop i cs) ≡ 0 = ap unmarked cs-at in

@@ -8,7 +8,7 @@ use native.Mathlib.Omega.{arith}
 use lib.ListN.{length, getD, length-map}
 use Rattle.report.specs.declared.SheetRow.{SheetRow}
 use Rattle.report.specs.Report.{placeIn, limit, sheetRow, RowPlace, GoodSheet}
-use Rattle.report.specs.Numbers.{rank, raise, Rising, AtMost, Sound}
+use Rattle.report.specs.Numbers.{rank, raise, RisingNumbers, AtMost, Sound}
 use Rattle.report.proofs.Laid.{map-at}
 use Rattle.report.proofs.Orders.{parts, low-place, precedes-rank, rank-precedes}
 use Rattle.report.proofs.Raises.{amount-in, amount-out}

@@ -26,7 +26,7 @@ use Rattle.store.proofs.Demands.Settled.{same, some-one}
 use Rattle.store.proofs.Showing.Showing.{accepted-shows}
 use Rattle.report.specs.declared.SheetRow.{SheetRow}
 use Rattle.report.specs.Report.{placeIn, GoodSheet, names, timesNamed, amountOf, totalOf, hiddenCents, sheetCents, namedCents, rowByRow, reportOf, FirstMissing, Reported, missing, summed, reportTable}
-use Rattle.report.specs.Numbers.{rank, rankOn, Rising}
+use Rattle.report.specs.Numbers.{rank, rankOn, RisingNumbers}
 use Rattle.report.proofs.Ranks.{holds, ne-false}
 use Rattle.report.proofs.Raises as R
 use Rattle.report.proofs.Names.{names-is}
@@ -125,7 +125,7 @@ unnamed-rows r rs (x ∷ xs) u =
     λ i. (x .cents *ℤ pos ((ap (λ (t : Bool). cond t 1 0 + timesNamed rs x) (u .0) ∙ e) i)) +ℤ unnamed-rows r rs xs (u .1) i
 
 -- a sheet whose ranks rise names a place once
-rising-tail : (p : ℕ) (ps : List ℕ) → Rising (p ∷ ps) → Rising ps
+rising-tail : (p : ℕ) (ps : List ℕ) → RisingNumbers (p ∷ ps) → RisingNumbers ps
 rising-tail p ps r = record { rises = λ i j l m. r .rises (suc i) (suc j) (omega (arith, l)) (omega (arith, m)) }
 
 above : (r : Row) (p : ℕ) (xs : List SheetRow) → InPlace xs → rankOn r ≡ p → ((i : ℕ) → i < length (ranks xs) → p < getD {A = ℕ} (ranks xs) i 0) → Unnamed r xs
@@ -144,7 +144,7 @@ row-when false r rs x xs u ih =
     let c : ℤ = x .cents *ℤ pos (timesNamed rs x) in
     (λ i. (x .cents *ℤ pos (e i)) +ℤ ih i) ∙ sym (+ℤ-assoc c (amountOf xs r) (rowByRow rs xs)) ∙ ap (λ (z : ℤ). z +ℤ rowByRow rs xs) (+ℤ-comm c (amountOf xs r)) ∙ +ℤ-assoc (amountOf xs r) c (rowByRow rs xs)
 
-row-more : (r : Row) (rs : List Row) (xs : List SheetRow) → InPlace xs → Rising (ranks xs) → rowByRow (r ∷ rs) xs ≡ amountOf xs r +ℤ rowByRow rs xs
+row-more : (r : Row) (rs : List Row) (xs : List SheetRow) → InPlace xs → RisingNumbers (ranks xs) → rowByRow (r ∷ rs) xs ≡ amountOf xs r +ℤ rowByRow rs xs
 unfolding rowByRow amountOf
 row-more r rs [] h u = refl
 row-more r rs (x ∷ xs) h u =

@@ -11,7 +11,7 @@ use lib.ListN.{length, getD}
 use Rattle.partition.specs.Partition.{Row}
 use Rattle.report.specs.declared.SheetRow.{SheetRow}
 use Rattle.report.specs.Report.{placeIn, sheetRow, RowPlace, names, timesNamed, amountOf, totalOf, hiddenOf, hiddenCents, doubledOf}
-use Rattle.report.specs.Numbers.{rank, raise, rankOn, indexOf, markAt, tallied, Rising, unmarked, unmarkedSum, remarked, Lowered}
+use Rattle.report.specs.Numbers.{rank, raise, rankOn, indexOf, markAt, tallied, RisingNumbers, unmarked, unmarkedSum, remarked, Lowered}
 use Rattle.report.proofs.Ranks.{lt-yes, le-yes, ne-false}
 use Rattle.report.proofs.Marks.{AllFound, bump, bumped, times}
 use Rattle.report.proofs.Names.{names-is, index-names}
@@ -74,7 +74,7 @@ cond-suc : (t : Bool) (m : ℕ) → cond t (suc m) m ≡ cond t 1 0 + m
 cond-suc true m = omega arith
 cond-suc false m = omega arith
 
-module _ (xs : List SheetRow) (places : (i : ℕ) → i < length xs → RowPlace (placeIn (sheetRow xs i))) (r : Rising (ranks xs)) where
+module _ (xs : List SheetRow) (places : (i : ℕ) → i < length xs → RowPlace (placeIn (sheetRow xs i))) (r : RisingNumbers (ranks xs)) where
   pub times-is : (rs : List Row) (j : ℕ) → j < length xs → times j (ranks xs) (map rankOn rs) ≡ timesNamed rs (sheetRow xs j)
   unfolding timesNamed
   times-is [] j l = refl

@@ -65,7 +65,7 @@ ranksOf fl n = take n fl
 abbrev pub raisedOf : List ℕ → ℕ → List ℕ
 raisedOf fl n = take n (drop limit fl)
 
-pub record Rising (ps : List ℕ) : Type 0 where
+pub record RisingNumbers (ps : List ℕ) : Type 0 where
   pub rises : (i j : ℕ) → i < j → j < length ps → getD {A = ℕ} ps i 0 < getD {A = ℕ} ps j 0
 
 pub record AtMost (m : ℕ) (ls : List ℕ) : Type 0 where
@@ -73,7 +73,7 @@ pub record AtMost (m : ℕ) (ls : List ℕ) : Type 0 where
 
 -- the sheet's rules over its numbers
 pub record Sound (ps ls : List ℕ) : Type 0 where
-  pub ascending : Rising ps
+  pub ascending : RisingNumbers ps
   pub places : AtMost 9223372036854775807 ps
   pub amounts : AtMost 2000000000000 ls
 
@@ -133,7 +133,7 @@ abbrev pub remarked : List ℕ → ℕ
 remarked [] = 0
 remarked (c ∷ cs) = ifSo (leb 2 c) 1 + remarked cs
 
-pub record Closed (ls cs : List ℕ) (l : Left) : Type 0 where
+pub record ClosedWith (ls cs : List ℕ) (l : Left) : Type 0 where
   pub rows : l .hidden ≡ unmarked cs
   pub sum : l .sum ≡ unmarkedSum ls cs
   pub twice : l .doubled ≡ remarked cs
@@ -153,10 +153,10 @@ pub record SumsOf (ps ls : List ℕ) (rs : List Row) (cs : List ℕ) (x : Sums) 
   pub doubled : x .doubled ≡ remarked marks
 
 -- over a sound sheet, from the marks cs
-abbrev pub Told : List ℕ → List ℕ → List Row → List ℕ → Reported → Type 0
-Told ps ls rs cs (other o) = ⊥
-Told ps ls rs cs (missing p) = PlaceAt rs (tallied ps ls (map rankOn rs) 0 0 cs .0) p
-Told ps ls rs cs (summed x) = SumsOf ps ls rs cs x
+abbrev pub ToldBy : List ℕ → List ℕ → List Row → List ℕ → Reported → Type 0
+ToldBy ps ls rs cs (other o) = ⊥
+ToldBy ps ls rs cs (missing p) = PlaceAt rs (tallied ps ls (map rankOn rs) 0 0 cs .0) p
+ToldBy ps ls rs cs (summed x) = SumsOf ps ls rs cs x
 
 -- the report over the numbers of n rows
 unfoldable pub numbersTable : Shape → (List ℕ → ℕ) → List ℕ → List ℕ → ℕ → Ladder Reported
@@ -165,4 +165,4 @@ numbersTable S h s fl n =
     (refuse ((n ≤ limit) × Sound (ranksOf fl n) (raisedOf fl n) → ⊥) (other (refused 10))
     (given ((n ≤ limit) × Sound (ranksOf fl n) (raisedOf fl n))
     (checked S h s other
-    (ends (Told (ranksOf fl n) (raisedOf fl n) (listing S h (rowsHeld S s)) (replicate n 0))))))
+    (ends (ToldBy (ranksOf fl n) (raisedOf fl n) (listing S h (rowsHeld S s)) (replicate n 0))))))

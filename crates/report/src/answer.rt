@@ -9,7 +9,7 @@ ghost use Rattle.store.specs.Accepted.{Accepted};
 ghost use Rattle.store.specs.Demands.{Sized};
 ghost use Rattle.store.specs.Pages.{S1024, rowsHeld};
 ghost use Rattle.report.specs.Report.{limit, reported};
-ghost use Rattle.report.specs.Numbers.{SoundSheet, Lowered, Told, numbersTable};
+ghost use Rattle.report.specs.Numbers.{SoundSheet, Lowered, ToldBy, numbersTable};
 use super::tally::close;
 use super::tally::sound;
 use super::tally::tally;
@@ -35,7 +35,7 @@ fn lower(sum: u64, k: usize) -> i64
 // Over a sound sheet, with room for a mark for each row.
 fn told(s: &[u8], z: Shape, ranks: &[u64], raised: &[u64], counts: &mut [u8]) -> Outcome
     requires { ⌜ Sized z × Accepted z fnv (now s) × SoundSheet (now ranks) (now raised) × (length (now counts) ≡ length (now ranks)) ⌝ }
-    ensures { λ r. ⌜ Told (now (ranks .entry)) (now (raised .entry)) (listing z fnv (rowsHeld z (now (s .entry)))) (now (counts .entry)) (reported r) ⌝ }
+    ensures { λ r. ⌜ ToldBy (now (ranks .entry)) (now (raised .entry)) (listing z fnv (rowsHeld z (now (s .entry)))) (now (counts .entry)) (reported r) ⌝ }
 {
     match tally(s, z, ranks, raised, counts) {
         Ending::Missing(p) => Outcome::NotInSheet(p),
@@ -57,7 +57,7 @@ fn told(s: &[u8], z: Shape, ranks: &[u64], raised: &[u64], counts: &mut [u8]) ->
 // The same, with marks of its own.
 fn told_fresh(s: &[u8], z: Shape, ranks: &[u64], raised: &[u64]) -> Outcome
     requires { ⌜ Sized z × Accepted z fnv (now s) × SoundSheet (now ranks) (now raised) ⌝ }
-    ensures { λ r. ⌜ Told (now (ranks .entry)) (now (raised .entry)) (listing z fnv (rowsHeld z (now (s .entry)))) (replicate (length (now (ranks .entry))) 0) (reported r) ⌝ }
+    ensures { λ r. ⌜ ToldBy (now (ranks .entry)) (now (raised .entry)) (listing z fnv (rowsHeld z (now (s .entry)))) (replicate (length (now (ranks .entry))) 0) (reported r) ⌝ }
 {
     let n = ranks.len();
     let mut counts = [0u8; LIMIT];

@@ -10,7 +10,7 @@ ghost use Rattle.store.specs.Accepted.{Accepted};
 ghost use Rattle.store.specs.Demands.{Sized};
 ghost use Rattle.store.specs.Pages.{rowsHeld};
 ghost use Rattle.query.specs.Cursors.{At};
-ghost use Rattle.report.specs.Numbers.{Rising, AtMost, Sound, SoundSheet, indexOf, markAt, Follows, Ends, ifSo, unmarked, unmarkedSum, remarked, Closed};
+ghost use Rattle.report.specs.Numbers.{RisingNumbers, AtMost, Sound, SoundSheet, indexOf, markAt, Follows, Ends, ifSo, unmarked, unmarkedSum, remarked, ClosedWith};
 use super::rows::rank_of;
 use crate::Ending;
 use crate::Left;
@@ -45,7 +45,7 @@ pub fn sound(ranks: &[u64], raised: &[u64]) -> bool
 
 // The row with that rank, by halving; the number of rows where there is none.
 fn find(ranks: &[u64], w: u64) -> usize
-    requires { ⌜ Rising (now ranks) ⌝ }
+    requires { ⌜ RisingNumbers (now ranks) ⌝ }
     ensures { λ r. ⌜ r ≡ indexOf w (now (ranks .entry)) ⌝ }
 {
     let mut lo = 0;
@@ -153,7 +153,7 @@ fn close_step(a: Left, l: u64, c: u8) -> Left
 // The closing pass: what no code names, and what more than one does.
 pub fn close(raised: &[u64], counts: &[u8]) -> Left
     requires { ⌜ (length (now counts) ≡ length (now raised)) × AtMost 2000000000000 (now raised) × (length (now raised) ≤ 4000000) ⌝ }
-    ensures { λ r. ⌜ Closed (now (raised .entry)) (now (counts .entry)) r ⌝ }
+    ensures { λ r. ⌜ ClosedWith (now (raised .entry)) (now (counts .entry)) r ⌝ }
 {
     let mut i = 0;
     let mut a = Left {

@@ -11,7 +11,7 @@ use Rattle.store.specs.Demands.{ok}
 use Rattle.store.specs.Pages.{S1024}
 use Rattle.store.specs.Tables.{meaning}
 use Rattle.store.proofs.Demands.Kept.{refusal-keeps}
-use Rattle.lots.specs.Sessions.{Holds, Quiet}
+use Rattle.lots.specs.Sessions.{SessionHolds, Quiet}
 use Rattle.lots.proofs.Leaving.{done-loud, formatted-still, part-back, still-back, still-front, taken-in}
 use Rattle.lots.proofs.input.format.Statement.{statement}
 use Rattle.lots.proofs.input.format.Tie as tie
@@ -80,7 +80,7 @@ returns-2 c =
     let start = c .before .before .before .before .before .before .before .before .before .before in
     let d : ok (meaning (f .result)) ≡ false = sym (c .before .is-done .ensures) ∙ c .if1 .left in
     let e = part-back (now (start .args .store)) (f .last .0) 0 (n .result - 0) (refusal-keeps S1024 fnv Demands.format _ (meaning (f .result)) _ (f .ensures) d) in (
-      taken-in a (λ l. e) (subst (Holds (start .args .z)) (sym e) (start .pre)),
+      taken-in a (λ l. e) (subst (SessionHolds (start .args .z)) (sym e) (start .pre)),
       a .fill,
       record {
         len = n .result;

@@ -17,7 +17,7 @@ use Rattle.store.specs.Demands.{sized-1024}
 use Rattle.store.specs.Pages.{S1024, rowsHeld}
 use Rattle.store.proofs.Accepted.Rules.{accepted-whole}
 use Rattle.report.specs.Report.{limit, reported}
-use Rattle.report.specs.Numbers.{Sound, SoundSheet, Told, ranksOf, raisedOf, numbersTable}
+use Rattle.report.specs.Numbers.{Sound, SoundSheet, ToldBy, ranksOf, raisedOf, numbersTable}
 use Rattle.report.proofs.Tells.{ranks-length, raised-length, raised-is}
 use Rattle.report.proofs.answer.judge.Statement.{statement}
 use Rattle.report.proofs.answer.judge.Tie as tie
@@ -133,9 +133,9 @@ returns-5 c =
     let f = e2 d in
     let rs = listing S1024 fnv (rowsHeld S1024 (store (e f))) in
     let r = reported (c .told-fresh .result) in
-    let told : Told (ranksOf (flat (e f)) (n (e f))) (raisedOf (flat (e f)) (n (e f))) rs (replicate (n (e f)) 0) r =
-    subst (λ ls. Told (ranksOf (flat (e f)) (n (e f))) ls rs (replicate (n (e f)) 0) r) (raised-here f)
-    (subst (λ m. Told (ranksOf (flat (e f)) (n (e f))) (take ((limit + n (e f)) - limit) (drop limit (flat (e f)))) rs (replicate m 0) r) (ranks-here f) (c .told-fresh .ensures)) in
+    let told : ToldBy (ranksOf (flat (e f)) (n (e f))) (raisedOf (flat (e f)) (n (e f))) rs (replicate (n (e f)) 0) r =
+    subst (λ ls. ToldBy (ranksOf (flat (e f)) (n (e f))) ls rs (replicate (n (e f)) 0) r) (raised-here f)
+    (subst (λ m. ToldBy (ranksOf (flat (e f)) (n (e f))) (take ((limit + n (e f)) - limit) (drop limit (flat (e f)))) rs (replicate m 0) r) (ranks-here f) (c .told-fresh .ensures)) in
     inr ((λ _ x. x (good (e f))), inr ((λ _ x. not-ten d x), ((f .if2 .left, sound-here d), inr (accepted-whole S1024 fnv _ (accepted (c .before)), (accepted (c .before), told)))))
 
 pub judge-spec : {M : Type 1} → statement M

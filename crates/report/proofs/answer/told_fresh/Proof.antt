@@ -8,7 +8,7 @@ use Rattle.hash.specs.Fnv.{fnv}
 use Rattle.partition.specs.Listing.{listing}
 use Rattle.store.specs.Pages.{rowsHeld}
 use Rattle.report.specs.Report.{limit, reported}
-use Rattle.report.specs.Numbers.{Told}
+use Rattle.report.specs.Numbers.{ToldBy}
 use Rattle.report.proofs.Tells.{prefix-le, prefix-length, take-replicate}
 use Rattle.report.proofs.answer.told_fresh.Statement.{statement}
 use Rattle.report.proofs.answer.told_fresh.Tie as tie
@@ -24,7 +24,7 @@ told-requires c κs = let s = c .before .before .before .before in (s .pre .0, s
 
 returns : tie.Need-returns
 returns c = let s = c .before .before .before .before .before .before in
-    subst (λ (cs : List ℕ). Told (now (s .args .ranks)) (now (s .args .raised)) (listing (s .args .z) fnv (rowsHeld (s .args .z) (now (s .args .s)))) cs (reported (c .before .told .result))) (take-replicate (length (now (s .args .ranks))) limit 0 (s .pre .2 .most)) (c .before .told .ensures)
+    subst (λ (cs : List ℕ). ToldBy (now (s .args .ranks)) (now (s .args .raised)) (listing (s .args .z) fnv (rowsHeld (s .args .z) (now (s .args .s)))) cs (reported (c .before .told .result))) (take-replicate (length (now (s .args .ranks))) limit 0 (s .pre .2 .most)) (c .before .told .ensures)
 
 pub told-fresh-spec : {M : Type 1} → statement M
 told-fresh-spec = tie.close (tie.spec array-borrow-prefix-counts slice-aggregate-told told-requires returns)

@@ -6,7 +6,7 @@ use borrow.Author.Needs.{needs}
 use lib.ListN.{length, getD}
 use denote.Ref.{now}
 use mathlib.Core.List.{List}
-use Rattle.report.specs.Numbers.{Rising}
+use Rattle.report.specs.Numbers.{RisingNumbers}
 use Rattle.report.proofs.Halves.{mid-lo, mid-hi, Between, between-start, between-up, between-down, index-is, found-none, found-other}
 use Rattle.report.proofs.tally.find.Statement.{statement}
 use Rattle.report.proofs.tally.find.Tie as tie
