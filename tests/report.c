@@ -52,7 +52,7 @@ static lots_sheet_row at(int32_t page, int16_t slot, int16_t volume, int64_t cen
 }
 
 static void put(const char *code, int32_t page, int16_t slot, int16_t volume) {
-    if (lots_refusal(lots_put(store, sizeof store, (const uint8_t *)code, strlen(code), page, slot, volume))) fail("a put was refused");
+    if (lots_refusal(lots_put(store, sizeof store, (const uint8_t *)code, strlen(code), page, slot, volume, LOTS_EITHER))) fail("a put was refused");
 }
 
 /* A small tender: three rows, one hidden and one under two codes. */
@@ -95,7 +95,7 @@ static void seeded(int codes, int wide) {
     lots_format(store, sizeof store);
     for (int i = 0; i < codes; i++) {
         snprintf(code, sizeof code, "%u", draw());
-        lots_put(store, sizeof store, (const uint8_t *)code, strlen(code), (int32_t)below(wide), (int16_t)below(3), (int16_t)below(2));
+        lots_put(store, sizeof store, (const uint8_t *)code, strlen(code), (int32_t)below(wide), (int16_t)below(3), (int16_t)below(2), LOTS_EITHER);
     }
     for (int page = 0; page < wide; page++)
         for (int k = 0; k < 6; k++)
