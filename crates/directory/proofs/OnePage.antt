@@ -64,7 +64,7 @@ module _ (S : Shape) (h : List ℕ → ℕ) (sized : Sized S) (s : List ℕ) (gs
   pub laid-set : Laid S h t fs
   laid-set = record {
     long = record { whole = ap (λ n. n % size S) lens ∙ L .long .whole; least = subst (λ n. 3 ≤ n) (sym many) (L .long .least); most = subst (λ n. n ≤ S .entries + 2) (sym many) (L .long .most) };
-    head = head-kept S s t lens (λ i l. below i (omega (arith, least))) (λ i a l. below i (omega (arith, least))) (L .head);
+    head = head-kept S sized s t lens (λ i l. below i (omega (arith, least))) (λ i a l. below i (omega (arith, least))) (L .head);
     deep = same-depth ∙ L .deep ∙ sym (deepest-set gs (p - 2) k rs (rows q) g);
     each = λ x a b. each x a b (ℕ-discrete x p);
     holds = set-contents S s p q to long two ∙ (λ i. set (L .holds i) (p - 2) (read-now i));
