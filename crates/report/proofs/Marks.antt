@@ -1,4 +1,4 @@
--- A row's mark is the number of codes that name it, natPart to two. Assumes nothing.
+-- A row's mark is the number of codes that name it, up to two. Assumes nothing.
 use Prim.Native.Nat.{ℕ, zero, suc, _+_, _<_, _≤_}
 use mathlib.Core.Path.{_≡_, refl, sym, ap, subst, _∙_}
 use mathlib.Core.Bool.{Bool, true, false, cond}

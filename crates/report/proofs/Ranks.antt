@@ -1,4 +1,4 @@
--- The tests of the code decide the words of a row. Assumes nothing.
+-- The tests of the code decide the numbers of a row. Assumes nothing.
 use Prim.Native.Nat.{ℕ, zero, suc, _+_, _*_, _-_, _<_, _≤_, _^_}
 use mathlib.Core.Path.{_≡_, refl, sym, subst, ap, _∙_}
 use mathlib.Core.Bool.{Bool, true, false, cond, not, _&&_}

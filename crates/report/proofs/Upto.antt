@@ -1,4 +1,4 @@
--- The words after the first i rows are laid. Assumes nothing.
+-- The numbers after the first i rows are laid. Assumes nothing.
 use Prim.Native.Nat.{ℕ, zero, suc, _+_, _<_}
 use mathlib.Core.Path.{_≡_, refl, sym, ap, _∙_}
 use mathlib.Core.List.{List, [], _∷_}
