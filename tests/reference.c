@@ -286,20 +286,71 @@ static uint64_t give(const struct row *of, int count, uint64_t n, uint8_t *out, 
     return place_word(of[n].place);
 }
 
-uint64_t ref_row(const uint8_t *s, size_t len, uint64_t n, uint8_t *out, size_t out_len, uint32_t *code_len) {
+static struct row listing[MOST_ROWS + 1];
+
+/* The rows that were read, as they are listed; how many. */
+static int list_rows(void) {
     static struct bucket buckets[ENTRIES];
-    static struct row listing[MOST_ROWS + 1];
-    if (!good_length(len)) return refusal(1);
-    if (out_len < 64) return refusal(8);
-    uint64_t bad = read_store(s, len);
-    if (bad) return bad;
     int many = partition(rows, row_count, buckets), listed = 0;
     for (int b = 0; b < many; b++) {
         int k = of_prefix(rows, row_count, buckets[b].bits, buckets[b].value, listing + listed);
         qsort(listing + listed, k, sizeof *listing, row_order);
         listed += k;
     }
-    return give(listing, listed, n, out, code_len);
+    return listed;
+}
+
+uint64_t ref_row(const uint8_t *s, size_t len, uint64_t n, uint8_t *out, size_t out_len, uint32_t *code_len) {
+    if (!good_length(len)) return refusal(1);
+    if (out_len < 64) return refusal(8);
+    uint64_t bad = read_store(s, len);
+    if (bad) return bad;
+    return give(listing, list_rows(), n, out, code_len);
+}
+
+/* ---- the bid report: every listed row against every sheet row */
+
+static int same_place(const struct row *r, const lots_sheet_row *x) {
+    return number(r->place, 4) == (uint32_t)x->page && number(r->place + 4, 2) == (uint16_t)x->slot && number(r->place + 6, 2) == (uint16_t)x->volume;
+}
+
+static int good_sheet(const lots_sheet_row *x, size_t n) {
+    if (n > 20000) return 0;
+    for (size_t i = 0; i < n; i++) {
+        if (x[i].page < 0 || x[i].slot < 0 || x[i].volume < 0) return 0;
+        if (x[i].cents < -1000000000000 || x[i].cents > 1000000000000) return 0;
+        if (i == 0) continue;
+        const lots_sheet_row *a = x + i - 1, *b = x + i;
+        if (a->page > b->page) return 0;
+        if (a->page == b->page && a->slot > b->slot) return 0;
+        if (a->page == b->page && a->slot == b->slot && a->volume >= b->volume) return 0;
+    }
+    return 1;
+}
+
+lots_report_answer ref_report(const uint8_t *s, size_t len, const lots_sheet_row *sheet, size_t n) {
+    static int named[20000];
+    lots_report_answer r = {0, 0, 0, 0, 0, 0};
+    if (!good_length(len)) return r.answer = refusal(1), r;
+    if (!good_sheet(sheet, n)) return r.answer = refusal(10), r;
+    uint64_t bad = read_store(s, len);
+    if (bad) return r.answer = bad, r;
+    int listed = list_rows();
+    int64_t total = 0;
+    memset(named, 0, sizeof named);
+    for (int k = 0; k < listed; k++) {
+        size_t i = 0;
+        while (i < n && !same_place(listing + k, sheet + i)) i++;
+        if (i == n) return r.answer = refusal(11), r.place = place_word(listing[k].place), r;
+        total += sheet[i].cents;
+        named[i]++;
+    }
+    r.total = total;
+    for (size_t i = 0; i < n; i++) {
+        if (named[i] == 0) r.hidden++, r.hidden_cents += sheet[i].cents;
+        if (named[i] > 1) r.doubled++;
+    }
+    return r;
 }
 
 uint64_t ref_inspect(const uint8_t *g, size_t len, uint64_t n, uint8_t *out, size_t out_len, uint32_t *code_len) {

@@ -1,9 +1,8 @@
-/* A second implementation of document 01 with the modes and the batch of document 02, written from the documents and from nothing else: slow, plain, and worked out afresh from the rows at every call. */
+/* A second implementation of document 01 with the modes, the batch and the report of document 02, written from the documents and from nothing else: slow, plain, and worked out afresh from the rows at every call. */
 #ifndef REFERENCE_H
 #define REFERENCE_H
 
-#include <stddef.h>
-#include <stdint.h>
+#include "../include/lots.h"
 
 /* The answers are those of include/lots.h. */
 uint64_t ref_format(uint8_t *store, size_t store_len);
@@ -17,6 +16,7 @@ uint64_t ref_put_all(uint8_t *store, size_t store_len, const uint8_t *codes, siz
 uint64_t ref_count(const uint8_t *store, size_t store_len);
 uint64_t ref_row(const uint8_t *store, size_t store_len, uint64_t n, uint8_t *out, size_t out_len, uint32_t *code_len);
 uint64_t ref_inspect(const uint8_t *page, size_t page_len, uint64_t n, uint8_t *out, size_t out_len, uint32_t *code_len);
+lots_report_answer ref_report(const uint8_t *store, size_t store_len, const lots_sheet_row *sheet, size_t sheet_rows);
 uint32_t ref_hash(const uint8_t *code, size_t len);
 
 #endif

@@ -12,6 +12,7 @@ use Rattle.page.specs.Page.{Record, BucketPage, depth, rows}
 use Rattle.partition.specs.declared.Shape.{Shape}
 use Rattle.store.specs.Pages.{size, pages, page, entryAt, Page, bucket, read, contents, deepestIn}
 use Rattle.store.specs.Accepted.{GoodLength, Calls}
+use Rattle.store.specs.Demands.{Sized}
 use Rattle.store.proofs.Showing.Shows.{prefixOn, Holding}
 use Rattle.store.proofs.Showing.Shown.{free-not}
 use Rattle.store.proofs.Showing.Rooms.{bucket-one}
@@ -81,7 +82,7 @@ module _ (S : Shape) (s : List ℕ) (n : ℕ) (P : Settling S s n) where
       go (free z) = inl z
       go (used u d) = inr u
 
-  module _ (h : List ℕ → ℕ) (t : List ℕ) (head : Head S s) (D : Directed S h s deep n t) where
+  module _ (h : List ℕ → ℕ) (t : List ℕ) (sized : Sized S) (head : Head S s) (D : Directed S h s deep n t) where
     entry-of : (i : ℕ) → EntryFor S h s deep n i (entryAt S t i) → Named.Entry S h t (contents S s) deep (n - 2) i
     entry-of i (none z f) = Named.nothing z (λ j k rs l x c.
         let w = on-page j k rs x (inside j k rs x) in
@@ -102,7 +103,7 @@ module _ (S : Shape) (s : List ℕ) (n : ℕ) (P : Settling S s n) where
     pub directed-laid : Laid S h t (contents S s)
     directed-laid = record {
       long = record { whole = ap (λ m. m % size S) (D .long) ∙ good .whole; least = omega (arith, same-many, P .least); most = omega (arith, same-many, P .most) };
-      head = head-kept S s t (D .long) (D .start) (D .rest) head;
+      head = head-kept S sized s t (D .long) (D .start) (D .rest) head;
       deep = D .deep;
       each = each-kept S s t (D .long) (D .above) whole-of;
       holds = contents-kept S s t (D .long) (D .above);

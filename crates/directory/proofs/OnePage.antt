@@ -1,16 +1,16 @@
 -- One bucket page written anew, its depth and prefix as they were: page 0 and the directory stay right. Over any page size. Assumes nothing.
-use mathlib.Core.Path.{_≡_, refl, sym, ap, subst, subst₂, _∙_}
-use mathlib.Core.List.{List, [], _∷_, _++_}
+use mathlib.Core.Path.{_≡_, sym, ap, subst, subst₂, _∙_}
+use mathlib.Core.List.{List, [], _∷_}
 use mathlib.Core.Logic.{_⊎_, inl, inr, _≢_}
 use Prim.Native.Nat.{ℕ, zero, suc, _+_, _-_, _*_, _%_, _≤_, _<_, max}
 use native.Mathlib.Omega.{arith}
 use native.Mathlib.Nat.{mul-le-mul-right}
 use native.Mathlib.Decide.{ℕ-discrete}
-use lib.ListN.{length, take, drop, set}
+use lib.ListN.{length, set}
 use Rattle.ground.specs.Lists.{byte}
 use Rattle.page.specs.Page.{Record, BucketPage, depth, rows}
 use Rattle.partition.specs.declared.Shape.{Shape}
-use Rattle.store.specs.Pages.{S1024, size, pages, page, dirDepth, entryAt, Page, bucket, read, depthOn, deepestIn, setPage}
+use Rattle.store.specs.Pages.{size, pages, page, dirDepth, entryAt, Page, bucket, read, depthOn, deepestIn, setPage}
 use Rattle.store.specs.Accepted.{Calls}
 use Rattle.store.specs.Demands.{Sized}
 use Rattle.store.proofs.Showing.Shows.{prefixOn, Holding}
@@ -19,7 +19,7 @@ use Rattle.store.proofs.Showing.Rooms.{bucket-one, held-set, set-holds, set-oth
 use Rattle.store.proofs.Accepted.Unique.{read-used}
 use Rattle.store.proofs.Accepted.Named.{Entry, nothing, names}
 use Rattle.store.proofs.Accepted.Accepting.{Whole, Laid, head-kept}
-use Rattle.store.proofs.Paging.Views.{page-lent, page-back, set-long, set-pages, set-same, set-other, set-below, set-depth, set-entry, set-contents}
+use Rattle.store.proofs.Paging.Views.{set-long, set-pages, set-same, set-other, set-below, set-depth, set-entry, set-contents}
 
 -- a page of the same depth leaves the largest depth
 pub deepest-set : (gs : List Page) (i k : ℕ) (rs qs : List Record) → Holding gs i k rs → deepestIn (set gs i (bucket k qs)) ≡ deepestIn gs
@@ -64,7 +64,7 @@ module _ (S : Shape) (h : List ℕ → ℕ) (sized : Sized S) (s : List ℕ) (gs
   pub laid-set : Laid S h t fs
   laid-set = record {
     long = record { whole = ap (λ n. n % size S) lens ∙ L .long .whole; least = subst (λ n. 3 ≤ n) (sym many) (L .long .least); most = subst (λ n. n ≤ S .entries + 2) (sym many) (L .long .most) };
-    head = head-kept S s t lens (λ i l. below i (omega (arith, least))) (λ i a l. below i (omega (arith, least))) (L .head);
+    head = head-kept S sized s t lens (λ i l. below i (omega (arith, least))) (λ i a l. below i (omega (arith, least))) (L .head);
     deep = same-depth ∙ L .deep ∙ sym (deepest-set gs (p - 2) k rs (rows q) g);
     each = λ x a b. each x a b (ℕ-discrete x p);
     holds = set-contents S s p q to long two ∙ (λ i. set (L .holds i) (p - 2) (read-now i));
@@ -92,12 +92,3 @@ module _ (S : Shape) (h : List ℕ → ℕ) (sized : Sized S) (s : List ℕ) (gs
       each : (x : ℕ) → 2 ≤ x → x < pages S t → Dec (x ≡ p) → Whole (page S t x)
       each x a b (yes e) = inr (subst BucketPage (sym (ap (page S t) e ∙ set-same S s p q to long)) Q)
       each x a b (no n) = subst Whole (sym (set-other S s p q to long x n)) (L .each x a (subst (λ m. x < m) many b))
-
--- ---- a page of 1,024 bytes as the code lends it, and the store as it comes back
-
-module _ (s : List ℕ) (p : ℕ) where
-  pub lent : take (p * 1024 + 1024 - p * 1024) (drop (p * 1024) s) ≡ page S1024 s p
-  lent = page-lent S1024 s p
-
-  pub back : (q : List ℕ) → take (p * 1024) s ++ (q ++ drop (p * 1024 + 1024 - p * 1024) (drop (p * 1024) s)) ≡ setPage S1024 s p q
-  back q = page-back S1024 s q p (p * 1024) (p * 1024 + 1024) refl refl

@@ -68,6 +68,6 @@ module _ (S : Shape) (sized : Sized S) (h : List ℕ → ℕ) (hash : Hash h) (s
         → Becomes S h s (contents S t) u
     settled u D rs w small =
         laid-becomes S h sized hash u rs (contents S t)
-        (directed-laid S t (pages S s) settling h u
-        (head-kept S s t (W .long) (λ k l. W .low k (omega (arith, sized .least))) (λ k a l. W .low k (omega arith)) (accepted-laid S h sized hash s A .head)) D)
+        (directed-laid S t (pages S s) settling h u sized
+        (head-kept S sized s t (W .long) (λ k l. W .low k (omega (arith, sized .least))) (λ k a l. W .low k (omega arith)) (accepted-laid S h sized hash s A .head)) D)
         w s (D .long ∙ W .long) small

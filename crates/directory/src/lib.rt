@@ -34,6 +34,7 @@ fn format_pages(s: &mut [u8], z: Shape) -> store::Answer
     words::put32(s, 4, size);
     words::put32(s, 8, z.entries);
     words::put32(s, 12, 2 * size);
+    words::put32(s, 20, partition::size_number(z));
     store::Answer::Formatted
 }
 

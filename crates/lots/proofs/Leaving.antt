@@ -1,44 +1,60 @@
 -- What a line, and a quiet session, leave of the store. Assumes nothing.
-use Prim.Native.Nat.{ℕ, _-_, _≤_}
+use Prim.Native.Nat.{ℕ, zero, suc, _-_, _≤_, _<_}
 use mathlib.Core.Path.{_≡_, refl, sym, ap, subst, _∙_}
 use mathlib.Core.Bool.{Bool, true, true≢false}
-use mathlib.Core.List.{List, _++_}
+use mathlib.Core.List.{List, [], _∷_, _++_}
+use mathlib.Core.Option.{none}
 use mathlib.Core.Logic.{inl, inr}
 use native.Mathlib.Nat.{sub-zero}
 use native.Mathlib.Omega.{arith}
-use lib.ListN.{length, take, drop, take-append-drop}
+use lib.ListN.{length, take, drop, getElem?, take-append-drop}
 use lib.Seq.{take-at, length-take-le}
 use Rattle.commands.specs.declared.Command.{Command}
 use Rattle.commands.specs.declared.Command.the-variants.{Nothing, Unknown, Format, Put, Lookup, Remove, Count, Row, Listing, Check, Inspect}
 use Rattle.ground.specs.Ladder.{Answers}
 use Rattle.ground.specs.Says.{Says}
-use Rattle.ground.proofs.Tests.{says-true}
-use Rattle.hash.specs.Fnv.{fnv}
+use Rattle.ground.proofs.Tests.{none-some, says-true}
+use Rattle.hash.specs.Fnv.{fnv, fnv-lt}
+use Rattle.partition.specs.Listing.{listing}
+use Rattle.partition.specs.Partition.{Row as StoredRow}
+use Rattle.partition.proofs.Reorders.{length-same}
 use Rattle.store.specs.Accepted.{Accepted}
 use Rattle.store.specs.Demands.{Call, Made, put, remove, format, ok, sized-1024}
-use Rattle.store.specs.Pages.{S1024}
-use Rattle.store.specs.Tables.{Out, counted, formatted, countTable, formatTable}
+use Rattle.store.specs.Pages.{S1024, rowsHeld}
+use Rattle.store.specs.Tables.{Out, formatted, checkTable, formatTable}
 use Rattle.store.proofs.Accepted.Format.{accepted-always, format-accepted}
 use Rattle.store.proofs.Demands.Kept.{refusal-keeps}
+use Rattle.store.proofs.Showing.Walked.{listed-once}
 use Rattle.lots.specs.declared.Outcome.{Outcome}
-use Rattle.lots.specs.declared.Outcome.the-variants.{Same, Changed, Format as Formats, Stopped}
+use Rattle.lots.specs.declared.Outcome.the-variants.{Silent, Unknown as NotKnown, Told, Changed, Listed, Format as Formats, Stopped}
 use Rattle.lots.specs.declared.Session.{Session}
 use Rattle.lots.specs.Known.{Known}
-use Rattle.lots.specs.Obeys.{Outcomes, Does, Obeys}
-use Rattle.lots.specs.Sessions.{Leaves, After, Holds, Kept, Ran}
+use Rattle.lots.specs.Obeys.{Outcomes, Passes, TellsOnly, Numbers, Untouched, Does, Obeys}
+use Rattle.store.proofs.Demands.Unchecked.{check-says}
+use Rattle.lots.specs.Sessions.{Leaves, After, SessionHolds, Kept, Ran}
 
--- a store whose rows are counted is accepted
-pub counted-accepted : (s : List ℕ) (n : ℕ) → Answers (countTable S1024 fnv s) (counted n) → Accepted S1024 fnv s
-unfolding countTable
-counted-accepted s n (inl x) = absurd (let z : _≡_ {A = ℕ} 0 1 = cc (x .1 .1) in omega arith)
-counted-accepted s n (inr (_, inl x)) = absurd (let z : _≡_ {A = ℕ} 0 1 = cc (x .1 .1) in omega arith)
-counted-accepted s n (inr (_, inr x)) = x .1 .0
+-- a check that is no refusal accepts
+pub checked-accepted : (s : List ℕ) (o : Out) → Answers (checkTable S1024 fnv s) o → ok o ≡ true → Accepted S1024 fnv s
+checked-accepted s o m e = says-true (ok o) e (check-says S1024 fnv s o m)
+
+-- how many rows the listing has
+pub listing-counts : (s : List ℕ) → Accepted S1024 fnv s → length (rowsHeld S1024 s) ≡ length (listing S1024 fnv (rowsHeld S1024 s))
+listing-counts s a = length-same (listed-once S1024 fnv sized-1024 fnv-lt s a .1)
+
+-- a place below the number of rows has a row
+pub some-row : (l : List StoredRow) (n : ℕ) → n < length l → getElem? l n ≡ none → ⊥
+some-row [] n h e = omega arith
+some-row (x ∷ l) zero h e = none-some e refl
+some-row (x ∷ l) (suc n) h e = some-row l n (omega arith) e
 
 -- a call whose refusal is told leaves every byte
 pub told-leaves : (c : Call) (s : List ℕ) (a : Out) (o : Outcome) (t : List ℕ) → Made S1024 fnv c s a t → Outcomes a o → Leaves o → t ≡ s
-told-leaves c s a Same t m r l = refusal-keeps S1024 fnv c s a t m r
+told-leaves c s a (Told x) t m r l = refusal-keeps S1024 fnv c s a t m (r .1)
 told-leaves c s a (Formats n) t m r l = absurd r
-told-leaves c s a Changed t m r l = absurd l
+told-leaves c s a Silent t m r l = absurd r
+told-leaves c s a NotKnown t m r l = absurd r
+told-leaves c s a (Listed n) t m r l = absurd r
+told-leaves c s a (Changed x) t m r l = absurd l
 told-leaves c s a Stopped t m r l = absurd l
 
 does-leaves : (k : List ℕ) (c : Command) (s : List ℕ) (o : Outcome) (t : List ℕ) → Does k c s o t → Leaves o → t ≡ s
@@ -57,6 +73,34 @@ does-leaves k (Inspect n) s o t d l = d .1
 -- a line that changed nothing left every byte
 pub leaves : {line s t : List ℕ} {o : Outcome} → Obeys line s o t → Leaves o → t ≡ s
 leaves {line} {s} {t} {o} x = does-leaves (x .code) (x .command) s o t (x .does)
+
+-- what is only told leaves the store
+pub passes-untouched : (o : Outcome) → Passes o → Untouched o
+passes-untouched NotKnown p = tt
+passes-untouched Stopped p = tt
+passes-untouched Silent p = tt
+passes-untouched (Told x) p = tt
+passes-untouched (Listed n) p = tt
+passes-untouched (Changed x) p = p
+passes-untouched (Formats n) p = p
+
+pub reads-untouched : (a : Out) (o : Outcome) → TellsOnly a o → Untouched o
+reads-untouched a NotKnown p = tt
+reads-untouched a Stopped p = tt
+reads-untouched a Silent p = tt
+reads-untouched a (Told x) p = tt
+reads-untouched a (Listed n) p = tt
+reads-untouched a (Changed x) p = p
+reads-untouched a (Formats n) p = p
+
+pub numbers-untouched : (n : ℕ) (o : Outcome) → Numbers n o → Untouched o
+numbers-untouched n NotKnown p = tt
+numbers-untouched n Stopped p = tt
+numbers-untouched n Silent p = tt
+numbers-untouched n (Told x) p = tt
+numbers-untouched n (Listed m) p = tt
+numbers-untouched n (Changed x) p = p
+numbers-untouched n (Formats m) p = p
 
 -- the store that a call leaves of one that is known to be accepted: accepted again, and as long
 pub record Still (s t : List ℕ) : Type 0 where
@@ -86,26 +130,28 @@ does-still k (Inspect n) s o t d a = still-same s t a (d .1)
 pub front-back : (xs ys : List ℕ) (n : ℕ) → length ys ≡ n → take n (take 0 xs ++ (ys ++ drop (n - 0) (drop 0 xs))) ≡ ys
 front-back xs ys n e = take-at ys (drop (n - 0) (drop 0 xs)) n e
 
+-- which they are, if the call left as many
+pub still-back : (xs ys : List ℕ) (n : ℕ) → n ≤ length xs → Still (take (n - 0) (drop 0 xs)) ys → take n (take 0 xs ++ (ys ++ drop (n - 0) (drop 0 xs))) ≡ ys
+still-back xs ys n l y = front-back xs ys n (y .long ∙ simp sub-zero (length-take-le n xs l))
+
 -- then what stands there is accepted, if the call left it so
 pub still-front : (xs ys : List ℕ) (n : ℕ) → n ≤ length xs → Still (take (n - 0) (drop 0 xs)) ys → Accepted S1024 fnv (take n (take 0 xs ++ (ys ++ drop (n - 0) (drop 0 xs))))
-still-front xs ys n l y =
-    let e : length ys ≡ n = y .long ∙ simp sub-zero (length-take-le n xs l) in
-    subst (Accepted S1024 fnv) (sym (front-back xs ys n e)) (y .again)
+still-front xs ys n l y = subst (Accepted S1024 fnv) (sym (still-back xs ys n l y)) (y .again)
 
 -- what is known is known of the part that is lent
-pub lent-known : {z : Session} {xs : List ℕ} → Holds z xs → Known (z .known) (take (z .len - 0) (drop 0 xs))
+pub lent-known : {z : Session} {xs : List ℕ} → SessionHolds z xs → Known (z .known) (take (z .len - 0) (drop 0 xs))
 lent-known {z} {xs} h e = simp sub-zero (h .known e)
 
 -- a line is obeyed on the first bytes of the buffer xs: what was known of them is known
-pub still-holds : {z : Session} {line xs ys : List ℕ} {o : Outcome} → Holds z xs → Obeys line (take (z .len - 0) (drop 0 xs)) o ys
-    → z .len ≤ length (take 0 xs ++ (ys ++ drop (z .len - 0) (drop 0 xs))) → Holds z (take 0 xs ++ (ys ++ drop (z .len - 0) (drop 0 xs)))
+pub still-holds : {z : Session} {line xs ys : List ℕ} {o : Outcome} → SessionHolds z xs → Obeys line (take (z .len - 0) (drop 0 xs)) o ys
+    → z .len ≤ length (take 0 xs ++ (ys ++ drop (z .len - 0) (drop 0 xs))) → SessionHolds z (take 0 xs ++ (ys ++ drop (z .len - 0) (drop 0 xs)))
 still-holds {z} {line} {xs} {ys} {o} h x l = record {
   within = l;
   known = λ e. still-front xs ys (z .len) (h .within) (does-still (x .code) (x .command) _ o ys (x .does) (lent-known {z = z} {xs = xs} h e));
 }
 
 -- a session that begins with what the check says
-pub begun : {z : Session} {xs : List ℕ} (n : ℕ) (b : Bool) → z .len ≡ n → z .known ≡ b → Says b (Accepted S1024 fnv (take (n - 0) (drop 0 xs))) → n ≤ length xs → Holds z xs
+pub begun : {z : Session} {xs : List ℕ} (n : ℕ) (b : Bool) → z .len ≡ n → z .known ≡ b → Says b (Accepted S1024 fnv (take (n - 0) (drop 0 xs))) → n ≤ length xs → SessionHolds z xs
 begun {z} {xs} n b e f s l = record {
   within = omega arith;
   known = λ k. subst (λ m. Accepted S1024 fnv (take m xs)) (sym e) (simp sub-zero at (says-true b (sym f ∙ k) s));
@@ -122,9 +168,12 @@ formatted-still s o t (inr x) e =
 
 -- an answer that is no refusal, once it is told, is a change
 pub done-loud : (a : Out) (o : Outcome) → Outcomes a o → Leaves o → ok a ≡ true → ⊥
-done-loud a Same r l e = true≢false (sym e ∙ r)
+done-loud a (Told x) r l e = true≢false (sym e ∙ r .1)
 done-loud a (Formats n) r l e = r
-done-loud a Changed r l e = l
+done-loud a Silent r l e = r
+done-loud a NotKnown r l e = r
+done-loud a (Listed n) r l e = r
+done-loud a (Changed x) r l e = l
 done-loud a Stopped r l e = l
 
 -- a lent part that comes back as it was
@@ -141,14 +190,14 @@ then a b = record {
 }
 
 -- what is held, by another session of the same length that knows the same
-pub holds-as : {z y : Session} {s : List ℕ} → y .len ≡ z .len → y .known ≡ z .known → Holds z s → Holds y s
+pub holds-as : {z y : Session} {s : List ℕ} → y .len ≡ z .len → y .known ≡ z .known → SessionHolds z s → SessionHolds y s
 holds-as {z} {y} {s} e f h = record {
   within = omega (arith, e, h .within);
   known = subst (λ b. Known b (take (y .len) s)) (sym f) (subst (λ n. Known (z .known) (take n s)) (sym e) (h .known));
 }
 
 -- a step that is not about the store
-pub beside : {z y : Session} {s : List ℕ} → y .len ≡ z .len → y .known ≡ z .known → y .changed ≡ z .changed → y .stopped ≡ z .stopped → Holds z s → Kept z s y s
+pub beside : {z y : Session} {s : List ℕ} → y .len ≡ z .len → y .known ≡ z .known → y .changed ≡ z .changed → y .stopped ≡ z .stopped → SessionHolds z s → Kept z s y s
 beside e k f g h = record {
   quiet = λ q. (sym f ∙ q .0, sym g ∙ q .1);
   same = λ q. refl;
@@ -157,7 +206,7 @@ beside e k f g h = record {
 }
 
 -- a line's outcome is taken into the session
-pub taken-in : {z r : Session} {o : Outcome} {s t : List ℕ} → After z o r → (Leaves o → t ≡ s) → Holds z t → Kept z s r t
+pub taken-in : {z r : Session} {o : Outcome} {s t : List ℕ} → After z o r → (Leaves o → t ≡ s) → SessionHolds z t → Kept z s r t
 taken-in a f h = record {
   quiet = a .quiet;
   same = λ q. f (a .leaves q);

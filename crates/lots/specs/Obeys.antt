@@ -1,32 +1,69 @@
--- What a line of the input does to the store. Assumes nothing.
+-- What a line of the input answers and does to the store. Assumes nothing.
 use Prim.Native.Nat.{ℕ}
 use mathlib.Core.Path.{_≡_}
 use mathlib.Core.Bool.{true, false}
 use mathlib.Core.List.{List}
-use lib.ListN.{take}
+use lib.ListN.{length, take}
 use Rattle.commands.specs.declared.Command.{Command}
 use Rattle.commands.specs.declared.Command.the-variants.{Nothing, Unknown, Format, Put, Lookup, Remove, Count, Row, Listing, Check, Inspect}
 use Rattle.commands.specs.Lines.{Means}
 use Rattle.hash.specs.Fnv.{fnv}
-use Rattle.store.specs.Demands.{Call, put, remove, Made, ok}
-use Rattle.store.specs.Pages.{S1024}
-use Rattle.store.specs.Tables.{Out}
+use Rattle.partition.specs.Listing.{listing}
+use Rattle.store.specs.Demands.{Call, check, count, lookup, put, remove, rowAt, Made, ok}
+use Rattle.store.specs.Pages.{S1024, rowsHeld}
+use Rattle.store.specs.Tables.{Out, meaning}
 use Rattle.lots.specs.declared.Outcome.{Outcome}
-use Rattle.lots.specs.declared.Outcome.the-variants.{Same, Changed, Format as Formats, Stopped}
+use Rattle.lots.specs.declared.Outcome.the-variants.{Silent, Unknown as NotKnown, Told, Changed, Listed, Format as Formats, Stopped}
 
 -- a line that only reads
 abbrev pub Untouched : Outcome → Type 0
-Untouched Same = Unit {0}
+Untouched Silent = Unit {0}
+Untouched NotKnown = Unit {0}
+Untouched (Told x) = Unit {0}
+Untouched (Listed n) = Unit {0}
 Untouched Stopped = Unit {0}
-Untouched Changed = ⊥
+Untouched (Changed x) = ⊥
 Untouched (Formats n) = ⊥
 
--- the store counts as changed exactly where a call that writes is not refused
+-- an unknown line says so; in each of these Stopped stands for an answer that could not be written
+abbrev pub Passes : Outcome → Type 0
+Passes NotKnown = Unit {0}
+Passes Stopped = Unit {0}
+Passes Silent = ⊥
+Passes (Told x) = ⊥
+Passes (Listed n) = ⊥
+Passes (Changed x) = ⊥
+Passes (Formats n) = ⊥
+
+-- a line that reads tells the answer a
+abbrev pub TellsOnly : Out → Outcome → Type 0
+TellsOnly a (Told x) = meaning x ≡ a
+TellsOnly a Stopped = Unit {0}
+TellsOnly a Silent = ⊥
+TellsOnly a NotKnown = ⊥
+TellsOnly a (Listed n) = ⊥
+TellsOnly a (Changed x) = ⊥
+TellsOnly a (Formats n) = ⊥
+
+-- a line that writes tells the answer a, and the store counts as changed exactly where that is no refusal
 abbrev pub Outcomes : Out → Outcome → Type 0
-Outcomes a Same = ok a ≡ false
-Outcomes a Changed = ok a ≡ true
+Outcomes a (Told x) = (meaning x ≡ a) × (ok a ≡ false)
+Outcomes a (Changed x) = (meaning x ≡ a) × (ok a ≡ true)
 Outcomes a Stopped = Unit {0}
+Outcomes a Silent = ⊥
+Outcomes a NotKnown = ⊥
+Outcomes a (Listed n) = ⊥
 Outcomes a (Formats n) = ⊥
+
+-- n rows, and their number
+abbrev pub Numbers : ℕ → Outcome → Type 0
+Numbers n (Listed m) = m ≡ n
+Numbers n Stopped = Unit {0}
+Numbers n Silent = ⊥
+Numbers n NotKnown = ⊥
+Numbers n (Told x) = ⊥
+Numbers n (Changed x) = ⊥
+Numbers n (Formats m) = ⊥
 
 -- the call c made t of the store s, and its answer is told
 pub record Written (c : Call) (s : List ℕ) (o : Outcome) (t : List ℕ) : Type 0 where
@@ -34,18 +71,37 @@ pub record Written (c : Call) (s : List ℕ) (o : Outcome) (t : List ℕ) : Type
   pub made : Made S1024 fnv c s answer t
   pub told : Outcomes answer o
 
+-- the call c reads the store s, and its answer is told
+pub record Asked (c : Call) (s : List ℕ) (o : Outcome) : Type 0 where
+  pub answer : Out
+  pub made : Made S1024 fnv c s answer s
+  pub told : TellsOnly answer o
+
+-- row at place n, into a buffer of 64 bytes
+pub record RowAsked (n : ℕ) (s : List ℕ) (o : Outcome) : Type 0 where
+  pub buffer : List ℕ
+  pub long : length buffer ≡ 64
+  pub asked : Asked (rowAt n buffer) s o
+
+-- the check's refusal, or as many rows as the listing has
+pub record ListAsked (s : List ℕ) (o : Outcome) : Type 0 where
+  pub answer : Out
+  pub made : Made S1024 fnv check s answer s
+  pub refused : ok answer ≡ false → TellsOnly answer o
+  pub rows : ok answer ≡ true → Numbers (length (listing S1024 fnv (rowsHeld S1024 s))) o
+
 -- a command on the store s; its code begins the buffer k
 abbrev pub Does : List ℕ → Command → List ℕ → Outcome → List ℕ → Type 0
 Does k (Put n p m) s o t = Written (put (take n k) p m) s o t
 Does k (Remove n) s o t = Written (remove (take n k)) s o t
 Does k (Format n) s o t = (o ≡ Formats n) × (t ≡ s)
-Does k Nothing s o t = (o ≡ Same) × (t ≡ s)
-Does k Unknown s o t = Untouched o × (t ≡ s)
-Does k (Lookup n) s o t = Untouched o × (t ≡ s)
-Does k Count s o t = Untouched o × (t ≡ s)
-Does k (Row n) s o t = Untouched o × (t ≡ s)
-Does k Listing s o t = Untouched o × (t ≡ s)
-Does k Check s o t = Untouched o × (t ≡ s)
+Does k Nothing s o t = (o ≡ Silent) × (t ≡ s)
+Does k Unknown s o t = Passes o × (t ≡ s)
+Does k (Lookup n) s o t = Asked (lookup (take n k)) s o × (t ≡ s)
+Does k Count s o t = Asked count s o × (t ≡ s)
+Does k (Row n) s o t = RowAsked n s o × (t ≡ s)
+Does k Listing s o t = ListAsked s o × (t ≡ s)
+Does k Check s o t = Asked check s o × (t ≡ s)
 Does k (Inspect n) s o t = Untouched o × (t ≡ s)
 
 -- the line is a command, and that is done

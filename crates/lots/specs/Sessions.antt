@@ -1,16 +1,20 @@
 -- What a session keeps from line to line. Assumes nothing.
-use Prim.Native.Nat.{ℕ, _≤_}
+use Prim.Native.Nat.{ℕ, _*_, _≤_}
 use mathlib.Core.Path.{_≡_}
-use mathlib.Core.Bool.{false}
+use mathlib.Core.Bool.{true, false}
 use mathlib.Core.List.{List}
 use lib.ListN.{length, take}
+use Rattle.hash.specs.Fnv.{fnv}
+use Rattle.store.specs.Demands.{format, Made, ok}
+use Rattle.store.specs.Pages.{S1024}
+use Rattle.store.specs.Tables.{Out}
 use Rattle.lots.specs.declared.Outcome.{Outcome}
-use Rattle.lots.specs.declared.Outcome.the-variants.{Same, Changed, Format, Stopped}
+use Rattle.lots.specs.declared.Outcome.the-variants.{Silent, Unknown, Told, Changed, Listed, Format, Stopped}
 use Rattle.lots.specs.declared.Session.{Session}
 use Rattle.lots.specs.Known.{Known}
 
 -- the store is the first bytes of the buffer s, and what is known of it holds
-pub record Holds (z : Session) (s : List ℕ) : Type 0 where
+pub record SessionHolds (z : Session) (s : List ℕ) : Type 0 where
   pub within : z .len ≤ length s
   pub known : Known (z .known) (take (z .len) s)
 
@@ -20,9 +24,12 @@ Quiet z = (z .changed ≡ false) × (z .stopped ≡ false)
 
 -- the line has changed nothing so far, and its answer could be written
 abbrev pub Leaves : Outcome → Type 0
-Leaves Same = Unit {0}
+Leaves Silent = Unit {0}
+Leaves Unknown = Unit {0}
+Leaves (Told x) = Unit {0}
+Leaves (Listed n) = Unit {0}
 Leaves (Format n) = Unit {0}
-Leaves Changed = ⊥
+Leaves (Changed x) = ⊥
 Leaves Stopped = ⊥
 
 -- a line's outcome taken into the session z: a change or a stop is marked
@@ -38,10 +45,20 @@ pub record Kept (z : Session) (s : List ℕ) (r : Session) (t : List ℕ) : Type
   pub quiet : Quiet r → Quiet z
   pub same : Quiet r → t ≡ s
   pub long : Quiet r → r .len ≡ z .len
-  pub holds : Holds r t
+  pub holds : SessionHolds r t
 
 -- the whole input on the first len bytes of s: where r is quiet, they are as they were
 pub record Ran (len : ℕ) (s : List ℕ) (r : Session) (t : List ℕ) : Type 0 where
   pub same : Quiet r → t ≡ s
   pub long : Quiet r → r .len ≡ len
-  pub holds : Holds r t
+  pub holds : SessionHolds r t
+
+-- A format of n pages: the call answers on so many of the buffer's bytes, whatever they held, and these are the store then, unless it is refused.
+pub record FormatAsked (n : ℕ) (z : Session) (s : List ℕ) (r : Session) (t : List ℕ) : Type 0 where
+  pub len : ℕ
+  pub long : n ≤ 258 → n * 1024 ≤ length s → len ≡ n * 1024
+  pub answer : Out
+  pub left : List ℕ
+  pub made : Made S1024 fnv format (take len s) answer left
+  pub refused : ok answer ≡ false → (t ≡ s) × (r .len ≡ z .len)
+  pub done : ok answer ≡ true → (take len t ≡ left) × (r .len ≡ len)

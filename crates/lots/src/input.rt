@@ -1,8 +1,8 @@
 // The input taken apart into lines, and what is kept from one to the next.
 ghost use mathlib.Core.Path.{_≡_};
-ghost use Prim.Native.Nat.{_≤_};
+ghost use Prim.Native.Nat.{_*_, _≤_};
 ghost use lib.ListN.{length};
-ghost use Rattle.lots.specs.Sessions.{After, Holds, Kept, Ran};
+ghost use Rattle.lots.specs.Sessions.{After, FormatAsked, SessionHolds, Kept, Ran};
 use super::known;
 use super::obey;
 use crate::Outcome;
@@ -11,7 +11,7 @@ use libc::STDIN_FILENO;
 
 // The length of a store of n pages; of too many, the whole buffer, which is no store either.
 fn length_of(n: usize, most: usize) -> usize
-    ensures { λ r. ⌜ r ≤ most ⌝ }
+    ensures { λ r. ⌜ (r ≤ most) × (n ≤ 258 → n * 1024 ≤ most → r ≡ n * 1024) ⌝ }
 {
     if n > 258 {
         return most;
@@ -26,13 +26,16 @@ fn after(z: Session, o: Outcome) -> Session
 {
     let mut y = z;
     match o {
-        Outcome::Changed => {
+        Outcome::Changed(_) => {
             y.changed = true;
         }
         Outcome::Stopped => {
             y.stopped = true;
         }
-        Outcome::Same => {}
+        Outcome::Silent => {}
+        Outcome::Unknown => {}
+        Outcome::Told(_) => {}
+        Outcome::Listed(_) => {}
         Outcome::Format(_) => {}
     }
     y
@@ -40,8 +43,8 @@ fn after(z: Session, o: Outcome) -> Session
 
 // A store of n pages in the place of the old one, unless that is refused.
 fn format(store: &mut [u8], z: Session, n: usize) -> Session
-    requires { ⌜ Holds z (now store) ⌝ }
-    ensures { λ r. ⌜ Kept z (now (store .entry)) r (now (store .exit)) × (r .fill ≡ z .fill) ⌝ }
+    requires { ⌜ SessionHolds z (now store) ⌝ }
+    ensures { λ r. ⌜ Kept z (now (store .entry)) r (now (store .exit)) × (r .fill ≡ z .fill) × FormatAsked n z (now (store .entry)) r (now (store .exit)) ⌝ }
 {
     let len = length_of(n, store.len());
     let a = directory::format(&mut store[0..len]);
@@ -55,7 +58,7 @@ fn format(store: &mut [u8], z: Session, n: usize) -> Session
 
 // A whole line.
 fn turn(store: &mut [u8], z: Session, line: &[u8]) -> Session
-    requires { ⌜ Holds z (now store) ⌝ }
+    requires { ⌜ SessionHolds z (now store) ⌝ }
     ensures { λ r. ⌜ Kept z (now (store .entry)) r (now (store .exit)) × (r .fill ≡ z .fill) ⌝ }
 {
     let len = z.len;
@@ -79,7 +82,7 @@ fn next_line(z: Session) -> Session
 
 // The end of a line: it is obeyed, and the next one begins.
 fn end_line(store: &mut [u8], z: Session, line: &[u8]) -> Session
-    requires { ⌜ Holds z (now store) × (z .fill ≤ length (now line)) ⌝ }
+    requires { ⌜ SessionHolds z (now store) × (z .fill ≤ length (now line)) ⌝ }
     ensures { λ r. ⌜ Kept z (now (store .entry)) r (now (store .exit)) × (r .fill ≡ 0) ⌝ }
 {
     let y = next_line(z);
@@ -92,7 +95,7 @@ fn end_line(store: &mut [u8], z: Session, line: &[u8]) -> Session
 
 // One byte of the input.
 fn take(store: &mut [u8], z: Session, line: &mut [u8], b: u8) -> Session
-    requires { ⌜ Holds z (now store) × (z .fill ≤ length (now line)) ⌝ }
+    requires { ⌜ SessionHolds z (now store) × (z .fill ≤ length (now line)) ⌝ }
     ensures { λ r. ⌜ Kept z (now (store .entry)) r (now (store .exit)) × (r .fill ≤ length (now (line .exit))) ⌝ }
 {
     if b == 10 {
@@ -111,7 +114,7 @@ fn take(store: &mut [u8], z: Session, line: &mut [u8], b: u8) -> Session
 
 // A piece of the input.
 fn feed(store: &mut [u8], z: Session, line: &mut [u8], piece: &[u8]) -> Session
-    requires { ⌜ Holds z (now store) × (z .fill ≤ length (now line)) ⌝ }
+    requires { ⌜ SessionHolds z (now store) × (z .fill ≤ length (now line)) ⌝ }
     ensures { λ r. ⌜ Kept z (now (store .entry)) r (now (store .exit)) × (r .fill ≤ length (now (line .exit))) ⌝ }
 {
     let mut y = z;
@@ -128,7 +131,7 @@ fn feed(store: &mut [u8], z: Session, line: &mut [u8], piece: &[u8]) -> Session
 
 // What one read of the input brings.
 fn read(store: &mut [u8], z: Session, line: &mut [u8]) -> Session
-    requires { ⌜ Holds z (now store) × (z .fill ≤ length (now line)) ⌝ }
+    requires { ⌜ SessionHolds z (now store) × (z .fill ≤ length (now line)) ⌝ }
     ensures { λ r. ⌜ Kept z (now (store .entry)) r (now (store .exit)) × (r .fill ≤ length (now (line .exit))) ⌝ }
 {
     let mut y = z;
@@ -149,7 +152,7 @@ fn read(store: &mut [u8], z: Session, line: &mut [u8]) -> Session
 
 // The whole input. A proved loop has to end, and nothing says that the input does: it counts down from a number that no run uses up.
 fn read_all(store: &mut [u8], z: Session, line: &mut [u8]) -> Session
-    requires { ⌜ Holds z (now store) × (z .fill ≤ length (now line)) ⌝ }
+    requires { ⌜ SessionHolds z (now store) × (z .fill ≤ length (now line)) ⌝ }
     ensures { λ r. ⌜ Kept z (now (store .entry)) r (now (store .exit)) × (r .fill ≤ length (now (line .exit))) ⌝ }
 {
     let mut y = z;

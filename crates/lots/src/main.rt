@@ -9,11 +9,15 @@ mod obey;
 mod say;
 
 use libc::STDERR_FILENO;
+use store::Answer;
 
-// What a line did to the store. Format is still to be done; Stopped: an answer could not be written.
+// What a line said, and whether it changed the store. Listed: so many rows, and their number. Format is still to be done; Stopped: an answer could not be written.
 pub enum Outcome {
-    Same,
-    Changed,
+    Silent,
+    Unknown,
+    Told(Answer),
+    Changed(Answer),
+    Listed(usize),
     Format(usize),
     Stopped,
 }

@@ -1,13 +1,16 @@
 // One line obeyed on the store: which call it makes. What the call answers is decided in the libraries.
 ghost use mathlib.Core.Path.{_≡_};
+ghost use Prim.Native.Nat.{_≤_};
+ghost use lib.ListN.{length};
 ghost use Rattle.hash.specs.Fnv.{fnv};
 ghost use Rattle.store.specs.Accepted.{Accepted};
 ghost use Rattle.store.specs.Demands.{ok};
-ghost use Rattle.store.specs.Pages.{S1024};
+ghost use Rattle.partition.specs.Listing.{listing};
+ghost use Rattle.store.specs.Pages.{S1024, rowsHeld};
 ghost use Rattle.store.specs.Tables.{meaning};
 ghost use Rattle.query.specs.Spots.{OnPage};
 ghost use Rattle.lots.specs.Known.{Known};
-ghost use Rattle.lots.specs.Obeys.{Obeys, Outcomes, Untouched};
+ghost use Rattle.lots.specs.Obeys.{ListAsked, Numbers, Obeys, Outcomes, Passes, TellsOnly, RowAsked, Untouched};
 use super::known::check_known;
 use super::known::count_known;
 use super::known::lookup_known;
@@ -21,27 +24,40 @@ use query::Step;
 use store::Answer;
 use store::Refusal;
 
-// A line that reads: its answer was written, or could not be.
-fn said(written: bool) -> Outcome
-    ensures { λ r. ⌜ Untouched r ⌝ }
+// A line that reads: its answer was written, or could not be. Of a row the code stands in the buffer.
+fn tell(a: Answer, code: &[u8]) -> Outcome
+    requires { ⌜ length (now code) ≤ 64 ⌝ }
+    ensures { λ r. ⌜ TellsOnly (meaning a) r ⌝ }
 {
-    if written {
-        Outcome::Same
-    } else {
-        Outcome::Stopped
+    if !say::answer(a, code) {
+        return Outcome::Stopped;
     }
+    Outcome::Told(a)
 }
 
 fn told(a: Answer) -> Outcome
-    ensures { λ r. ⌜ Untouched r ⌝ }
+    ensures { λ r. ⌜ TellsOnly (meaning a) r ⌝ }
 {
-    said(say::answer(a, b""))
+    tell(a, b"")
 }
 
 pub fn unknown(number: usize) -> Outcome
-    ensures { λ r. ⌜ Untouched r ⌝ }
+    ensures { λ r. ⌜ Passes r ⌝ }
 {
-    said(say::number(b"unknown", number))
+    if !say::number(b"unknown", number) {
+        return Outcome::Stopped;
+    }
+    Outcome::Unknown
+}
+
+// The number of rows, after they are written.
+fn listed(n: usize) -> Outcome
+    ensures { λ r. ⌜ Numbers n r ⌝ }
+{
+    if !say::number(b"rows", n) {
+        return Outcome::Stopped;
+    }
+    Outcome::Listed(n)
 }
 
 // Whether an answer is no refusal.
@@ -68,18 +84,18 @@ pub fn wrote(a: Answer) -> Outcome
         return Outcome::Stopped;
     }
     if is_done(a) {
-        return Outcome::Changed;
+        return Outcome::Changed(a);
     }
-    Outcome::Same
+    Outcome::Told(a)
 }
 
 fn row(s: &[u8], n: usize, known: bool) -> Outcome
     requires { ⌜ Known known (now s) ⌝ }
-    ensures { λ r. ⌜ Untouched r ⌝ }
+    ensures { λ r. ⌜ RowAsked n (now (s .entry)) r ⌝ }
 {
     let mut code = [0u8; 64];
     let a = row_known(s, n, &mut code, known);
-    said(say::answer(a, &code))
+    tell(a, &code)
 }
 
 // The row in slot i of the bucket page p on a line; whether it could be written.
@@ -91,10 +107,10 @@ fn list_row(s: &[u8], p: usize, i: usize) -> bool
     say::answer(a, &code)
 }
 
-// The first n rows of an accepted store in one walk, and how many they are.
+// Every row of an accepted store in one walk, and how many they are.
 fn list_rows(s: &[u8], n: usize) -> Outcome
-    requires { ⌜ Accepted S1024 fnv (now s) ⌝ }
-    ensures { λ r. ⌜ Untouched r ⌝ }
+    requires { ⌜ Accepted S1024 fnv (now s) × (n ≡ length (rowsHeld S1024 (now s))) ⌝ }
+    ensures { λ r. ⌜ Numbers (length (listing S1024 fnv (rowsHeld S1024 (now (s .entry))))) r ⌝ }
 {
     let mut c = query::cursor_at(s, partition::S1024, 0);
     let mut i = 0;
@@ -108,23 +124,23 @@ fn list_rows(s: &[u8], n: usize) -> Outcome
                 i += 1;
             }
             Step::Done => {
-                return said(say::number(b"rows", i));
+                return listed(i);
             }
         }
     }
-    said(say::number(b"rows", i))
+    listed(i)
 }
 
-// Every row.
+// Every row, or why the store is refused.
 fn list(s: &[u8], known: bool) -> Outcome
     requires { ⌜ Known known (now s) ⌝ }
-    ensures { λ r. ⌜ Untouched r ⌝ }
+    ensures { λ r. ⌜ ListAsked (now (s .entry)) r ⌝ }
 {
-    let a = count_known(s, known);
-    if let Answer::Rows(n) = a {
-        return list_rows(s, n);
+    let a = check_known(s, known);
+    if !is_done(a) {
+        return told(a);
     }
-    told(a)
+    list_rows(s, query::count_rows(s, partition::S1024, s.len() / 1024))
 }
 
 // After n rows: there is none more, or why the page is refused.
@@ -165,7 +181,7 @@ fn page_row(page: &[u8], n: usize) -> bool {
 
 // The first n rows of a page, and how many they are.
 fn page_rows(page: &[u8], n: usize) -> Outcome
-    ensures { λ r. ⌜ Untouched r ⌝ }
+    ensures { λ r. ⌜ Numbers n r ⌝ }
 {
     let mut i = 0;
     while i < n {
@@ -174,7 +190,7 @@ fn page_rows(page: &[u8], n: usize) -> Outcome
         }
         i += 1;
     }
-    said(say::number(b"rows", n))
+    listed(n)
 }
 
 fn list_page(page: &[u8]) -> Outcome
@@ -207,7 +223,7 @@ pub fn obey(s: &mut [u8], line: &[u8], number: usize, known: bool) -> Outcome
     let mut code = io::buffer();
     let c = commands::parse(line, &mut code);
     match c {
-        Command::Nothing => Outcome::Same,
+        Command::Nothing => Outcome::Silent,
         Command::Unknown => unknown(number),
         Command::Format(n) => Outcome::Format(n),
         Command::Put(k, place, mode) => wrote(put_known(s, &code[0..k], place, mode, known)),
@@ -227,7 +243,7 @@ pub fn too_long(line: &[u8], number: usize) -> Outcome
 {
     if line.len() > 0 {
         if line[0] == 35 {
-            return Outcome::Same;
+            return Outcome::Silent;
         }
     }
     unknown(number)

@@ -1,3 +1,4 @@
 pub mod Plains
 pub mod OneToOne
 pub mod WordPlaces
+pub mod ReportSettled

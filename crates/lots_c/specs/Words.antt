@@ -5,6 +5,8 @@ use Prim.Native.Nat.{ℕ, _+_, _*_, _%_, _^_}
 use lib.IntN.{ℤ, pos, negsuc}
 use Rattle.ground.specs.Ladder.{Ladder, Answers}
 use Rattle.page.specs.declared.Place.{Place}
+use Rattle.report.specs.Report.{Reported, other, missing, summed}
+use Rattle.lots_c.specs.declared.ReportAnswer.{ReportAnswer}
 use Rattle.store.specs.Tables.{Out, refused, refusedAt, formatted, accepted, new, replaced, found, counted, row}
 
 -- a part of a place; no part is negative
@@ -68,3 +70,20 @@ pub record TellsRow (T : Ladder (Out × List ℕ)) (t : List ℕ) (old len r : �
   pub allowed : Answers T (out, t)
   pub is : r ≡ word out
   pub size : len ≡ lengthAfter out old
+
+-- ---- the bid report
+
+-- all is 0 in a refusal, but for the answer and the place in 11
+abbrev pub noSums : ℕ → ℕ → ReportAnswer
+noSums a p = record { answer = a; place = p; total = pos 0; hidden = 0; cents = pos 0; doubled = 0 }
+
+abbrev pub reportWords : Reported → ReportAnswer
+reportWords (other o) = noSums (word o) 0
+reportWords (missing p) = noSums (refusalWord 11 0) (placeWord p)
+reportWords (summed x) = record { answer = 0; place = 0; total = x .total; hidden = x .hidden; cents = x .cents; doubled = x .doubled }
+
+-- r has the words of an answer that the table allows
+pub record TellsReport (T : Ladder Reported) (r : ReportAnswer) : Type 0 where
+  pub out : Reported
+  pub allowed : Answers T out
+  pub is : r ≡ reportWords out

@@ -6,8 +6,11 @@ ghost use Rattle.page.specs.declared.Place.{Place};
 ghost use Rattle.store.specs.Pages.{S1024};
 ghost use Rattle.store.specs.Tables.{formatTable, checkTable, countTable, lookupTable, putTable, removeTable, rowTable, inspectTable, meaning};
 ghost use Rattle.batch.specs.Batch.{runs, batchTable};
-ghost use Rattle.lots_c.specs.Words.{plain, placeWord, refusalWord, word, lengthAfter, Tells, TellsAnd, TellsAll, TellsRow};
+ghost use Rattle.report.specs.Report.{reported, reportTable};
+ghost use Rattle.lots_c.specs.Words.{plain, placeWord, refusalWord, word, lengthAfter, Tells, TellsAnd, TellsAll, TellsRow, noSums, reportWords, TellsReport};
 use page::Place;
+use report::Outcome;
+use report::SheetRow;
 use store::Answer;
 use store::Numbers;
 
@@ -73,6 +76,50 @@ fn give_length(a: Answer, len: &mut u32)
         Answer::Replaced(_) => {}
         Answer::Found(_) => {}
         Answer::Rows(_) => {}
+    }
+}
+
+// The bid report's answer: 0 or a refusal, the place of refusal 11, and the sums.
+#[repr(C)]
+pub struct ReportAnswer {
+    pub answer: u64,
+    pub place: u64,
+    pub total: i64,
+    pub hidden: u64,
+    pub cents: i64,
+    pub doubled: u64,
+}
+
+// A report's answer that has no sums.
+fn unsummed(answer: u64, place: u64) -> ReportAnswer
+    ensures { λ r. ⌜ r ≡ noSums answer place ⌝ }
+{
+    ReportAnswer {
+        answer: answer,
+        place: place,
+        total: 0,
+        hidden: 0,
+        cents: 0,
+        doubled: 0,
+    }
+}
+
+// The words of a report.
+pub fn report_of(o: Outcome) -> ReportAnswer
+    ensures { λ r. ⌜ r ≡ reportWords (reported o) ⌝ }
+{
+    match o {
+        Outcome::Refused(r) => unsummed(refusal_word(store::numbers_of(r)), 0),
+        Outcome::BadSheet => unsummed(9223372036854775818, 0),
+        Outcome::NotInSheet(p) => unsummed(9223372036854775819, place_word(p)),
+        Outcome::Summed(x) => ReportAnswer {
+            answer: 0,
+            place: 0,
+            total: x.total,
+            hidden: x.hidden as u64,
+            cents: x.cents,
+            doubled: x.doubled as u64,
+        },
     }
 }
 
@@ -156,4 +203,11 @@ pub extern "C" fn lots_put_all(
     ensures { λ r. ⌜ TellsAll (batchTable S1024 fnv (now (store .entry)) (runs (now (codes .entry)) (now (lengths .entry)) (now (places .entry)) (now (answers .entry))) mode) (now (store .exit)) (now (answers .exit)) r ⌝ }
 {
     word_of(batch::put_all(store, codes, lengths, places, answers, mode))
+}
+
+#[no_mangle]
+pub extern "C" fn lots_report(store: &[u8], sheet: &[SheetRow]) -> ReportAnswer
+    ensures { λ r. ⌜ TellsReport (reportTable S1024 fnv (now (store .entry)) (now (sheet .entry))) r ⌝ }
+{
+    report_of(report::report(store, sheet))
 }

@@ -1,5 +1,5 @@
 -- The table of page sizes, by one computed test. Assumes nothing.
-use mathlib.Core.Path.{_≡_}
+use mathlib.Core.Path.{_≡_, refl}
 use mathlib.Core.Bool.{Bool, true, false}
 use mathlib.Core.List.{List, [], _∷_}
 use mathlib.Core.Logic.{⊎-elim}
@@ -13,7 +13,7 @@ use Rattle.words.specs.Le.{le32}
 use Rattle.ground.proofs.Sides.{side}
 use Rattle.partition.specs.declared.Shape.{Shape}
 use Rattle.partition.specs.Partition.{S1024}
-use Rattle.partition.specs.Sizes.{size, Sized, S4096, S16384, sizes, shapeAt, either, shapeFor, shapeOf}
+use Rattle.partition.specs.Sizes.{size, Sized, S4096, S16384, sizes, shapeAt, either, shapeFor, sizeNumber, shapeOf}
 use Rattle.partition.proofs.Table.{both, both-left, both-right}
 
 -- the rule as a test
@@ -57,6 +57,22 @@ sized-for n = either-all Sized (eqb n 4096) (sized-at 1 (omega arith)) (either-a
 pub sized-of : (s : List ℕ) → Sized (shapeOf s)
 unfolding shapeOf
 sized-of s = sized-for (le32 s 20)
+
+-- each row of the table is what its own number stands for
+pub number-back : (k : ℕ) → k < 3 → shapeFor (sizeNumber (shapeAt k)) ≡ shapeAt k
+unfolding shapeFor sizeNumber shapeAt
+number-back zero h = refl
+number-back (suc zero) h = refl
+number-back (suc (suc zero)) h = refl
+number-back (suc (suc (suc k))) h = absurd (omega arith)
+
+pub number-1024 : sizeNumber S1024 ≡ 0
+unfolding sizeNumber
+number-1024 = refl
+
+pub number-small : (S : Shape) → Sized S → sizeNumber S ≤ 16384
+unfolding sizeNumber
+number-small S z = either-all (λ n. n ≤ 16384) (eqb (size S) 1024) (omega arith) (z .most)
 
 -- every size's depth is at most 12
 pub twelve : (S : Shape) → Sized S → S .deepest ≤ 12

@@ -42,6 +42,10 @@ either false a b = b
 unfoldable pub shapeFor : ℕ → Shape
 shapeFor n = either (eqb n 4096) S4096 (either (eqb n 16384) S16384 S1024)
 
+-- the number that stands for a size there
+unfoldable pub sizeNumber : Shape → ℕ
+sizeNumber S = either (eqb (size S) 1024) 0 (size S)
+
 unfoldable pub shapeOf : List ℕ → Shape
 unfolding shapeFor
 shapeOf s = shapeFor (le32 s 20)

@@ -4,7 +4,7 @@ ghost use Prim.Native.Nat.{_≤_, _<_, _^_};
 ghost use lib.ListN.{length};
 ghost use Rattle.partition.specs.Bits.{top, shared};
 ghost use Rattle.partition.specs.Partition.{first, after};
-ghost use Rattle.partition.specs.Sizes.{Sized, shapeAt, shapeFor, shapeOf};
+ghost use Rattle.partition.specs.Sizes.{Sized, shapeAt, shapeFor, sizeNumber, shapeOf};
 
 // What a page size decides: the bytes that rows may need together (page size less 8), the directory's entry count, the deepest depth.
 pub struct Shape {
@@ -43,6 +43,18 @@ pub fn shape_for(number: usize) -> Shape
         return shape_at(2);
     }
     shape_at(0)
+}
+
+// The number that stands for a page size: the size, written 0 for 1,024.
+pub fn size_number(z: Shape) -> usize
+    requires { ⌜ Sized z ⌝ }
+    ensures { λ r. ⌜ r ≡ sizeNumber z ⌝ }
+{
+    let size = 8 + z.capacity;
+    if size == 1024 {
+        return 0;
+    }
+    size
 }
 
 // The shape of a store, by the number at 20.

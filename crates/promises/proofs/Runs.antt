@@ -14,6 +14,7 @@ use Rattle.ground.proofs.Ladders.{each}
 use Rattle.words.proofs.Bytes.{small-append, small-bytes, small-zeros}
 use Rattle.partition.specs.Bits.{top}
 use Rattle.partition.specs.Partition.{Row, Reordered, front, needs, rowsOf, grade, fitting, walk, buckets}
+use Rattle.partition.specs.Sizes.{sizeNumber}
 use Rattle.partition.specs.Listing.{placeOf}
 use Rattle.partition.proofs.Laws.{load-reordered, reordered}
 use Rattle.partition.proofs.Maps.{cut-none}
@@ -103,7 +104,7 @@ module _ (h : List ℕ → ℕ) (hash : Hash h) (P : Program) (meets : Meets h P
 
   blank-small : Bytes (blank S1024 zeros)
   unfolding blank
-  blank-small = small-append (small-bytes 4 (pages S1024 zeros)) (small-append (small-bytes 4 1024) (small-append (small-bytes 4 256) (small-append (small-bytes 4 2048) (small-zeros (length zeros - 16))))) .at
+  blank-small = small-append (small-bytes 4 (pages S1024 zeros)) (small-append (small-bytes 4 1024) (small-append (small-bytes 4 256) (small-append (small-bytes 4 2048) (small-append (small-bytes 4 0) (small-append (small-bytes 4 (sizeNumber S1024)) (small-zeros (length zeros - 24))))))) .at
 
   -- a format, and no rows
   pub at-first : At [] begun

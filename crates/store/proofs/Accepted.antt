@@ -6,3 +6,4 @@ pub mod Owner
 pub mod Named
 pub mod Accepting
 pub mod Reading
+pub mod OwnSize

@@ -8,6 +8,7 @@ pub use Rattle.store.proofs.Accepted.Accepting.{laid-becomes, laid-acce
 pub use Rattle.store.proofs.Accepted.Format.{accepted-always, format-accepted}
 pub use Rattle.store.proofs.Accepted.Rules.{broken-one, broken-stops, stops-broken, stops-one, stops-not}
 pub use Rattle.store.proofs.Accepted.Unique.{becomes-one}
+pub use Rattle.store.proofs.Accepted.OwnSize.{size-is-said, small-as-before}
 -- ---- Pages that show rows: a page for each bucket worked out afresh.
 pub use Rattle.store.proofs.Showing.Rooms.{find-free, rooms}
 pub use Rattle.store.proofs.Showing.Showing.{accepted-rows, accepted-shows}

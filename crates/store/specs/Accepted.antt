@@ -12,7 +12,8 @@ use Rattle.page.specs.Page.{BucketPage, depth, count, code}
 use Rattle.partition.specs.Bits.{top}
 use Rattle.partition.specs.declared.Shape.{Shape}
 use Rattle.partition.specs.Partition.{rowsOf, needs}
-use Rattle.store.specs.Pages.{size, pages, page, dirDepth, entryAt, contents, rowsHeld, deepestIn}
+use Rattle.partition.specs.Sizes.{sizeNumber}
+use Rattle.store.specs.Pages.{S1024, size, pages, page, dirDepth, entryAt, contents, rowsHeld, deepestIn}
 
 -- a multiple of the page size, 3 to 258 pages
 pub record GoodLength (S : Shape) (s : List ℕ) : Type 0 where
@@ -20,14 +21,24 @@ pub record GoodLength (S : Shape) (s : List ℕ) : Type 0 where
   pub least : 3 ≤ pages S s
   pub most : pages S s ≤ S .entries + 2
 
--- Page 0: number of pages, the directory's offset, the entry count, the first bucket's offset, the depth. The rest is zero.
+-- Page 0: number of pages, the directory's offset, the entry count, the first bucket's offset, the depth, the size. The rest is zero.
 pub record Page0 (S : Shape) (s : List ℕ) : Type 0 where
   pub number : le32 s 0 ≡ pages S s
   pub directory : le32 s 4 ≡ size S
   pub entries : le32 s 8 ≡ S .entries
   pub first : le32 s 12 ≡ 2 * size S
   pub depth : dirDepth s ≤ S .deepest
-  pub rest : (k : ℕ) → 20 ≤ k → k < size S → byte s k ≡ 0
+  pub size-number : le32 s 20 ≡ sizeNumber S
+  pub rest : (k : ℕ) → 24 ≤ k → k < size S → byte s k ≡ 0
+
+-- page 0 as document 01 has it, before there were sizes
+pub record Page0Before (s : List ℕ) : Type 0 where
+  pub number : le32 s 0 ≡ pages S1024 s
+  pub directory : le32 s 4 ≡ 1024
+  pub entries : le32 s 8 ≡ 256
+  pub first : le32 s 12 ≡ 2048
+  pub depth : dirDepth s ≤ 8
+  pub rest : (k : ℕ) → 20 ≤ k → k < 1024 → byte s k ≡ 0
 
 -- Page 1: zero means none; else a page number from 2, below the number of pages. Entries from 2^d on are zero.
 pub record Page1 (S : Shape) (s : List ℕ) : Type 0 where

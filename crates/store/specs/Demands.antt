@@ -11,6 +11,7 @@ use Rattle.ground.specs.Lists.{byte, tab}
 use Rattle.page.specs.Page.{Record, depth, rows}
 use Rattle.partition.specs.declared.Shape.{Shape}
 pub use Rattle.partition.specs.Sizes.{Sized}
+use Rattle.partition.specs.Sizes.{shapeAt, shapeOf}
 use Rattle.partition.specs.Partition.{Row, Prefix, Reordered, rowsOf, buckets, depthOf, entry}
 use Rattle.page.specs.declared.Place.{Place}
 use Rattle.ground.specs.Ladder.{Answers}
@@ -18,7 +19,7 @@ pub use Rattle.words.specs.Codes.{GoodCode}
 use Rattle.words.specs.Codes.{order}
 use Rattle.partition.specs.Listing.{by, without, inOrder, listing, placeOf, Once}
 use Rattle.store.specs.Pages.{S1024, size, pages, page, Page, free, bucket, read, asRow, rowsHeld, dirDepth, entryAt}
-use Rattle.store.specs.Accepted.{Zero, Bucket, Page0, Page1, Stands, Parted, Deepest, Accepted}
+use Rattle.store.specs.Accepted.{Zero, Bucket, Page0, Page0Before, Page1, Stands, Parted, Deepest, Accepted}
 use Rattle.store.specs.Moves.{pick}
 use Rattle.page.specs.Places.{place, stored, Negative, InRange}
 use Rattle.store.specs.Tables.{Out, refused, refusedAt, formatted, accepted, new, replaced, found, counted, row, Refusal6, Refusal7, formatTable, checkTable, countTable, lookupTable, putTable, putBefore, removeTable, rowTable, inspectTable}
@@ -337,6 +338,14 @@ Demand2 = (S : Shape) (h : List ℕ → ℕ) → Sized S → Hash h
 
 abbrev pub Demand3 : Type 0
 Demand3 = (S : Shape) (h : List ℕ → ℕ) → Sized S → Hash h → AfreshAlways S h × SameRefusals S h × KeptPages S h
+
+-- an accepted store says which of the three sizes it has
+abbrev pub SizeIsSaid : Type 0
+SizeIsSaid = (k : ℕ) → k < 3 → (h : List ℕ → ℕ) (s : List ℕ) → Accepted (shapeAt k) h s → shapeOf s ≡ shapeAt k
+
+-- at 1,024 the rule of page 0 is the one before there were sizes
+abbrev pub SmallAsBefore : Type 0
+SmallAsBefore = (s : List ℕ) → (Page0 S1024 s ↔ Page0Before s)
 
 pub sized-1024 : Sized S1024
 sized-1024 = record { whole = refl; deep = refl; least = omega arith; most = omega arith }

@@ -11,6 +11,7 @@ use Rattle.page.specs.Page.{depth}
 use Rattle.partition.specs.Bits.{top}
 use Rattle.partition.specs.declared.Shape.{Shape}
 use Rattle.partition.specs.Partition.{Row, needs, rowsOf, buckets}
+use Rattle.partition.specs.Sizes.{sizeNumber}
 use Rattle.page.specs.declared.Place.{Place}
 use Rattle.page.specs.Places.{place, stored, Negative}
 use Rattle.store.specs.declared.Refusal.{Refusal}
@@ -110,7 +111,7 @@ checked S h s w l = rung (Broken S h s) (λ p. answer (w (refusedAt 2 p))) (give
 -- page 0 with depth 0, all other pages cleared
 unfoldable pub blank : Shape → List ℕ → List ℕ
 unfolding bytes
-blank S s = bytes 4 (pages S s) ++ bytes 4 (size S) ++ bytes 4 (S .entries) ++ bytes 4 (2 * size S) ++ replicate (length s - 16) 0
+blank S s = bytes 4 (pages S s) ++ bytes 4 (size S) ++ bytes 4 (S .entries) ++ bytes 4 (2 * size S) ++ bytes 4 0 ++ bytes 4 (sizeNumber S) ++ replicate (length s - 24) 0
 
 -- answer and store
 unfoldable pub formatTable : Shape → List ℕ → Ladder (Out × List ℕ)

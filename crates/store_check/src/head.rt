@@ -46,5 +46,8 @@ pub fn page0_ok(s: &[u8], z: Shape, n: usize) -> bool
     if z.deepest < words::get32(s, 16) {
         return false;
     }
-    words::all_zero(&s[20..size])
+    if words::get32(s, 20) != partition::size_number(z) {
+        return false;
+    }
+    words::all_zero(&s[24..size])
 }

@@ -1,16 +1,11 @@
 -- `lots_c::word_of` meets its contract, answer by answer. Assumes nothing.
-use mathlib.Core.Path.{_≡_, sym, ap, _∙_}
-use mathlib.Core.Logic.{inl, inr}
-use Prim.Native.Nat.{ℕ}
-use Rattle.store.specs.Tables.{Out, Numbered, meaning}
-use Rattle.lots_c.specs.Words.{refusalWord, word}
+use mathlib.Core.Path.{sym, ap, _∙_}
+use Rattle.store.specs.Tables.{meaning}
+use Rattle.lots_c.specs.Words.{word}
 use borrow.Author.Needs.{needs}
+use Rattle.lots_c.proofs.Plains.{numbered-word}
 use Rattle.lots_c.proofs.word_of.Statement.{statement}
 use Rattle.lots_c.proofs.word_of.Tie as tie
-
-numbered-word : (n p : ℕ) (o : Out) → Numbered n p o → refusalWord n p ≡ word o
-numbered-word n p o (inl h) = ap (refusalWord n) (h .1) ∙ sym (ap word (h .2))
-numbered-word n p o (inr h) = sym (ap word (h .1))
 
 enum-known-a : tie.Need-enum-known-a
 enum-known-a c = search needs

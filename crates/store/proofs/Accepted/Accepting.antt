@@ -15,6 +15,7 @@ use Rattle.page.specs.Page.{Record, BucketPage, depth, count, code, rows, rowAt
 use Rattle.partition.specs.Bits.{top}
 use Rattle.partition.specs.declared.Shape.{Shape}
 use Rattle.partition.specs.Partition.{Row, needs, rowsOf}
+use Rattle.partition.specs.Sizes.{sizeNumber}
 use Rattle.partition.proofs.Bits.{top-step}
 use Rattle.partition.proofs.Laws.{load-reordered}
 use Rattle.store.specs.Pages.{size, pages, page, dirDepth, entryAt, Page, free, bucket, read, contents, asRow, rowsIn, rowsHeld, deepestIn}
@@ -35,7 +36,8 @@ pub record Head (S : Shape) (t : List ℕ) : Type 0 where
   pub directory : le32 t 4 ≡ size S
   pub entries : le32 t 8 ≡ S .entries
   pub first : le32 t 12 ≡ 2 * size S
-  pub rest : (k : ℕ) → 20 ≤ k → k < size S → byte t k ≡ 0
+  pub size-number : le32 t 20 ≡ sizeNumber S
+  pub rest : (k : ℕ) → 24 ≤ k → k < size S → byte t k ≡ 0
 
 -- a page that is free or a bucket page, its hashes left aside
 abbrev pub Whole : List ℕ → Type 0
@@ -51,13 +53,14 @@ pub record Laid (S : Shape) (h : List ℕ → ℕ) (t : List ℕ) (gs : List Pag
   pub entry : (e : ℕ) → e < S .entries → Entry S h t gs (dirDepth t) (pages S t - 2) e
 
 -- page 0 stays so where the bytes around its depth stay
-pub head-kept : (S : Shape) (s t : List ℕ) → length t ≡ length s → ((k : ℕ) → k < 16 → byte t k ≡ byte s k) → ((k : ℕ) → 20 ≤ k → k < size S → byte t k ≡ byte s k) → Head S s → Head S t
-head-kept S s t l a b w = record {
+pub head-kept : (S : Shape) → Sized S → (s t : List ℕ) → length t ≡ length s → ((k : ℕ) → k < 16 → byte t k ≡ byte s k) → ((k : ℕ) → 20 ≤ k → k < size S → byte t k ≡ byte s k) → Head S s → Head S t
+head-kept S sized s t l a b w = record {
   number = word 0 (omega arith) ∙ w .number ∙ ap (λ n. n / size S) (sym l);
   directory = word 4 (omega arith) ∙ w .directory;
   entries = word 8 (omega arith) ∙ w .entries;
   first = word 12 (omega arith) ∙ w .first;
-  rest = λ k x y. b k x y ∙ w .rest k x y;
+  size-number = le32-same s t 20 (λ i m. b (20 + i) (omega arith) (omega (arith, sized .least))) ∙ w .size-number;
+  rest = λ k x y. b k (omega arith) y ∙ w .rest k x y;
 }
   where
     word : (k : ℕ) → k + 4 ≤ 16 → le32 t k ≡ le32 s k
@@ -170,6 +173,7 @@ module _ (S : Shape) (h : List ℕ → ℕ) (sized : Sized S) (hash : Hash h) (t
       entries = L .head .entries;
       first = L .head .first;
       depth = subst (λ n. n ≤ S .deepest) (sym (L .deep)) (shown-shallow S h hash rs gs w);
+      size-number = L .head .size-number;
       rest = L .head .rest;
     };
     page1 = record { range = λ e l. range e (L .entry e l); beyond = λ e l. beyond e (L .entry e l) };
@@ -193,7 +197,7 @@ module _ (S : Shape) (h : List ℕ → ℕ) (sized : Sized S) (hash : Hash h) (t
 pub accepted-laid : (S : Shape) (h : List ℕ → ℕ) → Sized S → Hash h → (s : List ℕ) → Accepted S h s → Laid S h s (contents S s)
 accepted-laid S h sized hash s a = record {
   long = T .long;
-  head = record { number = T .page0 .number; directory = T .page0 .directory; entries = T .page0 .entries; first = T .page0 .first; rest = T .page0 .rest };
+  head = record { number = T .page0 .number; directory = T .page0 .directory; entries = T .page0 .entries; first = T .page0 .first; size-number = T .page0 .size-number; rest = T .page0 .rest };
   deep = T .deepest;
   each = λ p x y. go p (T .stands p x y);
   holds = refl;

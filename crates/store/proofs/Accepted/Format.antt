@@ -15,6 +15,8 @@ use Rattle.ground.proofs.Parts.{byte-part}
 use Rattle.ground.specs.Lists.{tab}
 use Rattle.page.specs.Page.{depth}
 use Rattle.partition.specs.declared.Shape.{Shape}
+use Rattle.partition.specs.Sizes.{sizeNumber}
+use Rattle.partition.proofs.Sizes.{number-small}
 use Rattle.store.specs.Pages.{size, pages, page, entryAt, Page, free, read, contents, rowsIn, rowsOn, rowsHeld, deepestIn}
 use Rattle.store.specs.Accepted.{GoodLength, Zero, unused, Accepted}
 use Rattle.words.specs.Le.{bytes}
@@ -39,32 +41,32 @@ deep-free f (suc n) h =
 
 module _ (S : Shape) (s : List ℕ) (sized : Sized S) (good : GoodLength S s) where
   head : List ℕ
-  head = bytes 4 (pages S s) ++ bytes 4 (size S) ++ bytes 4 (S .entries) ++ bytes 4 (2 * size S)
+  head = bytes 4 (pages S s) ++ bytes 4 (size S) ++ bytes 4 (S .entries) ++ bytes 4 (2 * size S) ++ bytes 4 0 ++ bytes 4 (sizeNumber S)
 
   abbrev t : List ℕ
   t = blank S s
 
-  head-long : length head ≡ 16
+  head-long : length head ≡ 24
   unfolding head bytes
   head-long = refl
 
-  big : 16 ≤ length s
+  big : 24 ≤ length s
   big =
       let m : 3 * size S ≤ pages S s * size S = mul-le-mul-right (size S) (good .least) in
       omega (arith, m, div-mul-le-self (length s) (size S), sized .least)
 
   pub blank-long : length t ≡ length s
   unfolding blank head bytes
-  blank-long = length-append head (replicate (length s - 16) 0) ∙ omega (arith, length-replicate {A = ℕ} (length s - 16) 0, big)
+  blank-long = length-append head (replicate (length s - 24) 0) ∙ omega (arith, length-replicate {A = ℕ} (length s - 24) 0, big)
 
   all-zero : (m j : ℕ) → getD {A = ℕ} (replicate m 0) j 0 ≡ 0
   all-zero m j = ⊎-elim (λ l. getD-replicate m j 0 0 l) (λ g. List·getD-eq-default (replicate m 0) 0 (rw (length-replicate {A = ℕ} m 0) g)) (side j m)
 
-  pub blank-zero : (k : ℕ) → 16 ≤ k → byte t k ≡ 0
+  pub blank-zero : (k : ℕ) → 24 ≤ k → byte t k ≡ 0
   unfolding blank head bytes
   blank-zero k h =
-      let e : length head + (k - 16) ≡ k = omega (arith, head-long) in
-      rw e at (getD-append-add head (replicate (length s - 16) 0) (k - 16) 0 ∙ all-zero (length s - 16) (k - 16))
+      let e : length head + (k - 24) ≡ k = omega (arith, head-long) in
+      rw e at (getD-append-add head (replicate (length s - 24) 0) (k - 24) 0 ∙ all-zero (length s - 24) (k - 24))
 
   pub word-0 : le32 t 0 ≡ pages S s
   unfolding blank bytes le32 le16
@@ -82,7 +84,15 @@ module _ (S : Shape) (s : List ℕ) (sized : Sized S) (good : GoodLength S s) wh
   unfolding blank bytes le32 le16
   word-12 = omega (arith, good .most, sized .whole, sized .most)
 
-  word-zero : (k : ℕ) → 16 ≤ k → le32 t k ≡ 0
+  pub word-16 : le32 t 16 ≡ 0
+  unfolding blank bytes le32 le16
+  word-16 = omega arith
+
+  pub word-20 : le32 t 20 ≡ sizeNumber S
+  unfolding blank bytes le32 le16
+  word-20 = omega (arith, number-small S sized)
+
+  word-zero : (k : ℕ) → 24 ≤ k → le32 t k ≡ 0
   unfolding le32 le16
   word-zero k h = omega (arith, blank-zero k h, blank-zero (k + 1) (omega arith), blank-zero (k + 2) (omega arith), blank-zero (k + 2 + 1) (omega arith))
 
@@ -116,11 +126,11 @@ module _ (S : Shape) (s : List ℕ) (sized : Sized S) (good : GoodLength S s) wh
   pub blank-accepted : (h : List ℕ → ℕ) → Accepted S h t
   blank-accepted h = closed S h t record {
     long = long;
-    page0 = record { number = word-0 ∙ sym n-same; directory = word-4; entries = word-8; first = word-12; depth = omega (arith, word-zero 16 (omega arith)); rest = λ k a b. blank-zero k (omega arith) };
+    page0 = record { number = word-0 ∙ sym n-same; directory = word-4; entries = word-8; first = word-12; depth = omega (arith, word-16); size-number = word-20; rest = λ k a b. blank-zero k a };
     page1 = record { range = λ i _. inl (entry-zero i); beyond = λ i _ _. entry-zero i };
     stands = λ p a b. unused (page-zero p (omega arith) b) (λ i _ e. omega (arith, entry-zero i));
     parted = λ p a b j e. omega (arith, page-zero p (omega arith) b 1);
-    deepest = word-zero 16 (omega arith) ∙ sym no-depth;
+    deepest = word-16 ∙ sym no-depth;
   }
 
 -- a length that is not refused is good

@@ -115,8 +115,9 @@ module _ (S : Shape) (h : List ℕ → ℕ) (t u : List ℕ) (sized : Sized S) (
       (λ y. ⊎-elim (λ v. in-word 8 k y (omega arith) (P .entries ∙ sym (Q .entries)))
       (λ v. ⊎-elim (λ w. in-word 12 k v (omega arith) (P .first ∙ sym (Q .first)))
       (λ w. ⊎-elim (λ r. in-word 16 k w (omega arith) same-depth)
-      (λ r. P .rest k r b ∙ sym (Q .rest k r b))
-      (side k 20)) (side k 16)) (side k 12)) (side k 8)) (side k 4)
+      (λ r. ⊎-elim (λ q. in-word 20 k r (omega arith) (P .size-number ∙ sym (Q .size-number)))
+      (λ q. P .rest k q b ∙ sym (Q .rest k q b))
+      (side k 24)) (side k 20)) (side k 16)) (side k 12)) (side k 8)) (side k 4)
 
   in-second : (k : ℕ) → size S ≤ k → k < 2 * size S → byte t k ≡ byte u k
   in-second k a b =

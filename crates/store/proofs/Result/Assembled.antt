@@ -14,6 +14,8 @@ use Rattle.ground.proofs.Tables.{length-tab, getD-tab, tab-same}
 use Rattle.words.specs.Le.{le16, le32, bytes}
 use Rattle.words.proofs.Bytes.{le32-moved, Small, small-append, small-bytes, small-zeros}
 use Rattle.partition.specs.declared.Shape.{Shape}
+use Rattle.partition.specs.Sizes.{sizeNumber}
+use Rattle.partition.proofs.Sizes.{number-small}
 use Rattle.partition.specs.Partition.{Row}
 use Rattle.page.specs.Page.{Record}
 use Rattle.store.specs.Pages.{size, pages, page, dirDepth, entryAt, Page, free, bucket, read, contents, deepestIn}
@@ -149,18 +151,18 @@ module _ (S : Shape) (h : List ℕ → ℕ) (sized : Sized S) (hash : Hash h) (s
 
   -- page 0
   page0 : List ℕ
-  page0 = bytes 4 n ++ (bytes 4 z ++ (bytes 4 (S .entries) ++ (bytes 4 (2 * z) ++ (bytes 4 d ++ replicate (z - 20) 0))))
+  page0 = bytes 4 n ++ (bytes 4 z ++ (bytes 4 (S .entries) ++ (bytes 4 (2 * z) ++ (bytes 4 d ++ (bytes 4 (sizeNumber S) ++ replicate (z - 24) 0)))))
 
   shallow : d ≤ 32
   shallow = omega (arith, shown-shallow S h hash shown gs w, deep-small S sized)
 
   page0-long : length page0 ≡ z
   unfolding page0 bytes
-  page0-long = omega (arith, length-replicate {A = ℕ} (z - 20) 0, sized .least)
+  page0-long = omega (arith, length-replicate {A = ℕ} (z - 24) 0, sized .least)
 
   page0-small : Small page0
   unfolding page0
-  page0-small = small-append (small-bytes 4 n) (small-append (small-bytes 4 z) (small-append (small-bytes 4 (S .entries)) (small-append (small-bytes 4 (2 * z)) (small-append (small-bytes 4 d) (small-zeros (z - 20))))))
+  page0-small = small-append (small-bytes 4 n) (small-append (small-bytes 4 z) (small-append (small-bytes 4 (S .entries)) (small-append (small-bytes 4 (2 * z)) (small-append (small-bytes 4 d) (small-append (small-bytes 4 (sizeNumber S)) (small-zeros (z - 24)))))))
 
   word-0 : le32 page0 0 ≡ n
   unfolding page0 bytes le32 le16
@@ -182,12 +184,16 @@ module _ (S : Shape) (h : List ℕ → ℕ) (sized : Sized S) (hash : Hash h) (s
   unfolding page0 bytes le32 le16
   word-16 = omega (arith, shallow)
 
-  page0-rest : (k : ℕ) → 20 ≤ k → byte page0 k ≡ 0
+  word-20 : le32 page0 20 ≡ sizeNumber S
+  unfolding page0 bytes le32 le16
+  word-20 = omega (arith, number-small S sized)
+
+  page0-rest : (k : ℕ) → 24 ≤ k → byte page0 k ≡ 0
   unfolding page0 bytes
   page0-rest k l =
-      let head : List ℕ = bytes 4 n ++ (bytes 4 z ++ (bytes 4 (S .entries) ++ (bytes 4 (2 * z) ++ bytes 4 d))) in
-      let e : length head + (k - 20) ≡ k = omega arith in
-      rw e at (getD-append-add head (replicate (z - 20) 0) (k - 20) 0 ∙ zeros (z - 20) (k - 20))
+      let head : List ℕ = bytes 4 n ++ (bytes 4 z ++ (bytes 4 (S .entries) ++ (bytes 4 (2 * z) ++ (bytes 4 d ++ bytes 4 (sizeNumber S))))) in
+      let e : length head + (k - 24) ≡ k = omega arith in
+      rw e at (getD-append-add head (replicate (z - 24) 0) (k - 24) 0 ∙ zeros (z - 24) (k - 24))
 
   -- all pages
   numbered : ℕ → List ℕ
@@ -275,6 +281,7 @@ module _ (S : Shape) (h : List ℕ → ℕ) (sized : Sized S) (hash : Hash h) (s
       directory = word 4 (omega (arith, sized .least)) ∙ word-4;
       entries = word 8 (omega (arith, sized .least)) ∙ word-8;
       first = word 12 (omega (arith, sized .least)) ∙ word-12;
+      size-number = word 20 (omega (arith, sized .least)) ∙ word-20;
       rest = λ k a b. first k b ∙ page0-rest k a;
     };
     deep = deep;

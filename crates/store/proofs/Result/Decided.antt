@@ -12,6 +12,7 @@ use Rattle.words.specs.Le.{le32}
 use Rattle.words.specs.Codes.{order, Before}
 use Rattle.partition.specs.Bits.{top}
 use Rattle.partition.specs.declared.Shape.{Shape}
+use Rattle.partition.specs.Sizes.{sizeNumber}
 use Rattle.partition.specs.Partition.{needs, rowsOf}
 use Rattle.page.specs.Page.{Slotted, Natural, In, depth, count, frontier, free, off, len, kind, need, place, code}
 use Rattle.store.specs.Pages.{size, pages, page, dirDepth, entryAt, contents, rowsHeld, deepestIn}
@@ -122,14 +123,15 @@ module _ (S : Shape) (s : List ℕ) where
 
   page0 : Dec (Page0 S s)
   page0 = map-dec
-      (λ t. record { number = t .0; directory = t .1 .0; entries = t .1 .1 .0; first = t .1 .1 .1 .0; depth = t .1 .1 .1 .1 .0; rest = λ k a b. t .1 .1 .1 .1 .1 k b a })
-      (λ g. (g .number, (g .directory, (g .entries, (g .first, (g .depth, λ k b a. g .rest k a b))))))
+      (λ t. record { number = t .0; directory = t .1 .0; entries = t .1 .1 .0; first = t .1 .1 .1 .0; depth = t .1 .1 .1 .1 .0; size-number = t .1 .1 .1 .1 .1 .0; rest = λ k a b. t .1 .1 .1 .1 .1 .1 k b a })
+      (λ g. (g .number, (g .directory, (g .entries, (g .first, (g .depth, (g .size-number, λ k b a. g .rest k a b)))))))
       (both (ℕ-discrete (le32 s 0) (pages S s))
       (both (ℕ-discrete (le32 s 4) (size S))
       (both (ℕ-discrete (le32 s 8) (S .entries))
       (both (ℕ-discrete (le32 s 12) (2 * size S))
       (both (decLe (dirDepth s) (S .deepest))
-      (all (size S) (λ k. 20 ≤ k → byte s k ≡ 0) (λ k l. implies (decLe 20 k) (ℕ-discrete (byte s k) 0))))))))
+      (both (ℕ-discrete (le32 s 20) (sizeNumber S))
+      (all (size S) (λ k. 24 ≤ k → byte s k ≡ 0) (λ k l. implies (decLe 24 k) (ℕ-discrete (byte s k) 0)))))))))
 
   page1 : Dec (Page1 S s)
   page1 = map-dec

@@ -17,6 +17,15 @@ enum-told-3 c = search needs
 enum-told-4 : tie.Need-enum-told-4
 enum-told-4 c = search needs
 
+enum-told-5 : tie.Need-enum-told-5
+enum-told-5 c = search needs
+
+enum-told-6 : tie.Need-enum-told-6
+enum-told-6 c = search needs
+
+enum-told-7 : tie.Need-enum-told-7
+enum-told-7 c = search needs
+
 returns : tie.Need-returns
 returns c = record { len = refl; known = refl; fill = refl; quiet = λ q. absurd (true≢false (q .0)); leaves = λ q. absurd (true≢false (q .0)) }
 
@@ -29,7 +38,30 @@ returns-3 c = record { len = refl; known = refl; fill = refl; quiet = λ q. q; l
 returns-4 : tie.Need-returns-4
 returns-4 c = record { len = refl; known = refl; fill = refl; quiet = λ q. q; leaves = λ q. rw (c .enum-told4 .given .1) tt }
 
+returns-5 : tie.Need-returns-5
+returns-5 c = record { len = refl; known = refl; fill = refl; quiet = λ q. q; leaves = λ q. rw (c .enum-told5 .given .1) tt }
+
+returns-6 : tie.Need-returns-6
+returns-6 c = record { len = refl; known = refl; fill = refl; quiet = λ q. q; leaves = λ q. rw (c .enum-told6 .given .1) tt }
+
+returns-7 : tie.Need-returns-7
+returns-7 c = record { len = refl; known = refl; fill = refl; quiet = λ q. q; leaves = λ q. rw (c .enum-told7 .given .1) tt }
+
 pub after-spec : {M : Type 1} → statement M
 after-spec =
     tie.close
-    (tie.spec enum-told enum-told-2 enum-told-3 enum-told-4 returns returns-2 returns-3 returns-4)
+    (tie.spec
+    enum-told
+    enum-told-2
+    enum-told-3
+    enum-told-4
+    enum-told-5
+    enum-told-6
+    enum-told-7
+    returns
+    returns-2
+    returns-3
+    returns-4
+    returns-5
+    returns-6
+    returns-7)

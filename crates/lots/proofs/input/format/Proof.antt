@@ -1,7 +1,8 @@
 -- `lots::format` meets its contract. Assumes nothing.
 use Prim.Native.Nat.{_-_}
-use mathlib.Core.Path.{_≡_, sym, subst, _∙_}
-use mathlib.Core.Bool.{true}
+use mathlib.Core.Path.{_≡_, refl, sym, subst, _∙_}
+use mathlib.Core.Bool.{true, false, true≢false}
+use native.Mathlib.Nat.{sub-zero}
 use borrow.Author.Needs.{needs}
 use denote.Ref.{now}
 use Rattle.hash.specs.Fnv.{fnv}
@@ -10,8 +11,8 @@ use Rattle.store.specs.Demands.{ok}
 use Rattle.store.specs.Pages.{S1024}
 use Rattle.store.specs.Tables.{meaning}
 use Rattle.store.proofs.Demands.Kept.{refusal-keeps}
-use Rattle.lots.specs.Sessions.{Holds, Quiet}
-use Rattle.lots.proofs.Leaving.{done-loud, formatted-still, part-back, still-front, taken-in}
+use Rattle.lots.specs.Sessions.{SessionHolds, Quiet}
+use Rattle.lots.proofs.Leaving.{done-loud, formatted-still, part-back, still-back, still-front, taken-in}
 use Rattle.lots.proofs.input.format.Statement.{statement}
 use Rattle.lots.proofs.input.format.Tie as tie
 
@@ -48,14 +49,24 @@ returns c =
     let f = c .before .before .before .before .before .before .format in
     let n = c .before .before .before .before .before .before .before .before .length-of in
     let d : ok (meaning (f .result)) ≡ true = sym (c .before .is-done .ensures) ∙ c .if1 .taken in
+    let y = formatted-still _ (meaning (f .result)) _ (f .ensures) d in
     let no : Quiet (c .before .before .after .result) → ⊥ = λ q. done-loud (meaning (f .result)) (c .before .before .before .wrote .result) (c .before .before .before .wrote .ensures) (a .leaves q) d in (
       record {
         quiet = λ q. absurd (no q);
         same = λ q. absurd (no q);
         long = λ q. absurd (no q);
-        holds = record { within = search needs; known = λ _. still-front _ _ (n .result) (n .ensures) (formatted-still _ (meaning (f .result)) _ (f .ensures) d) };
+        holds = record { within = search needs; known = λ _. still-front _ _ (n .result) (n .ensures .0) y };
       },
       a .fill,
+      record {
+        len = n .result;
+        long = n .ensures .1;
+        answer = meaning (f .result);
+        left = f .last .0;
+        made = simp sub-zero at (f .ensures);
+        refused = λ e. absurd (true≢false (sym d ∙ e));
+        done = λ _. (still-back _ _ (n .result) (n .ensures .0) y, refl);
+      },
     )
 
 same-length-2 : tie.Need-same-length-2
@@ -65,10 +76,22 @@ returns-2 : tie.Need-returns-2
 returns-2 c =
     let a = c .before .before .after .ensures in
     let f = c .before .before .before .before .before .before .format in
+    let n = c .before .before .before .before .before .before .before .before .length-of in
     let start = c .before .before .before .before .before .before .before .before .before .before in
-    let e = part-back (now (start .args .store)) (f .last .0) 0 (c .before .before .before .before .before .before .before .before .length-of .result - 0)
-    (refusal-keeps S1024 fnv Demands.format _ (meaning (f .result)) _ (f .ensures) (sym (c .before .is-done .ensures) ∙ c .if1 .left)) in
-    (taken-in a (λ l. e) (subst (Holds (start .args .z)) (sym e) (start .pre)), a .fill)
+    let d : ok (meaning (f .result)) ≡ false = sym (c .before .is-done .ensures) ∙ c .if1 .left in
+    let e = part-back (now (start .args .store)) (f .last .0) 0 (n .result - 0) (refusal-keeps S1024 fnv Demands.format _ (meaning (f .result)) _ (f .ensures) d) in (
+      taken-in a (λ l. e) (subst (SessionHolds (start .args .z)) (sym e) (start .pre)),
+      a .fill,
+      record {
+        len = n .result;
+        long = n .ensures .1;
+        answer = meaning (f .result);
+        left = f .last .0;
+        made = simp sub-zero at (f .ensures);
+        refused = λ _. (e, a .len);
+        done = λ k. absurd (true≢false (sym k ∙ d));
+      },
+    )
 
 pub format-spec : {M : Type 1} → statement M
 format-spec =

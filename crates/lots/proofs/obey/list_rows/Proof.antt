@@ -1,33 +1,38 @@
 -- `lots::list_rows` meets its contract: before each row the cursor stands at a place of the listing. Assumes nothing.
-use Prim.Native.Nat.{ℕ, _+_, _-_, _≤_}
+use Prim.Native.Nat.{_-_, _≤_, _<_}
+use lib.ListN.{length}
 use borrow.Author.Needs.{needs}
 use denote.Ref.{now}
-use mathlib.Core.Path.{subst}
+use mathlib.Core.Path.{_≡_, subst}
 use native.Mathlib.Omega.{arith}
+use Rattle.hash.specs.Fnv.{fnv}
+use Rattle.partition.specs.Listing.{listing}
 use Rattle.query.specs.Cursors.{At, Stepped}
 use Rattle.store.specs.Demands.{sized-1024}
-use Rattle.store.specs.Pages.{S1024}
+use Rattle.store.specs.Pages.{S1024, rowsHeld}
+use Rattle.lots.specs.Obeys.{Numbers}
+use Rattle.lots.proofs.Leaving.{listing-counts, some-row}
 use Rattle.lots.proofs.obey.list_rows.Statement.{statement}
 use Rattle.lots.proofs.obey.list_rows.Tie as tie
 
 abbrev Inv-loop : tie.InvT-loop
-Inv-loop s n c₀ i₀ t8 t9 c i = ((m : ℕ) × At S1024 s m c) × (i ≤ n)
+Inv-loop s n c₀ i₀ c i = At S1024 s i c × (i ≤ n)
 
 abbrev μ-loop : tie.MeasureT-loop
-μ-loop s n c₀ i₀ t8 t9 c i = n - i
+μ-loop s n c₀ i₀ c i = n - i
 
 cursor-at-requires : tie.Need-cursor-at-requires Inv-loop μ-loop
-cursor-at-requires c κs = (sized-1024, c .before .pre)
+cursor-at-requires c κs = (sized-1024, c .before .pre .0)
 
 loop-holds : tie.Need-loop-holds Inv-loop μ-loop
-loop-holds c = ((0, c .cursor-at .ensures), omega arith)
+loop-holds c = (c .cursor-at .ensures, omega arith)
 
 next-row-requires : tie.Need-next-row-requires Inv-loop μ-loop
-next-row-requires c κs = (sized-1024, c .before .before .before .before .pre, c .before .loop .inv .0)
+next-row-requires c κs = (sized-1024, c .before .before .before .before .pre .0, (c .before .loop .i, c .before .loop .inv .0))
 
 -- a step from the place at which the cursor stands
-stepped : (c : tie.After-next-row Inv-loop μ-loop) → Stepped S1024 (now (c .before .before .before .before .before .args .s)) (c .before .before .loop .inv .0 .0) (c .next-row .result)
-stepped c = let m = c .before .before .loop .inv .0 in c .next-row .ensures (m .0) (m .1)
+stepped : (c : tie.After-next-row Inv-loop μ-loop) → Stepped S1024 (now (c .before .before .before .before .before .args .s)) (c .before .before .loop .i) (c .next-row .result)
+stepped c = c .next-row .ensures (c .before .before .loop .i) (c .before .before .loop .inv .0)
 
 enum-known-p : tie.Need-enum-known-p Inv-loop μ-loop
 enum-known-p c = search needs
@@ -36,7 +41,7 @@ list-row-requires : tie.Need-list-row-requires Inv-loop μ-loop
 list-row-requires c κs = subst (Stepped _ _ _) (c .before .p .given .1) (stepped (c .before .before .before)) .0 .0
 
 returns : tie.Need-returns Inv-loop μ-loop
-returns c = search needs
+returns c = tt
 
 add-i : tie.Need-add-i Inv-loop μ-loop
 add-i c = search needs
@@ -45,34 +50,33 @@ loop-less : tie.Need-loop-less Inv-loop μ-loop
 loop-less c = search needs
 
 loop-again : tie.Need-loop-again Inv-loop μ-loop
-loop-again c = ((c .before .before .before .before .before .before .before .loop .inv .0 .0 + 1, subst (Stepped _ _ _) (c .before .before .before .p .given .1) (stepped (c .before .before .before .before .before)) .1), omega arith)
+loop-again c = (subst (Stepped _ _ _) (c .before .before .before .p .given .1) (stepped (c .before .before .before .before .before)) .1, omega arith)
 
 enum-told : tie.Need-enum-told Inv-loop μ-loop
 enum-told c = search needs
 
-slice-aggregate-number : tie.Need-slice-aggregate-number Inv-loop μ-loop
-slice-aggregate-number c = search needs
+listed-requires : tie.Need-listed-requires Inv-loop μ-loop
+listed-requires c κs = search needs
 
-number-requires : tie.Need-number-requires Inv-loop μ-loop
-number-requires c κs = search needs
-
-said-requires : tie.Need-said-requires Inv-loop μ-loop
-said-requires c κs = search needs
-
+-- below the number of rows a step gives one
 returns-2 : tie.Need-returns-2 Inv-loop μ-loop
-returns-2 c = search needs
+returns-2 c =
+    let start = c .before .before .before .before .before .before .before .before in
+    let s = now (start .args .s) in
+    let i = c .before .before .before .before .before .loop .i in
+    let e = subst (Stepped _ _ _) (c .before .enum-told .given .1) (stepped (c .before .before .before)) in
+    let l : i < length (listing S1024 fnv (rowsHeld S1024 s)) = omega (arith, c .before .before .before .before .loop-test .taken, start .pre .1, listing-counts s (start .pre .0)) in
+    absurd (some-row (listing S1024 fnv (rowsHeld S1024 s)) i l e)
 
-slice-aggregate-number-2 : tie.Need-slice-aggregate-number-2 Inv-loop μ-loop
-slice-aggregate-number-2 c = search needs
-
-number-requires-2 : tie.Need-number-requires-2 Inv-loop μ-loop
-number-requires-2 c κs = search needs
-
-said-requires-2 : tie.Need-said-requires-2 Inv-loop μ-loop
-said-requires-2 c κs = search needs
+listed-requires-2 : tie.Need-listed-requires-2 Inv-loop μ-loop
+listed-requires-2 c κs = search needs
 
 returns-3 : tie.Need-returns-3 Inv-loop μ-loop
-returns-3 c = search needs
+returns-3 c =
+    let start = c .before .before .before .before .before in
+    let s = now (start .args .s) in
+    let e : c .before .before .loop .i ≡ length (listing S1024 fnv (rowsHeld S1024 s)) = omega (arith, c .before .before .loop .inv .1, c .before .loop-test .left, start .pre .1, listing-counts s (start .pre .0)) in
+    subst (λ m. Numbers m (c .listed2 .result)) e (c .listed2 .ensures)
 
 pub list-rows-spec : {M : Type 1} → statement M
 list-rows-spec =
@@ -90,11 +94,7 @@ list-rows-spec =
     loop-less
     loop-again
     enum-told
-    slice-aggregate-number
-    number-requires
-    said-requires
+    listed-requires
     returns-2
-    slice-aggregate-number-2
-    number-requires-2
-    said-requires-2
+    listed-requires-2
     returns-3)

@@ -159,7 +159,7 @@ same-length-2 : tie.Need-same-length-2
 same-length-2 c = search needs
 
 returns-5 : tie.Need-returns-5
-returns-5 c = done (c .before .before .before .before .before .before .before .before) _ (c .before .before .before .before .before .before .c3 .given .1) (c .told .ensures, refl)
+returns-5 c = done (c .before .before .before .before .before .before .before .before) _ (c .before .before .before .before .before .before .c3 .given .1) (record { answer = meaning (c .before .lookup-known .result); made = (simp sub-zero at (c .before .lookup-known .ensures), refl); told = c .told .ensures }, refl)
 
 same-length-3 : tie.Need-same-length-3
 same-length-3 c = search needs
@@ -171,7 +171,7 @@ same-length-4 : tie.Need-same-length-4
 same-length-4 c = search needs
 
 returns-7 : tie.Need-returns-7
-returns-7 c = done (c .before .before .before .before .before) _ (c .before .before .before .enum-told3 .given .1) (c .told2 .ensures, refl)
+returns-7 c = done (c .before .before .before .before .before) _ (c .before .before .before .enum-told3 .given .1) (record { answer = meaning (c .before .count-known .result); made = (c .before .count-known .ensures, refl); told = c .told2 .ensures }, refl)
 
 same-length-5 : tie.Need-same-length-5
 same-length-5 c = search needs
@@ -189,7 +189,7 @@ same-length-7 : tie.Need-same-length-7
 same-length-7 c = search needs
 
 returns-10 : tie.Need-returns-10
-returns-10 c = done (c .before .before .before .before .before) _ (c .before .before .before .enum-told5 .given .1) (c .told3 .ensures, refl)
+returns-10 c = done (c .before .before .before .before .before) _ (c .before .before .before .enum-told5 .given .1) (record { answer = meaning (c .before .check-known .result); made = (c .before .check-known .ensures, refl); told = c .told3 .ensures }, refl)
 
 same-length-8 : tie.Need-same-length-8
 same-length-8 c = search needs

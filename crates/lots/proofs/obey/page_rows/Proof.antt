@@ -5,10 +5,10 @@ use Rattle.lots.proofs.obey.page_rows.Statement.{statement}
 use Rattle.lots.proofs.obey.page_rows.Tie as tie
 
 abbrev Inv-loop : tie.InvT-loop
-Inv-loop page n i₀ t4 i = i ≤ n
+Inv-loop page n i₀ i = i ≤ n
 
 abbrev μ-loop : tie.MeasureT-loop
-μ-loop page n i₀ t4 i = n - i
+μ-loop page n i₀ i = n - i
 
 loop-holds : tie.Need-loop-holds Inv-loop μ-loop
 loop-holds c = search needs
@@ -28,14 +28,8 @@ loop-less c = search needs
 loop-again : tie.Need-loop-again Inv-loop μ-loop
 loop-again c = search needs
 
-slice-aggregate-number : tie.Need-slice-aggregate-number Inv-loop μ-loop
-slice-aggregate-number c = search needs
-
-number-requires : tie.Need-number-requires Inv-loop μ-loop
-number-requires c κs = search needs
-
-said-requires : tie.Need-said-requires Inv-loop μ-loop
-said-requires c κs = search needs
+listed-requires : tie.Need-listed-requires Inv-loop μ-loop
+listed-requires c κs = search needs
 
 returns-2 : tie.Need-returns-2 Inv-loop μ-loop
 returns-2 c = search needs
@@ -52,7 +46,5 @@ page-rows-spec =
     add-i
     loop-less
     loop-again
-    slice-aggregate-number
-    number-requires
-    said-requires
+    listed-requires
     returns-2)

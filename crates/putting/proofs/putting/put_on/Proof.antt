@@ -13,7 +13,7 @@ use Rattle.partition.specs.declared.Shape.{Shape}
 use Rattle.partition.specs.Listing.{placeOf}
 use Rattle.partition.specs.Partition.{Row}
 use Rattle.page.specs.Found.{FoundIn}
-use Rattle.page.specs.Page.{Slotted, Belongs, count, free, code, place, rows}
+use Rattle.page.specs.Page.{Slotted, Belongs, count, code, place, rows}
 use Rattle.hash.specs.Fnv.{fnv, fnv-lt}
 use Rattle.ground.specs.Ladder.{Answers}
 use denote.Ref.{now}
@@ -22,7 +22,7 @@ use Prim.Native.Nat.{ℕ, _+_, _*_, _≤_, _<_}
 use lib.ListN.{length}
 use mathlib.Core.List.{List, map}
 use mathlib.Core.Option.{some, none}
-use mathlib.Core.Path.{_≡_, sym, ap, subst, _∙_}
+use mathlib.Core.Path.{_≡_, sym, subst, _∙_}
 use borrow.Author.Needs.{needs}
 use Rattle.putting.proofs.putting.put_on.Statement.{statement}
 use Rattle.putting.proofs.putting.put_on.Tie as tie
@@ -83,13 +83,10 @@ module _ (b : tie.After-found2) where
   absent : placeOf (rowsHeld (S a2) (s a2)) (key a2) ≡ none
   absent = on-page a2 ∙ found-not (g a2) (home (z a2) .bytes .rules .rules) (key a2) (b .found2 .given .0 .0) belongs
 
--- and there is so much room
+-- and its page's free count is read
 module _ (b : tie.After-get16) where
   abbrev b2 : tie.After-found2
   b2 = b .before .before .before .before .before
-
-  room : b .get16 .result ≡ free (g (a2 b2))
-  room = b .get16 .ensures .0 ∙ ap free (page-lent (S (a2 b2)) (s (a2 b2)) (z (a2 b2) .args .p))
 
 add-size : tie.Need-add-size
 add-size c = omega (arith, inside (c .before .before .before .before))
@@ -158,7 +155,9 @@ add-if3 c = search needs
 insert-lent-requires : tie.Need-insert-lent-requires
 insert-lent-requires c κs =
     let b = c .before .before in
-    let q = z (a2 (b2 b)) .pre in
+    let e = a2 (b2 b) in
+    let q = z e .pre in
+    let room = rw (page-lent (S e) (s e) (z e .args .p)) at (b .get16 .ensures .0) in
     record {
       row = q;
       fits = record {
@@ -166,7 +165,7 @@ insert-lent-requires c κs =
         belongs = belongs (b2 b);
         natural = q .row .natural;
         good = q .row .good;
-        fits = omega (arith, room b, c .before .if3 .taken);
+        fits = omega (arith, room, c .before .if3 .taken);
       };
     }
 
@@ -183,7 +182,9 @@ returns-3 c =
 split-lent-requires : tie.Need-split-lent-requires
 split-lent-requires c κs =
     let b = c .before .before in
-    record { row = z (a2 (b2 b)) .pre; belongs = belongs (b2 b); tight = omega (arith, room b, c .before .if3 .left) }
+    let e = a2 (b2 b) in
+    let room = rw (page-lent (S e) (s e) (z e .args .p)) at (b .get16 .ensures .0) in
+    record { row = z e .pre; belongs = belongs (b2 b); tight = omega (arith, room, c .before .if3 .left) }
 
 same-length-4 : tie.Need-same-length-4
 same-length-4 c = search needs

@@ -1,4 +1,4 @@
--- `query::page0_ok` meets its contract. Assumes nothing.
+-- `store_check::page0_ok` meets its contract. Assumes nothing.
 use borrow.Author.Needs.{needs}
 use Prim.Native.Nat.{_-_, _≤_}
 use native.Mathlib.Omega.{arith}
@@ -46,6 +46,15 @@ get32-requires-5 c κs = search needs
 returns-5 : tie.Need-returns-5
 returns-5 c = search needs
 
+get32-requires-6 : tie.Need-get32-requires-6
+get32-requires-6 c κs = search needs
+
+size-number-requires : tie.Need-size-number-requires
+size-number-requires c κs = search needs
+
+returns-6 : tie.Need-returns-6
+returns-6 c = search needs
+
 sub-all-zero : tie.Need-sub-all-zero
 sub-all-zero c = search needs
 
@@ -58,15 +67,15 @@ part-all-zero-end c = search needs
 all-zero-requires : tie.Need-all-zero-requires
 all-zero-requires c κs = search needs
 
-returns-6 : tie.Need-returns-6
-returns-6 c =
-    let a = c .before .before .before .before .before .before .before .before .before .before .before .before .before .before .before .before in
+returns-7 : tie.Need-returns-7
+returns-7 c =
+    let a = c .before .before .before .before .before .before .before .before .before .before .before .before .before .before .before .before .before .before .before in
     let s = a .args .s .now in
     let n = size (a .args .z) in
-    let m : 20 ≤ n = omega (arith, a .pre .0 .least) in
-    says-same {P = Zero (take (n - 20) (drop 20 s))} (c .all-zero .result) (c .all-zero .ensures)
-    (λ z. record { number = omega arith; directory = omega arith; entries = omega arith; first = omega arith; depth = omega arith; rest = lent-zero s 20 n m (a .pre .2) z })
-    (λ g. zero-lent s 20 n m (a .pre .2) (g .rest))
+    let m : 24 ≤ n = omega (arith, a .pre .0 .least) in
+    says-same {P = Zero (take (n - 24) (drop 24 s))} (c .all-zero .result) (c .all-zero .ensures)
+    (λ z. record { number = omega arith; directory = omega arith; entries = omega arith; first = omega arith; depth = omega arith; size-number = omega arith; rest = lent-zero s 24 n m (a .pre .2) z })
+    (λ g. zero-lent s 24 n m (a .pre .2) (g .rest))
 
 pub page0-ok-spec : {M : Type 1} → statement M
 page0-ok-spec =
@@ -84,8 +93,11 @@ page0-ok-spec =
     returns-4
     get32-requires-5
     returns-5
+    get32-requires-6
+    size-number-requires
+    returns-6
     sub-all-zero
     part-all-zero-start
     part-all-zero-end
     all-zero-requires
-    returns-6)
+    returns-7)

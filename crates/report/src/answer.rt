@@ -1,0 +1,88 @@
+// The report's answer over a sheet's numbers.
+ghost use mathlib.Core.Path.{_≡_};
+ghost use Prim.Native.Nat.{_*_, _≤_};
+ghost use lib.ListN.{length, replicate};
+ghost use Rattle.ground.specs.Ladder.{Answers};
+ghost use Rattle.hash.specs.Fnv.{fnv};
+ghost use Rattle.partition.specs.Listing.{listing};
+ghost use Rattle.store.specs.Accepted.{Accepted};
+ghost use Rattle.store.specs.Demands.{Sized};
+ghost use Rattle.store.specs.Pages.{S1024, rowsHeld};
+ghost use Rattle.report.specs.Report.{limit, reported};
+ghost use Rattle.report.specs.Numbers.{SoundSheet, Lowered, ToldBy, numbersTable};
+use super::tally::close;
+use super::tally::sound;
+use super::tally::tally;
+use crate::Ending;
+use crate::LIMIT;
+use crate::Outcome;
+use crate::Sums;
+use partition::Shape;
+use store::Refusal;
+
+// The sum of k amounts, from their raised sum.
+fn lower(sum: u64, k: usize) -> i64
+    requires { ⌜ (sum ≤ k * 2000000000000) × (k ≤ 5200000) ⌝ }
+    ensures { λ r. ⌜ Lowered sum k r ⌝ }
+{
+    let base = k as u64 * 1000000000000;
+    if base <= sum {
+        return (sum - base) as i64;
+    }
+    0 - (base - sum) as i64
+}
+
+// Over a sound sheet, with room for a mark for each row.
+fn told(s: &[u8], z: Shape, ranks: &[u64], raised: &[u64], counts: &mut [u8]) -> Outcome
+    requires { ⌜ Sized z × Accepted z fnv (now s) × SoundSheet (now ranks) (now raised) × (length (now counts) ≡ length (now ranks)) ⌝ }
+    ensures { λ r. ⌜ ToldBy (now (ranks .entry)) (now (raised .entry)) (listing z fnv (rowsHeld z (now (s .entry)))) (now (counts .entry)) (reported r) ⌝ }
+{
+    match tally(s, z, ranks, raised, counts) {
+        Ending::Missing(p) => Outcome::NotInSheet(p),
+        Ending::Whole(k, sum) => {
+            let l = close(raised, counts);
+            let hidden = l.hidden;
+            let total = lower(sum, k);
+            let cents = lower(l.sum, hidden);
+            Outcome::Summed(Sums {
+                total: total,
+                hidden: hidden,
+                cents: cents,
+                doubled: l.doubled,
+            })
+        }
+    }
+}
+
+// The same, with marks of its own.
+fn told_fresh(s: &[u8], z: Shape, ranks: &[u64], raised: &[u64]) -> Outcome
+    requires { ⌜ Sized z × Accepted z fnv (now s) × SoundSheet (now ranks) (now raised) ⌝ }
+    ensures { λ r. ⌜ ToldBy (now (ranks .entry)) (now (raised .entry)) (listing z fnv (rowsHeld z (now (s .entry)))) (replicate (length (now (ranks .entry))) 0) (reported r) ⌝ }
+{
+    let n = ranks.len();
+    let mut counts = [0u8; LIMIT];
+    told(s, z, ranks, raised, &mut counts[..n])
+}
+
+// The report over a sheet's numbers: ranks from 0, raised amounts from the limit on, n rows.
+pub fn judge(s: &[u8], flat: &[u64], n: usize) -> Outcome
+    requires { ⌜ length (now flat) ≡ 2 * limit ⌝ }
+    ensures { λ r. ⌜ Answers (numbersTable S1024 fnv (now (s .entry)) (now (flat .entry)) n) (reported r) ⌝ }
+{
+    if !store_check::good_length(s, partition::S1024) {
+        return Outcome::Refused(Refusal::BadLength);
+    }
+    if LIMIT < n {
+        return Outcome::BadSheet;
+    }
+    let ranks = &flat[..n];
+    let raised = &flat[LIMIT..LIMIT + n];
+    if !sound(ranks, raised) {
+        return Outcome::BadSheet;
+    }
+    let p = store_check::first_bad(s);
+    if p < s.len() / 1024 {
+        return Outcome::Refused(Refusal::BadPage(p));
+    }
+    told_fresh(s, partition::S1024, ranks, raised)
+}

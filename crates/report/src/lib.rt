@@ -1,0 +1,84 @@
+// The bid report: one call over a store and a sheet. `spread` and `report` take the run of sheet rows and are walked by hand; the rest works on numbers.
+ghost use mathlib.Core.Path.{_≡_};
+ghost use lib.ListN.{length};
+ghost use Rattle.ground.specs.Ladder.{Answers};
+ghost use Rattle.hash.specs.Fnv.{fnv};
+ghost use Rattle.store.specs.Pages.{S1024};
+ghost use Rattle.report.specs.Report.{reported, reportTable};
+ghost use Rattle.report.specs.Numbers.{spreadFrom};
+use page::Place;
+use query::Cursor;
+use store::Refusal;
+
+mod answer;
+mod rows;
+mod tally;
+
+// The most rows of a sheet.
+pub const LIMIT: usize = 20000;
+
+// A row of the sheet: the parts of a row place, and an amount in cents.
+#[repr(C)]
+pub struct SheetRow {
+    pub page: i32,
+    pub slot: i16,
+    pub volume: i16,
+    pub cents: i64,
+}
+
+// The total over the listing, the sheet rows that no code names with their sum, and those that more than one names.
+pub struct Sums {
+    pub total: i64,
+    pub hidden: usize,
+    pub cents: i64,
+    pub doubled: usize,
+}
+
+// The report's answer: a refusal that other calls have too, the report's own two, or the sums.
+pub enum Outcome {
+    Refused(Refusal),
+    // the sheet breaks a rule
+    BadSheet,
+    // a code's place is not in the sheet
+    NotInSheet(Place),
+    Summed(Sums),
+}
+
+// The place of a listed row with the cursor behind it, or no row is left.
+pub enum Next {
+    Placed(Place, Cursor),
+    End,
+}
+
+// How a tally ends: at a place that is not in the sheet, or whole, with the number of codes and the sum of their raised amounts.
+pub enum Ending {
+    Missing(Place),
+    Whole(usize, u64),
+}
+
+// What no code names, with the sum of its raised amounts, and what more than one does.
+pub struct Left {
+    pub hidden: usize,
+    pub sum: u64,
+    pub doubled: usize,
+}
+
+// The sheet as numbers: the one loop over it.
+pub fn spread(sheet: &[SheetRow], flat: &mut [u64]) -> usize
+    ensures { λ n. ⌜ (n ≡ length (now (sheet .entry))) × (now (flat .exit) ≡ spreadFrom 0 (now (sheet .entry)) (now (flat .entry))) ⌝ }
+{
+    let mut i = 0;
+    while i < sheet.len() {
+        i = rows::lay(flat, i, sheet[i]);
+    }
+    i
+}
+
+// The one call: the sums over the store's listing and the sheet.
+pub fn report(store: &[u8], sheet: &[SheetRow]) -> Outcome
+    ensures { λ r. ⌜ Answers (reportTable S1024 fnv (now (store .entry)) (now (sheet .entry))) (reported r) ⌝ }
+{
+    let mut flat = [0u64; 2 * LIMIT];
+    let n = spread(sheet, &mut flat);
+    answer::judge(store, &flat, n)
+}
