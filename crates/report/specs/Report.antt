@@ -105,7 +105,7 @@ unfolding timesNamed
 hiddenCents rs [] = pos 0
 hiddenCents rs (x ∷ xs) = cond (eqb (timesNamed rs x) 0) (x .cents) (pos 0) +ℤ hiddenCents rs xs
 
--- how many are timesNamed by more than one code
+-- how many are named by more than one code
 unfoldable pub doubledOf : List Row → List SheetRow → ℕ
 unfolding timesNamed
 doubledOf rs [] = 0
