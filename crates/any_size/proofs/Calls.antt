@@ -1,6 +1,6 @@
 -- Demand 1 where each store says its own page size: what is shown at a size, at the size that a call goes by. Assumes nothing.
 use mathlib.Core.Path.{_≡_, refl, sym, ap, _∙_}
-use mathlib.Core.Bool.{false, true≢false}
+use mathlib.Core.Bool.{Bool, true, false, true≢false}
 use mathlib.Core.List.{List}
 use mathlib.Core.Logic.{_⊎_, inl, inr, ⊎-elim}
 use Prim.Native.Nat.{ℕ}
@@ -29,6 +29,19 @@ sized-by (remove c) s = sized-of s
 sized-by (put c p m) s = sized-of s
 sized-by (rowAt n out) s = sized-of s
 sized-by (inspect g n out) s = sized-for (length g)
+
+abbrev pub is-format : Call → Bool
+is-format format = true
+is-format check = false
+is-format count = false
+is-format (lookup c) = false
+is-format (remove c) = false
+is-format (put c p m) = false
+is-format (rowAt n out) = false
+is-format (inspect g n out) = false
+
+pub differs : (c : Call) → is-format c ≡ false → c ≡ format → ⊥
+differs c f e = true≢false (sym (ap is-format e) ∙ f)
 
 -- ---- a format, by the size that it is given
 

@@ -20,7 +20,7 @@ use Rattle.store.proofs.Demands.Choice.{put-chooses, remove-chooses}
 use Rattle.store.proofs.Demands.Whole.{demand-2, demand-3}
 use Rattle.any_size.specs.OwnSizes.{SizedCall, formatTo, on, MadeSized, OwnSecond, survivingSized, SizedHistory, starts, goes-on, OwnThird}
 use Rattle.any_size.proofs.Rows.{said-for, said-of, is-size}
-use Rattle.any_size.proofs.Calls.{formats, answered, succeeds}
+use Rattle.any_size.proofs.Calls.{differs, formats, answered, succeeds}
 
 pick-same : (b : Bool) (rs : List Row) → pick b rs rs ≡ rs
 pick-same true rs = refl
@@ -140,21 +140,8 @@ module _ (h : List ℕ → ℕ) (hash : Hash h) where
       (λ l. subst (λ u. Stay (shapeOf s) s (shapeOf s) u) (sym (l .0)) still)
       (own-or-left c s o t m))
     where
-      no-format : check ≡ format → ⊥
-      no-format e = true≢false (ap is-check e)
-        where
-          is-check : Call → Bool
-          is-check format = false
-          is-check check = true
-          is-check count = false
-          is-check (lookup c) = false
-          is-check (remove c) = false
-          is-check (put c p k) = false
-          is-check (rowAt n out) = false
-          is-check (inspect g n out) = false
-
       still : Stay (shapeOf s) s (shapeOf s) s
-      still = demand-3 (shapeOf s) h (sized-of s) hash .2 check s accepted s no-format a (demand-2 (shapeOf s) h (sized-of s) hash .0 s .1 a)
+      still = demand-3 (shapeOf s) h (sized-of s) hash .2 check s accepted s (differs check refl) a (demand-2 (shapeOf s) h (sized-of s) hash .0 s .1 a)
 
   pub own-third : OwnThird h
   own-third = record {
