@@ -1,5 +1,5 @@
 -- THE THREE DEMANDS hold of the tables at FNV-1a, for each page size and where each store says its own, with nothing left to assume.
-use mathlib.Core.Path.{_≡_, refl, sym, ap, _∙_}
+use mathlib.Core.Path.{_≡_, refl, ap, _∙_}
 use mathlib.Core.Bool.{Bool, true, false}
 use mathlib.Core.List.{List}
 use mathlib.Core.Logic.{inl, inr}

@@ -44,11 +44,11 @@ pub record First (S : Shape) (z e : ℕ) : Type 0 where
 abbrev pub given : List ℕ → Place → Row
 given c p = record { code = c; place = stored p }
 
--- the place that s has for its code
+-- the place that s has for a code
 abbrev pub held : Shape → List ℕ → List ℕ → Option (List ℕ)
 held S s c = map-of S s c
 
--- the rows of s with it, and what those of them need that share its first k bits
+-- the rows of s with the row given, and what those of them need that share its first k bits
 abbrev pub joining : Shape → List ℕ → List ℕ → Place → List Row
 joining S s c p = given c p ∷ rowsHeld S s
 
