@@ -1,5 +1,5 @@
 -- Demand 1 where each store says its own page size: what is shown at a size, at the size that a call goes by. Assumes nothing.
-use mathlib.Core.Path.{_≡_, refl, sym, ap, _∙_}
+use mathlib.Core.Path.{_≡_, refl, sym, ap, subst, _∙_}
 use mathlib.Core.Bool.{Bool, true, false, true≢false}
 use mathlib.Core.List.{List}
 use mathlib.Core.Logic.{_⊎_, inl, inr, ⊎-elim}
@@ -9,16 +9,19 @@ use Rattle.ground.specs.Ladder.{Answers}
 use Rattle.partition.specs.declared.Shape.{Shape}
 use Rattle.partition.specs.Sizes.{Sized, shapeFor, shapeOf}
 use Rattle.partition.proofs.Sizes.{sized-for, sized-of}
-use Rattle.store.specs.Tables.{Out, refused, formatted, PageSize, formatTable, formatSized}
-use Rattle.store.specs.Demands.{Hash, Call, format, check, count, lookup, remove, put, rowAt, inspect, Made, ok, WholePages, ExactlyWhen}
+use Rattle.words.specs.Le.{le32}
+use Rattle.store.specs.Pages.{S1024}
+use Rattle.store.specs.Accepted.{Page0}
+use Rattle.store.specs.Tables.{Out, refused, refusedAt, formatted, PageSize, formatTable, formatSized}
+use Rattle.store.specs.Demands.{Hash, Call, format, check, count, lookup, remove, put, rowAt, inspect, Made, ok, WholePages, page-0, ExactlyWhen}
 use Rattle.store.proofs.Accepted.Format.{good-stable}
 use Rattle.store.proofs.Demands.Order.{good-length, whole-pages, says-one, says-late}
 use Rattle.store.proofs.Demands.Settled.{format-settled, check-settled, count-settled, lookup-settled, row-settled, inspect-settled, put-settled, remove-settled}
 use Rattle.store.proofs.Demands.Whole.{demand-1}
 use Rattle.store.proofs.Result.Answered.{unless, format-answered}
 use Rattle.store.proofs.Result.Total.{answered-always}
-use Rattle.any_size.specs.OwnSizes.{SizedCall, formatTo, on, goesBy, MadeSized, faultsSized, GivenSized, OwnFirst}
-use Rattle.any_size.proofs.Rows.{short, size-is, is-size, size-or-not, bad-number}
+use Rattle.any_size.specs.OwnSizes.{SizedCall, formatTo, on, goesBy, MadeSized, faultsSized, GivenSized, SizeNumber, OwnFirst}
+use Rattle.any_size.proofs.Rows.{number-at, short, size-is, is-size, size-or-not, bad-number}
 
 pub sized-by : (c : Call) (s : List ℕ) → Sized (goesBy c s)
 sized-by format s = sized-of s
@@ -115,6 +118,12 @@ module _ (h : List ℕ → ℕ) (hash : Hash h) where
   pub succeeds : (n : ℕ) (s : List ℕ) (o : Out) (t : List ℕ) → MadeSized h (formatTo n) s o t → PageSize n → WholePages (shapeFor n) s → o ≡ formatted
   succeeds n s o t m y w = ⊎-elim (λ v. v .1) (λ v. absurd (v .0 (y, w))) (formats n s o t m)
 
+  bad-number-told : (s : List ℕ) (o : Out) (t : List ℕ) → (SizeNumber (le32 s 20) → ⊥) → WholePages S1024 s → MadeSized h (on check) s o t → o ≡ refusedAt 2 0
+  bad-number-told s o t b w m =
+      let small = bad-number s b in
+      let broken : Page0 (shapeOf s) s → ⊥ = subst (λ S. Page0 S s → ⊥) (sym (number-at s)) (small .1 (le32 s 20)) in
+      in-order (on check) s o t m .two 0 .1 ((λ x. x (subst (λ S. WholePages S s) (sym (small .0)) w)), (λ x. x), (λ x. x), (λ x. x), (λ x. x), page-0 broken)
+
   pub own-first : OwnFirst h
   own-first = record {
     answered = answered;
@@ -130,5 +139,6 @@ module _ (h : List ℕ → ℕ) (hash : Hash h) where
         m;
     short-is-one = short;
     bad-number = bad-number;
+    bad-number-told = bad-number-told;
     three-lengths = λ g. (size-is (length g), is-size (length g));
   }

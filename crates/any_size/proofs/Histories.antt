@@ -104,15 +104,25 @@ module _ (h : List ℕ → ℕ) (hash : Hash h) where
       (λ l. subst₂ (λ l u. History (shapeOf u) h l u) (sym (l .1 rs)) (sym (l .0)) before)
       (own-or-left c s o t m)
 
+  -- a format of one of the three sizes and of whole pages
+  formatted-to : (n : ℕ) → PageSize n → (s : List ℕ) → WholePages (shapeFor n) s
+      → (t : List ℕ) × MadeSized h (formatTo n) s formatted t × SizedHistory h [] t × (shapeOf t ≡ shapeFor n) × (length t ≡ length s)
+  formatted-to n y s whole =
+      let w = answered h hash (formatTo n) s tt in
+      let made : MadeSized h (formatTo n) s formatted (w .1) = subst (λ o. MadeSized h (formatTo n) s o (w .1)) (succeeds h hash n s (w .0) (w .1) (w .2) y whole) (w .2) in
+      let f = format-accepted n s (w .1) made in
+      (w .1, made, starts n s made, f .1, f .4)
+
   begins : (n : ℕ) → PageSize n → (m : ℕ) → 3 ≤ m → m ≤ shapeFor n .entries + 2 → (t : List ℕ) × SizedHistory h [] t × (shapeOf t ≡ shapeFor n) × (length t ≡ m * n)
   begins n y m lo hi =
       let s : List ℕ = replicate (m * n) 0 in
       let long : length s ≡ m * n = length-replicate (m * n) 0 in
-      let w = answered h hash (formatTo n) s tt in
-      let whole : WholePages (shapeFor n) s = (m, long ∙ ap (λ z. m * z) (is-size n y), lo, hi) in
-      let made : MadeSized h (formatTo n) s formatted (w .1) = subst (λ o. MadeSized h (formatTo n) s o (w .1)) (succeeds h hash n s (w .0) (w .1) (w .2) y whole) (w .2) in
-      let f = format-accepted n s (w .1) made in
-      (w .1, starts n s made, f .1, f .4 ∙ long)
+      let w = formatted-to n y s (m, long ∙ ap (λ z. m * z) (is-size n y), lo, hi) in
+      (w .0, w .2, w .3, w .4 ∙ long)
+
+  anew : (rs : List Row) (s : List ℕ) → SizedHistory h rs s → (n : ℕ) → PageSize n → WholePages (shapeFor n) s
+      → (t : List ℕ) × MadeSized h (formatTo n) s formatted t × SizedHistory h [] t × (shapeOf t ≡ shapeFor n) × (length t ≡ length s)
+  anew rs s past n y whole = let w = formatted-to n y s whole in (w .0, w .1, goes-on (formatTo n) formatted past (w .1), w .3, w .4)
 
   refused-keeps : (c : SizedCall) (o : Out) (rs : List Row) → ok o ≡ false → survivingSized c o rs ≡ rs
   refused-keeps (formatTo n) o rs e = ap (λ b. pick b [] rs) e
@@ -146,6 +156,7 @@ module _ (h : List ℕ → ℕ) (hash : Hash h) where
   pub own-third : OwnThird h
   own-third = record {
     begins = begins;
+    anew = anew;
     refused-keeps = refused-keeps;
     afresh = afresh;
     same-refusals = same-refusals;

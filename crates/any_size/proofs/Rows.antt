@@ -31,7 +31,7 @@ row-for n = row-by (eqb n 4096) (eqb n 16384)
 pub said-for : (h : List ℕ → ℕ) (n : ℕ) (t : List ℕ) → Accepted (shapeFor n) h t → shapeOf t ≡ shapeFor n
 said-for h n t a = let r = row-for n in size-is-said (r .0) (r .1) h t (subst (λ S. Accepted S h t) (r .2) a) ∙ sym (r .2)
 
-number-at : (s : List ℕ) → shapeOf s ≡ shapeFor (le32 s 20)
+pub number-at : (s : List ℕ) → shapeOf s ≡ shapeFor (le32 s 20)
 unfolding shapeOf
 number-at s = refl
 

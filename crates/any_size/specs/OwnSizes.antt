@@ -15,7 +15,7 @@ use Rattle.partition.specs.Sizes.{size, shapeFor, shapeOf}
 use Rattle.store.specs.Pages.{S1024, pages, page, bucket, read, asRow, rowsHeld}
 use Rattle.store.specs.Accepted.{Page0, Accepted}
 use Rattle.store.specs.Moves.{pick}
-use Rattle.store.specs.Tables.{Out, formatted, Refusal1, PageSize, formatSized, rowTable, inspectTable}
+use Rattle.store.specs.Tables.{Out, refusedAt, formatted, Refusal1, PageSize, formatSized, rowTable, inspectTable}
 use Rattle.store.specs.Demands.{Hash, Call, format, check, count, lookup, remove, put, rowAt, inspect, Made, ok, WholePages, Faults, in-turn, faults, ExactlyWhen, Given, CheckExact, LookupIsMap, PutIsMap, RemoveIsMap, PutRefused, EitherAsBefore, ListedOnce, CountIsSize, RowIsListed, InspectIsSlot, PlaceComesBack, surviving, Afresh}
 use Rattle.store.specs.Choice.{PutChooses, RemoveChooses}
 
@@ -75,6 +75,8 @@ pub record OwnFirst (h : List ℕ → ℕ) : Type 0 where
   pub short-is-one : (s : List ℕ) → length s < 24 → Refusal1 (shapeOf s) s
   -- a bad size number counts as 1,024 for the length, and breaks the rule of page 0, at every size
   pub bad-number : (s : List ℕ) → (SizeNumber (le32 s 20) → ⊥) → (shapeOf s ≡ S1024) × ((n : ℕ) → Page0 (shapeFor n) s → ⊥)
+  -- so on whole pages of 1,024 bytes the check answers 2 with page 0
+  pub bad-number-told : (s : List ℕ) (o : Out) (t : List ℕ) → (SizeNumber (le32 s 20) → ⊥) → WholePages S1024 s → MadeSized h (on check) s o t → o ≡ refusedAt 2 0
   -- inspection takes a page of any of the three lengths, and no other
   pub three-lengths : (g : List ℕ) → (length g ≡ size (shapeFor (length g))) ↔ PageSize (length g)
 
@@ -117,6 +119,9 @@ pub data SizedHistory (h : List ℕ → ℕ) : List Row → List ℕ → Type 0 
 pub record OwnThird (h : List ℕ → ℕ) : Type 0 where
   -- a history begins at each size and with each number of pages that it allows
   pub begins : (n : ℕ) → PageSize n → (m : ℕ) → 3 ≤ m → m ≤ shapeFor n .entries + 2 → (t : List ℕ) × SizedHistory h [] t × (shapeOf t ≡ shapeFor n) × (length t ≡ m * n)
+  -- any history may go on with a format to a size of which its store is whole pages, and no row survives that
+  pub anew : (rs : List Row) (s : List ℕ) → SizedHistory h rs s → (n : ℕ) → PageSize n → WholePages (shapeFor n) s
+      → (t : List ℕ) × MadeSized h (formatTo n) s formatted t × SizedHistory h [] t × (shapeOf t ≡ shapeFor n) × (length t ≡ length s)
   -- a refused call changes nothing
   pub refused-keeps : (c : SizedCall) (o : Out) (rs : List Row) → ok o ≡ false → survivingSized c o rs ≡ rs
   -- after any history the store is what is worked out afresh, at its own size, from the rows that survive
