@@ -18,7 +18,7 @@ bytes c = now (c .before .before .args .page)
 
 -- the depth of the size that the length stands for
 few : (c : tie.After-shape-for) → c .shape-for .result .deepest ≤ 12
-few c = twelve (c .shape-for .result) (subst Sized (sym (c .shape-for .ensures)) (sized-for (length (bytes c))))
+few c = twelve (c .shape-for .result) (subst Sized (sym (c .shape-for .ensures)) (sized-for _))
 
 shape-for-requires : tie.Need-shape-for-requires
 shape-for-requires c κs = search needs
