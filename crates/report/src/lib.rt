@@ -15,7 +15,7 @@ mod rows;
 mod tally;
 
 // The most rows of a sheet.
-pub const LIMIT: usize = 20000;
+pub const LIMIT: usize = 200000;
 
 // A row of the sheet: the parts of a row place, and an amount in cents.
 #[repr(C)]
