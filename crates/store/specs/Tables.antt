@@ -11,7 +11,7 @@ use Rattle.page.specs.Page.{depth}
 use Rattle.partition.specs.Bits.{top}
 use Rattle.partition.specs.declared.Shape.{Shape}
 use Rattle.partition.specs.Partition.{Row, needs, rowsOf, buckets}
-use Rattle.partition.specs.Sizes.{shapeFor, sizeNumber}
+use Rattle.partition.specs.Sizes.{sizeNumber, shapeFor}
 use Rattle.page.specs.declared.Place.{Place}
 use Rattle.page.specs.Places.{place, stored, Negative}
 use Rattle.store.specs.declared.Refusal.{Refusal}
