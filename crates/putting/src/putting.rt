@@ -154,5 +154,5 @@ pub fn put(s: &mut [u8], key: &[u8], place: page::Place, mode: u64) -> store::An
     if p < s.len() / 1024 {
         return store::Answer::Refused(store::Refusal::BadPage(p));
     }
-    put_allowed(s, key, place, mode)
+    put_allowed(s, partition::S1024, key, place, mode)
 }

@@ -101,7 +101,7 @@ put-each-requires : tie.Need-put-each-requires
 put-each-requires c κs =
     let d = c .before .before in
     let f = d .before .before .before in
-    (sound d, a-mode (z (long (f .before)) .args .mode) (known-mode f), fit (f .before))
+    (record { sized = sized-1024; accepted = sound d; mode = a-mode (z (long (f .before)) .args .mode) (known-mode f) }, fit (f .before))
 
 same-length-8 : tie.Need-same-length-8
 same-length-8 c = search needs

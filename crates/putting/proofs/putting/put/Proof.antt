@@ -113,7 +113,7 @@ put-allowed-requires : tie.Need-put-allowed-requires
 put-allowed-requires c κs =
     let b = c .before in
     let d = b .before .before .before .before in
-    record { accepted = b .before .first-bad .ensures .sound (b .if5 .left); good = good (e d); natural = positive d }
+    record { sized = sized-1024; accepted = b .before .first-bad .ensures .sound (b .if5 .left); good = good (e d); natural = positive d }
 
 same-length-6 : tie.Need-same-length-6
 same-length-6 c = search needs
