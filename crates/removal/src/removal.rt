@@ -4,6 +4,7 @@ ghost use Rattle.ground.specs.Ladder.{Answers};
 ghost use Rattle.hash.specs.Fnv.{fnv};
 ghost use Rattle.store.specs.Pages.{S1024, contents};
 ghost use Rattle.store.specs.Accepted.{Accepted};
+ghost use Rattle.store.specs.Demands.{Sized};
 ghost use Rattle.store.specs.Moves.{removed};
 ghost use Rattle.store.specs.Tables.{Becomes, removeAccepted, removeTable, meaning};
 ghost use Rattle.removal.specs.Join.{Scratch};
@@ -59,6 +60,20 @@ pub fn remove_row(s: &mut [u8], z: Shape, key: &[u8], scratch: &mut [u8]) -> sto
     }
 }
 
+// The same with a page lent: of 1,024 bytes where the pages are no longer, so that these pay for no more, else of the largest size.
+fn remove_lent(s: &mut [u8], z: Shape, key: &[u8]) -> store::Answer
+    requires { ⌜ Sized z × Accepted z fnv (now s) ⌝ }
+    ensures { λ r. ⌜ Answers (removeAccepted z fnv (now (s .entry)) (now (key .entry))) (meaning r, now (s .exit)) ⌝ }
+{
+    let size = 8 + z.capacity;
+    if size <= 1024 {
+        let mut scratch = [0u8; 1024];
+        return remove_row(s, z, key, &mut scratch[0..size]);
+    }
+    let mut scratch = [0u8; 16384];
+    remove_row(s, z, key, &mut scratch[0..size])
+}
+
 // The row of a code goes; its place. Pages of 1,024 bytes.
 pub fn remove(s: &mut [u8], key: &[u8]) -> store::Answer
     ensures { λ r. ⌜ Answers (removeTable S1024 fnv (now (s .entry)) (now (key .entry))) (meaning r, now (s .exit)) ⌝ }
@@ -73,6 +88,5 @@ pub fn remove(s: &mut [u8], key: &[u8]) -> store::Answer
     if p < s.len() / 1024 {
         return store::Answer::Refused(store::Refusal::BadPage(p));
     }
-    let mut scratch = [0u8; 1024];
-    remove_row(s, partition::S1024, key, &mut scratch)
+    remove_lent(s, partition::S1024, key)
 }

@@ -66,11 +66,8 @@ returns-3 c =
     let d = c .before .before .before in
     inr ((λ _ n. n (long (earlier d))), inr ((λ _ r. no-three _ (good d) r), inl (c .before .first-bad .result, (c .before .first-bad .ensures .bad (c .if3 .taken), refl))))
 
-slice-aggregate-remove-row : tie.Need-slice-aggregate-remove-row
-slice-aggregate-remove-row c = search needs
-
-remove-row-requires : tie.Need-remove-row-requires
-remove-row-requires c κs = (record { sized = sized-1024; blank = refl }, c .before .before .before .first-bad .ensures .sound (c .before .before .if3 .left))
+remove-lent-requires : tie.Need-remove-lent-requires
+remove-lent-requires c κs = (sized-1024, c .before .before .first-bad .ensures .sound (c .before .if3 .left))
 
 same-length-4 : tie.Need-same-length-4
 same-length-4 c = search needs
@@ -78,10 +75,10 @@ same-length-4 c = search needs
 returns-4 : tie.Need-returns-4
 unfolding removeTable
 returns-4 c =
-    let b = c .before .before .before .before .before .before in
+    let b = c .before .before .before .before in
     let d = b .before .before .before in
     let a = b .before .first-bad .ensures .sound (b .if3 .left) in
-    inr ((λ _ n. n (long (earlier d))), inr ((λ _ r. no-three _ (good d) r), inr (accepted-whole S1024 fnv (now (z (earlier d) .args .s)) a, (a, c .before .before .before .remove-row .ensures .0))))
+    inr ((λ _ n. n (long (earlier d))), inr ((λ _ r. no-three _ (good d) r), inr (accepted-whole S1024 fnv (now (z (earlier d) .args .s)) a, (a, c .before .before .remove-lent .ensures))))
 
 pub remove-spec : {M : Type 1} → statement M
 remove-spec =
@@ -96,7 +93,6 @@ remove-spec =
     first-bad-requires
     same-length-3
     returns-3
-    slice-aggregate-remove-row
-    remove-row-requires
+    remove-lent-requires
     same-length-4
     returns-4)
