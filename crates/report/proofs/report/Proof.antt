@@ -49,7 +49,7 @@ use denote.Exit.{yes}
 use Rattle.report.specs.declared.SheetRow.{SheetRow}
 use Rattle.ground.specs.Ladder.{Answers}
 use Rattle.hash.specs.Fnv.{fnv}
-use Rattle.store.specs.Pages.{S1024}
+use Rattle.partition.specs.Sizes.{shapeOf}
 use Rattle.report.specs.declared.Outcome.{Outcome}
 use Rattle.report.specs.Numbers.{spreadFrom, numbersTable}
 use Rattle.report.specs.Report.{reported, reportTable}
@@ -145,9 +145,9 @@ module _ {M : Type 1} (𝓤 : URA M) (H : Heap 𝓤) (A : Atoms 𝓤) (W : Given
 
   -- what the callee promises of the words
   abbrev Numbered : List ℕ → ℕ → Outcome → Type 0
-  Numbered ws m r = Answers (numbersTable S1024 fnv (ls .now) ws m) (reported r)
+  Numbered ws m r = Answers (numbersTable (shapeOf (ls .now)) fnv (ls .now) ws m) (reported r)
 
-  exits : (r : Outcome) (u : Val) → Answers (reportTable S1024 fnv (ls .now) (sh .now)) (reported r) → ent 𝓤 (⋆ 𝓤 H A (‵ (Q .own r (u ∷ [])) ∷ ‵ (flft κ₁ q₁) ∷ ‵ (flft κ₂ q₂) ∷ ‵ Store ∷ ‵ Sheet ∷ [])) (Post u)
+  exits : (r : Outcome) (u : Val) → Answers (reportTable (shapeOf (ls .now)) fnv (ls .now) (sh .now)) (reported r) → ent 𝓤 (⋆ 𝓤 H A (‵ (Q .own r (u ∷ [])) ∷ ‵ (flft κ₁ q₁) ∷ ‵ (flft κ₂ q₂) ∷ ‵ Store ∷ ‵ Sheet ∷ [])) (Post u)
   exits r u e =
       qed W (‵ (Q .own r (u ∷ [])) ∷ ‵ (flft κ₁ q₁) ∷ ‵ (flft κ₂ q₂) ∷ ‵ Store ∷ ‵ Sheet ∷ []) ∵
       suffices ! _ (ends-at 𝓤 H A f.ended stayed (f.clauses 𝓤 H A at-mem run) W bound u r (tt, (tt, tt)) (tt, (tt, tt))) $ says ! e $
@@ -237,8 +237,8 @@ module _ {M : Type 1} (𝓤 : URA M) (H : Heap 𝓤) (A : Atoms 𝓤) (W : Given
         room : (ws : List ℕ) → length ws ≡ 40000 → Room u64 (length ws)
         room ws e = subst (Room u64) (sym e) (lit< tt, lit< tt)
 
-        told : (r : ℕ) (ws : List ℕ) (r′ : Outcome) → (r ≡ length (sh .now)) × (ws ≡ spreadFrom 0 (sh .now) zeros) → Numbered ws r r′ → Answers (reportTable S1024 fnv (ls .now) (sh .now)) (reported r′)
-        told r ws r′ e a = refines S1024 fnv (ls .now) (sh .now) (reported r′)
+        told : (r : ℕ) (ws : List ℕ) (r′ : Outcome) → (r ≡ length (sh .now)) × (ws ≡ spreadFrom 0 (sh .now) zeros) → Numbered ws r r′ → Answers (reportTable (shapeOf (ls .now)) fnv (ls .now) (sh .now)) (reported r′)
+        told r ws r′ e a = refines (shapeOf (ls .now)) fnv (ls .now) (sh .now) (reported r′)
             (subst (λ (zs : List ℕ). Numbered (spreadFrom 0 (sh .now) zs) (length (sh .now)) r′) are (subst (λ (vs : List ℕ). Numbered vs (length (sh .now)) r′) (e .1) (subst (λ (m : ℕ). Numbered ws m r′) (e .0) a)))
 
 module _ {M : Type 1} (𝓤 : URA M) (H : Heap 𝓤) (A : Atoms 𝓤) (W : Given 𝓤 H A) (mem : Memory → SProp 𝓤) (run : Routine → Fun 𝓤) where
