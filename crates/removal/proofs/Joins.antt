@@ -1,12 +1,12 @@
 -- The gathered rows, packed into the lowest-numbered page of the prefix. Over any page size. Assumes nothing.
-use mathlib.Core.Path.{_≡_, sym, ap, subst, subst₂, _∙_}
+use mathlib.Core.Path.{_≡_, refl, sym, ap, subst, subst₂, _∙_}
 use mathlib.Core.Logic.{⊎-elim}
-use mathlib.Core.List.{List, [], _++_, map}
-use Prim.Native.Nat.{ℕ, _+_, _-_, _*_, _/_, _≤_, _<_}
+use mathlib.Core.List.{List, [], _∷_, _++_, map}
+use Prim.Native.Nat.{ℕ, zero, suc, _+_, _-_, _*_, _/_, _≤_, _<_}
 use native.Mathlib.Omega.{arith}
 use native.Mathlib.Nat.{mul-le-mul-right}
 use native.Mathlib.Decide.{ℕ-discrete}
-use lib.ListN.{length, set}
+use lib.ListN.{length, set, take, drop, replicate}
 use Rattle.ground.specs.Lists.{tab}
 use Rattle.ground.proofs.Sides.{side}
 use Rattle.page.specs.Page.{BucketPage, count, depth, rowAt}
@@ -24,6 +24,15 @@ use Rattle.directory.specs.Directory.{SoundPage, used}
 use Rattle.removal.specs.Join.{Housed, Taking, Gathered, rowsAt, othersIn, Emptied, Joinable, Rejoined}
 use Rattle.removal.proofs.Prefixes.{many, listed}
 use Rattle.removal.proofs.Empties.{emptied-sound, emptied-holds}
+
+-- the first n of the zeros that are lent are n zeros
+pub lent-blank : (m n : ℕ) → n ≤ m → take {A = ℕ} (n - 0) (drop 0 (replicate m 0)) ≡ replicate n 0
+lent-blank m n b = let e : n - 0 ≡ n = omega arith in ap (λ k. take {A = ℕ} k (replicate m 0)) e ∙ go m n b
+  where
+    go : (m n : ℕ) → n ≤ m → take {A = ℕ} n (replicate m 0) ≡ replicate n 0
+    go m zero b = refl
+    go zero (suc n) b = absurd (omega arith)
+    go (suc m) (suc n) b = ap {B = List ℕ} (λ l. 0 ∷ l) (go m n (omega arith))
 
 no-rows : (g : List ℕ) → count g ≡ 0 → rowsAt g ≡ []
 unfolding tab
