@@ -287,7 +287,7 @@ module _ (S : Shape) (sized : Sized S) (h : List ℕ → ℕ) (hash : Hash h) (s
 
       module _ {t : List ℕ} (R : Rejoined S h s (pages S s) j v c t) where
         pub join-written : Rewritten S s t
-        join-written = record { long = R .long; low = R .low; sound = R .sound }
+        join-written = record { long = R .long; low = λ i l. R .low i (omega arith); sound = R .sound }
 
         pub join-holds : contents S t ≡ removed S h gs c
         unfolding packed
