@@ -3,11 +3,14 @@ use mathlib.Core.Path.{_≡_, refl, sym, ap, subst, subst₂, _∙_}
 use mathlib.Core.List.{List, [], _∷_, _++_, map, List·Memᴰ}
 use mathlib.Core.Logic.{⊎-elim}
 use mathlib.Core.Option.{some}
-use Prim.Native.Nat.{ℕ, suc, _+_, _-_, _*_, _≤_, _<_}
+use Prim.Native.Nat.{ℕ, suc, _+_, _-_, _*_, _^_, _≤_, _<_}
 use native.Mathlib.Omega.{arith}
 use native.Mathlib.Nat.{mul-le-mul-right}
 use native.Mathlib.Decide.{ℕ-discrete}
 use lib.ListN.{length, getD, set, replicate, length-replicate, length-map}
+use lib.Pow.{pow-mono}
+use borrow.Author.Tests.{eqb-true}
+use Rattle.ground.proofs.Tests.{untrue}
 use Rattle.ground.specs.Lists.{byte}
 use Rattle.ground.proofs.Sides.{side}
 use Rattle.ground.proofs.Tables.{length-tab}
@@ -15,9 +18,11 @@ use Rattle.page.specs.Page.{Slotted, BucketPage, depth, count, code, place, row
 use Rattle.page.specs.Steps.{Removed}
 use Rattle.page.proofs.Sums.{len-of-code}
 use Rattle.partition.specs.Bits.{top}
-use Rattle.partition.specs.Partition.{Row, need, needs, rowsOf, IsBucket, Reordered}
+use Rattle.partition.specs.Partition.{Row, need, needs, rowsOf, IsBucket, first, after as after-last, Reordered}
+use Rattle.partition.proofs.Directory.{holds-range}
+use Rattle.partition.proofs.Tree.{pfx}
 use Rattle.partition.specs.Listing.{without, placeOf, Once}
-use Rattle.partition.proofs.Bits.{top-step}
+use Rattle.partition.proofs.Bits.{top-step, top-lt}
 use Rattle.partition.proofs.Laws.{Shallowest, share-fewer, bucket-shallowest}
 use Rattle.partition.proofs.Maps.{cut, cut-none, cut-front, cut-length, cut-same, cut-gone, once-remove}
 use Rattle.partition.proofs.Path.{fit-above}
@@ -26,7 +31,7 @@ use Rattle.partition.proofs.Rising.{tab-in, tab-member, without-member, without
 use Rattle.partition.proofs.Rows.{load, load-mono, rows-on, some-need}
 use Rattle.partition.proofs.Sorted.{by-code, order-same, some-none, some-once}
 use Rattle.partition.specs.declared.Shape.{Shape}
-use Rattle.store.specs.Pages.{size, pages, Page, free, bucket, page, contents, asRow, rowsHeld, deepestIn, setPage}
+use Rattle.store.specs.Pages.{size, pages, Page, free, bucket, page, dirDepth, contents, asRow, rowsHeld, deepestIn, setPage}
 use Rattle.store.specs.Accepted.{Bucket, Stands, unused, used}
 use Rattle.store.specs.Moves.{pick, find, holds, within, packFrom, packed, clearedOn, removed}
 use Rattle.store.specs.Tables.{Becomes}
@@ -34,8 +39,9 @@ use Rattle.store.specs.Demands.{Sized, Hash}
 use Rattle.store.proofs.Accepted.Rules.{opened}
 use Rattle.store.proofs.Showing.Shows.{firstCode, prefixOn, Holding, Shows}
 use Rattle.store.proofs.Showing.Shown.{within-on, within-pages, find-least}
-use Rattle.store.proofs.Accepted.Unique.{read-used, held, page-long}
-use Rattle.store.proofs.Showing.Showing.{first-of, first-code, accepted-shows}
+use Rattle.store.proofs.Accepted.Unique.{read-zero, read-used, held, page-long}
+use Rattle.store.proofs.Accepted.Owner.{entry-within}
+use Rattle.store.proofs.Showing.Showing.{first-of, first-code, calls-top, accepted-shows}
 use Rattle.store.proofs.Showing.Known.{Known, only-page}
 use Rattle.store.proofs.Showing.Holder as Holder
 use Rattle.store.proofs.Showing.Rooms.{bucket-one}
@@ -46,11 +52,12 @@ use Rattle.store.proofs.Accepted.Accepting.{Laid, accepted-laid, laid-becomes}
 use Rattle.store.proofs.Paging.PageTies.{row-in, zeros, read-cleared, page-once, found-at, removed-rows}
 use Rattle.store.proofs.Paging.Views.{set-long, set-same, set-other, set-below, set-contents}
 use Rattle.directory.specs.Directory.{Directed, SoundPage, free as vacant, used as occupied, Rewritten}
-use Rattle.removal.specs.Prefix.{Climbed}
-use Rattle.removal.specs.Join.{othersIn, Joinable, Rejoined}
+use Rattle.removal.specs.Prefix.{NamedIn, Climbed}
+use Rattle.removal.specs.Join.{othersIn, RunNames, Joinable, Rejoined}
 use Rattle.removal.specs.Remove.{Leaving, rowsLeft, Fits}
 use Rattle.directory.proofs.OnePage.{laid-set}
 use Rattle.directory.proofs.Settles.{unwritten, settling, settled}
+use Rattle.removal.proofs.Prefixes.{within-used}
 use Rattle.removal.proofs.Gathers.{cut-append, cut-same as cut-key}
 
 module _ (S : Shape) (sized : Sized S) (h : List ℕ → ℕ) (hash : Hash h) (s : List ℕ) (p i : ℕ) (c : List ℕ) (L : Leaving S h s p i c) where
@@ -98,6 +105,14 @@ module _ (S : Shape) (sized : Sized S) (h : List ℕ → ℕ) (hash : Hash h) (s
 
   begins : prefixOn h k (rows g) ≡ top k x
   begins = subst₂ (λ d r. prefixOn h d r ≡ top d x) (same .0) (same .1) (its .begins)
+
+  -- it is not deeper than the directory
+  pub page-low : depth (page S s p) ≤ dirDepth s
+  page-low = go (opened S h s (L .accepted) .stands p (L .from) (L .to))
+    where
+      go : Stands S h s p → k ≤ dirDepth s
+      go (unused z _) = absurd (omega (arith, z 0, slotted .one))
+      go (used _ l _) = l
 
   -- a bucket page is not deeper than there can be
   pub page-shallow : SoundPage S (page S s p) → depth (page S s p) ≤ S .deepest
@@ -270,10 +285,35 @@ module _ (S : Shape) (sized : Sized S) (h : List ℕ → ℕ) (hash : Hash h) (s
         slotted .long i (L .slot),
       )
 
-      pub joinable : Joinable S h s (pages S s) j v c
-      joinable = record {
-        sound = settling S sized h hash s (L .accepted) s before;
-        bits = omega (arith, less, page-shallow (before .sound p (L .from) (L .to)));
+      -- a page of the prefix is named by an entry of the prefix's run
+      run-names : RunNames S h s (pages S s) j v (first (dirDepth s) (pfx j v)) (after-last (dirDepth s) (pfx j v))
+      run-names q from to e = go (opened S h s (L .accepted) .stands q from to)
+        where
+          go : Stands S h s q → NamedIn S s (first (dirDepth s) (pfx j v)) (after-last (dirDepth s) (pfx j v)) q
+          go (unused z _) = absurd (untrue (sym (ap (within h j v) (read-zero (page S s q) z)) ∙ e))
+          go (used b low f) =
+              let y : ℕ = h (code (page S s q) 0) in
+              let d : ℕ = dirDepth s in
+              let m = depth (page S s q) in
+              let t : top j y ≡ v = eqb-true (top j y) v (sym (within-used h j v (page S s q) (b .rules)) ∙ e) in
+              let r = holds-range d (top d y) (pfx j v) .0 (calls-top d j v y (omega (arith, less, page-low)) (top-lt x j (hash c)) t .bits) in
+              record {
+                entry = top d y;
+                from = r .0;
+                to = r .1;
+                names = f (top d y) (entry-within S h sized hash s (opened S h s (L .accepted) .page0 .depth) y (hash (code (page S s q) 0))) .1
+                    (calls-top d m (top m y) y low (top-lt y m (hash (code (page S s q) 0))) refl);
+              }
+
+      pub joinable : (from to : ℕ) → from ≡ first (dirDepth s) (pfx j v) → to ≡ after-last (dirDepth s) (pfx j v) → to ≤ 2 ^ dirDepth s → Joinable S h s (pages S s) j v from to c
+      joinable from to e f l = record {
+        prefix = record {
+          sized = sized;
+          sound = settling S sized h hash s (L .accepted) s before;
+          bits = omega (arith, less, page-shallow (before .sound p (L .from) (L .to)));
+          entries = let m : 2 ^ dirDepth s ≤ 2 ^ S .deepest = pow-mono (opened S h s (L .accepted) .page0 .depth) in omega (arith, l, sized .deep);
+          named = subst₂ (RunNames S h s (pages S s) j v) (sym e) (sym f) run-names;
+        };
         housed = record { once = once; fit = omega (arith, needs-same others-left, F .fit) };
         some = omega (arith, needs-same others-left, positive);
         there = omega (arith, find-least (within h j v) gs (p - 2) inside (ap (within h j v) holding ∙ within-on h j v k (rows g) (shows .page (p - 2) k (rows g) holding .some) .1 (share-fewer (h (firstCode (rows g))) x j k (omega arith) begins)), inside);

@@ -28,7 +28,18 @@ fn take_out(s: &mut [u8], z: Shape, p: usize, i: usize, key: &[u8], scratch: &mu
     let x = hash::hash(key);
     let j = climb(s, z, x, k, 12 + key.len());
     if j < k {
-        join(s, z, n, j, partition::top_bits(x, j), key, scratch);
+        let run = partition::run_of(x, j, words::get32(s, 16) as u32);
+        join(
+            s,
+            z,
+            n,
+            j,
+            partition::top_bits(x, j),
+            run.from,
+            run.to,
+            key,
+            scratch,
+        );
         settle(s, z, n);
         return;
     }

@@ -2,8 +2,9 @@
 use borrow.Author.Needs.{needs}
 use mathlib.Core.List.{_++_, List}
 use mathlib.Core.Path.{_≡_, refl, sym, ap, subst, subst₂, _∙_}
-use Prim.Native.Nat.{ℕ, _+_, _-_, _*_, _≤_, _<_}
+use Prim.Native.Nat.{ℕ, _+_, _-_, _*_, _^_, _≤_, _<_}
 use native.Mathlib.Omega.{arith}
+use native.Mathlib.Nat.{mul-le-mul-right}
 use lib.ListN.{take, drop, length, replicate}
 use denote.Ref.{now}
 use Rattle.ground.specs.Lists.{byte}
@@ -12,20 +13,21 @@ use Rattle.page.proofs.Sums.{len-of-code}
 use Rattle.page.specs.Steps.{Removed}
 use Rattle.page.specs.Page.{depth, count}
 use Rattle.partition.specs.Bits.{top}
-use Rattle.partition.specs.Partition.{IsBucket}
+use Rattle.partition.specs.Partition.{IsBucket, first, after}
+use Rattle.store.proofs.Accepted.Rules.{opened}
 use Rattle.store.proofs.Accepted.Unique.{page-long, within}
 use Rattle.store.specs.Tables.{Becomes}
 use Rattle.store.specs.Moves.{removed}
 use Rattle.partition.specs.declared.Shape.{Shape}
 use Rattle.partition.proofs.Sizes.{twelve}
-use Rattle.store.specs.Pages.{size, pages, Page, page, contents, rowsHeld, deepestIn, setPage}
+use Rattle.store.specs.Pages.{size, pages, Page, page, dirDepth, contents, rowsHeld, deepestIn, setPage}
 use Rattle.store.specs.Demands.{Sized}
 use Rattle.removal.specs.Remove.{Leaving, Fits}
 use Rattle.removal.specs.Join.{Joinable, Rejoined}
 use Rattle.removal.specs.Prefix.{Climbed}
 use Rattle.directory.specs.Directory.{Settling, Directed, Rewritten}
 use Rattle.directory.proofs.Settles.{unwritten, settling}
-use Rattle.removal.proofs.Removes.{page-shallow, its-bucket, climbed-fits, loses, settles, clear-written, clear-holds, joinable, join-written, join-holds}
+use Rattle.removal.proofs.Removes.{page-low, page-shallow, its-bucket, climbed-fits, loses, settles, clear-written, clear-holds, joinable, join-written, join-holds}
 use Rattle.store.proofs.Paging.Depths.{page-byte}
 use Rattle.store.proofs.Paging.Views.{page-lent, page-back}
 use Rattle.removal.proofs.removal.take_out.Statement.{statement}
@@ -165,22 +167,52 @@ climb-requires c κs = let z = c .before .before .before .before .before .before
   },
 )
 
+-- the directory's depth
+module _ (e : tie.After-get32) where
+  abbrev b₃ : tie.After-climb
+  b₃ = e .before .before .before
+
+  abbrev z₃ : tie.Start
+  z₃ = z₁ b₃
+
+  deep-read : e .get32 .result ≡ dirDepth (s z₃)
+  deep-read = e .get32 .ensures .0
+
+  deep-low : e .get32 .result ≤ S z₃ .deepest
+  deep-low = omega (arith, deep-read, opened (S z₃) fnv (s z₃) (L z₃ .accepted) .page0 .depth)
+
+get32-requires : tie.Need-get32-requires
+get32-requires c κs = let z = z₁ (c .before .before) in omega (arith, inside z, mul-le-mul-right (size (S z)) (L z .from), sized z .least)
+
+cast-run-of : tie.Need-cast-run-of
+cast-run-of c = omega (arith, deep-low c, twelve (S (z₃ c)) (sized (z₃ c)))
+
+run-of-requires : tie.Need-run-of-requires
+run-of-requires c κs =
+    let z = z₃ c in
+    let b = b₃ c in
+    (omega (arith, deep-read c, less b (c .before .before .if1 .taken), page-low (S z) (sized z) fnv fnv-lt (s z) (p z) (z .args .i) (key z) (L z)), omega (arith, deep-low c, twelve (S z) (sized z)))
+
 top-bits-requires : tie.Need-top-bits-requires
-top-bits-requires c κs = let b = c .before .before in omega (arith, climbed b .most, shallow (z₁ b), twelve (S (z₁ b)) (sized (z₁ b)))
+top-bits-requires c κs = let b = c .before .before .before .before .before in omega (arith, climbed b .most, shallow (z₁ b), twelve (S (z₁ b)) (sized (z₁ b)))
 
 join-requires : tie.Need-join-requires
-join-requires c κs = let b = c .before .before .before .before in
+join-requires c κs = let b = c .before .before .before .before .before .before .before in
     let z = z₁ b in
-    let v = c .before .top-bits in (
+    let v = c .before .top-bits in
+    let r = c .before .before .before .run-of in
+    let d = deep-read (c .before .before .before .before) in
+    let x = b .before .before .hash .ensures in (
       z .pre .0,
-      subst (λ v. Joinable (S z) fnv (s z) (n z) (j b) v (key z)) (sym (bits b (v .result) (v .ensures)))
-          (joinable (S z) (sized z) fnv fnv-lt (s z) (p z) (z .args .i) (key z) (L z) (j b) (fits b) (less b (c .before .before .before .if1 .taken))),
+      subst (λ v. Joinable (S z) fnv (s z) (n z) (j b) v (r .result .from) (r .result .to) (key z)) (sym (bits b (v .result) (v .ensures)))
+          (joinable (S z) (sized z) fnv fnv-lt (s z) (p z) (z .args .i) (key z) (L z) (j b) (fits b) (less b (c .before .before .before .before .before .before .if1 .taken)) (r .result .from) (r .result .to)
+          (r .ensures .0 ∙ (λ i. first (d i) (record { bits = j b; value = top (j b) (x i) }))) (r .ensures .1 ∙ (λ i. after (d i) (record { bits = j b; value = top (j b) (x i) }))) (subst (λ m. r .result .to ≤ 2 ^ m) d (r .ensures .3))),
     )
 
 settle-requires : tie.Need-settle-requires
 settle-requires c κs =
     let t = c .before .before .before .before .before .join .ensures .0 in
-    let z = z₁ (c .before .before .before .before .before .before .before .before .before .before) in
+    let z = z₁ (c .before .before .before .before .before .before .before .before .before .before .before .before .before) in
     let P = sound z in
     (sized z, record { long = t .long ∙ P .long; least = P .least; most = P .most; pages = t .sound })
 
@@ -191,11 +223,11 @@ same-length-2 : tie.Need-same-length-2
 same-length-2 c = search needs
 
 returns : tie.Need-returns
-returns c = let b = c .before .before .before .before .before .before .before .before .before .before .before .before .before in
+returns c = let b = c .before .before .before .before .before .before .before .before .before .before .before .before .before .before .before .before in
     let z = z₁ b in
     let t = c .before .before .before .before .before .before .before .before .join in
     let v = c .before .before .before .before .before .before .before .before .before .before .top-bits in
-    let l = less b (c .before .before .before .before .before .before .before .before .before .before .before .before .if1 .taken) in
+    let l = less b (c .before .before .before .before .before .before .before .before .before .before .before .before .before .before .before .if1 .taken) in
     let R = subst (λ v. Rejoined (S z) fnv (s z) (n z) (j b) v (key z) (t .last .0)) (bits b (v .result) (v .ensures)) (t .ensures .0) in (
       settles (S z) (sized z) fnv fnv-lt (s z) (p z) (z .args .i) (key z) (L z) (j b) (fits b)
           (join-written (S z) (sized z) fnv fnv-lt (s z) (p z) (z .args .i) (key z) (L z) (j b) (fits b) l R)
@@ -293,6 +325,9 @@ take-out-spec =
     hash-requires
     add-climb
     climb-requires
+    get32-requires
+    cast-run-of
+    run-of-requires
     top-bits-requires
     join-requires
     settle-requires
