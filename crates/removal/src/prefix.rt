@@ -40,11 +40,14 @@ pub fn is_of(s: &[u8], z: Shape, p: usize, j: u32, v: u64, a: usize, b: usize) -
     requires { ⌜ PageTested z fnv (now s) p j v a b ⌝ }
     ensures { λ r. ⌜ r ≡ within fnv j v (read (pageOf z (now (s .entry)) p)) ⌝ }
 {
+    let size = 8 + z.capacity;
+    let start = p * size;
+    if s[start] == 0 {
+        return false;
+    }
     if !is_named(s, z, p, a, b) {
         return false;
     }
-    let size = 8 + z.capacity;
-    let start = p * size;
     let end = start + size;
     is_within(&s[start..end], j, v)
 }
