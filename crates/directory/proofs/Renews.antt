@@ -1,6 +1,7 @@
 -- An accepted store whose pages of one prefix are written anew, and their entries with them: the directory is that of the pages. Over any page size. Assumes nothing.
 use mathlib.Core.Path.{_≡_, refl, sym, subst}
-use mathlib.Core.List.{List}
+use mathlib.Core.List.{List, [], _∷_, List·Memᴰ, List·Memᴰ·head}
+use lib.ListN.{length}
 use mathlib.Core.Logic.{_⊎_, inl, inr}
 use Prim.Native.Nat.{ℕ, _+_, _-_, _/_, _^_, _≤_, _<_}
 use native.Mathlib.Omega.{arith}
@@ -8,13 +9,19 @@ use native.Mathlib.Decide.{ℕ-discrete}
 use Rattle.ground.specs.Lists.{byte}
 use Rattle.ground.proofs.Sides.{side}
 use Rattle.words.specs.Le.{le16, le32}
+use Rattle.partition.specs.Bits.{top}
+use Rattle.partition.specs.Partition.{Row}
 use Rattle.partition.specs.declared.Shape.{Shape}
-use Rattle.store.specs.Pages.{size, pages, page, dirDepth, entryAt}
+use Rattle.store.specs.Moves.{packFrom}
+use Rattle.store.proofs.Showing.Shows.{firstCode}
+use Rattle.store.specs.Pages.{size, pages, page, dirDepth, entryAt, contents}
 use Rattle.store.specs.Accepted.{Stands, unused, used, Calls, Accepted}
 use Rattle.store.specs.Demands.{Sized}
 use Rattle.store.proofs.Accepted.Rules.{opened}
-use Rattle.directory.specs.Directory.{CallsFor, EntryFor, none, names, Directed, Rewritten}
-use Rattle.directory.proofs.Directories.{calls-same}
+use Rattle.store.proofs.Accepted.Unique.{within}
+use Rattle.store.proofs.Accepted.Accepting.{contents-kept}
+use Rattle.directory.specs.Directory.{CallsFor, EntryFor, none, names, SoundPage, PrefixNamed, Directed, Rewritten}
+use Rattle.directory.proofs.Directories.{page-above, calls-same}
 
 -- t is s with the pages of the prefix v of k bits written anew, of n pages, and with the entries that the prefix calls for in a directory of depth d
 pub record Renewed (S : Shape) (h : List ℕ → ℕ) (s : List ℕ) (d n k v : ℕ) (t : List ℕ) : Type 0 where
@@ -87,3 +94,20 @@ module _ (S : Shape) (sized : Sized S) (h : List ℕ → ℕ) (s : List ℕ) (A 
         entry : (i : ℕ) → i < S .entries → Calls d k v i ⊎ (Calls d k v i → ⊥) → EntryFor S h t d (pages S s) i (entryAt S t i)
         entry i l (inl c) = R .own i l c
         entry i l (inr n) = subst (EntryFor S h t d (pages S s) i) (sym (R .others i l n)) (kept i (entryAt S s i) n (entry-now i l))
+
+-- the directory's page written, the pages are as they were
+module _ (S : Shape) (s t : List ℕ) (d k v p : ℕ) (N : PrefixNamed S s d k v p t) where
+  pub prefix-pages : (q : ℕ) → 2 ≤ q → q < pages S s → page S t q ≡ page S s q
+  prefix-pages q a b = page-above S s t q a (within S s q b) (N .old .len) (λ i m. N .old .above i (omega arith))
+
+  pub prefix-holds : contents S t ≡ contents S s
+  prefix-holds = contents-kept S s t (N .old .len) (λ i m. N .old .above i (omega arith))
+
+  pub prefix-kept : Rewritten S s s → Rewritten S s t
+  prefix-kept W = record { long = N .old .len; low = λ i l. N .old .below i l; sound = λ q a b. subst (SoundPage S) (sym (prefix-pages q a b)) (W .sound q a b) }
+
+-- the first code's hash has the bucket's bits
+pub packed-bits : (h : List ℕ → ℕ) (k v : ℕ) (l : List Row) → ((r : Row) → List·Memᴰ r l → top k (h (r .code)) ≡ v) → 0 < length (packFrom 8 l) → top k (h (firstCode (packFrom 8 l))) ≡ v
+unfolding packFrom
+packed-bits h k v [] f z = absurd (omega arith)
+packed-bits h k v (r ∷ l) f z = f r (List·Memᴰ·head refl)

@@ -38,13 +38,13 @@ use Rattle.store.proofs.Put.EveryStep.{Roomy}
 use Rattle.directory.specs.Directory.{CallsFor, EntryFor, none as unnamed, names, PrefixNamed, Directed, Rewritten}
 use Rattle.directory.proofs.Directories.{calls-same}
 use Rattle.directory.proofs.Laying.{directable}
-use Rattle.directory.proofs.Renews.{one-calls, renewed}
+use Rattle.directory.proofs.Renews.{prefix-pages, prefix-holds, prefix-kept, one-calls, renewed}
 use Rattle.putting.specs.Put.{newRow, Puttable, Crowded}
 use Rattle.putting.specs.Split.{keyed, withNew, below, Source, takenNext, Room, NewPage, pagesBelow, Writable, BucketsWritten}
 use Rattle.putting.proofs.Puts.{home-page, begins}
 use Rattle.putting.proofs.Weighs.{load-any, below-shared, below-all}
 use Rattle.directory.proofs.Settles.{unwritten, settling, settled}
-use Rattle.putting.proofs.Splits.{first-given, rewritten-then, rewritten-self, prefix-pages, prefix-holds, prefix-kept, long-then}
+use Rattle.putting.proofs.Splits.{first-given, rewritten-then, rewritten-self, long-then}
 
 module _ (S : Shape) (h : List ℕ → ℕ) (hash : Hash h) (s : List ℕ) (p i : ℕ) (c pl : List ℕ) (C : Crowded S h s p i c pl) where
   abbrev P : Puttable S h s c pl

@@ -1,7 +1,7 @@
 -- Entries named while buckets are written down the prefixes: what each step of the recursion leaves, and that the directory is then that of the pages. Over any page size and hash.
 -- Assumes nothing.
 use mathlib.Core.Path.{_≡_, refl, sym, ap, subst, subst₂, _∙_}
-use mathlib.Core.List.{List, [], _∷_, List·Memᴰ, List·Memᴰ·head}
+use mathlib.Core.List.{List}
 use mathlib.Core.Logic.{_⊎_, inl, inr, ⊎-elim}
 use Prim.Native.Nat.{ℕ, zero, suc, _+_, _-_, _*_, _/_, _^_, _≤_, _<_}
 use native.Mathlib.Omega.{arith}
@@ -30,6 +30,7 @@ use Rattle.store.proofs.Accepted.Unique.{within}
 use Rattle.store.proofs.Paging.Views.{set-long, set-same, set-other, set-entry}
 use Rattle.directory.specs.Directory.{CallsFor, PrefixNamed}
 use Rattle.directory.proofs.Directories.{page-above, calls-same}
+use Rattle.directory.proofs.Renews.{packed-bits}
 use Rattle.putting.specs.Split.{Bucketed, NewPage, NewEntry, EntriesWritten, NamedIf}
 
 -- ---- a prefix and its halves
@@ -161,12 +162,6 @@ module _ (S : Shape) (h : List ℕ → ℕ) (d k v : ℕ) (fits : 2 ^ d ≤ S .e
       (side 0 p)
 
 -- ---- one bucket
-
--- the first code's hash has the bucket's bits
-packed-bits : (h : List ℕ → ℕ) (k v : ℕ) (l : List Row) → ((r : Row) → List·Memᴰ r l → top k (h (r .code)) ≡ v) → 0 < length (packFrom 8 l) → top k (h (firstCode (packFrom 8 l))) ≡ v
-unfolding packFrom
-packed-bits h k v [] f z = absurd (omega arith)
-packed-bits h k v (r ∷ l) f z = f r (List·Memᴰ·head refl)
 
 module _ (S : Shape) (sized : Sized S) (h : List ℕ → ℕ) (rs : List Row) (s : List ℕ) (d k v at n : ℕ) (fits : 2 ^ d ≤ S .entries) (two : 2 ≤ n) (to : n < pages S s) (g q : List ℕ)
     (Q : Bucketed h rs k v g q) (size-q : length q ≡ size S) (was : byte (page S s n) 0 ≡ 1 → n ≡ at) (its : 0 < at → n ≡ at) (t : List ℕ) (F : NamedIf S (setPage S s n q) d k v n t) where

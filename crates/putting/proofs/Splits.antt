@@ -1,5 +1,5 @@
 -- Buckets written one after another down the prefixes: what each step of the recursion asks and leaves. Over any page size and hash. Assumes nothing.
-use Rattle.directory.specs.Directory.{SoundPage, PrefixNamed, Rewritten}
+use Rattle.directory.specs.Directory.{Rewritten}
 use mathlib.Core.Path.{_≡_, refl, sym, ap, subst, _∙_}
 use mathlib.Core.Bool.{true≢false}
 use mathlib.Core.List.{List, [], _∷_, _++_, map, map-append}
@@ -17,12 +17,11 @@ use Rattle.store.specs.Pages.{size, pages, page, Page, free, bucket, contents, 
 use Rattle.store.specs.Accepted.{GoodLength}
 use Rattle.store.specs.Moves.{find, isFree, packed, written, frees}
 use Rattle.putting.specs.Split.{below, Bucketed, takenNext, untaken, Room, pagesBelow, Writable, NamedIf, BucketsWritten}
-use Rattle.store.proofs.Accepted.Unique.{page-long, within}
-use Rattle.store.proofs.Accepted.Accepting.{contents-kept}
+use Rattle.store.proofs.Accepted.Unique.{page-long}
 use Rattle.store.proofs.Showing.Rooms.{find-free}
 use Rattle.store.proofs.Paging.Depths.{kind-byte}
-use Rattle.directory.proofs.Directories.{page-above}
 use Rattle.directory.proofs.Frees.{used-page}
+use Rattle.directory.proofs.Renews.{prefix-holds, prefix-kept}
 use Rattle.putting.proofs.Renames.{none-named, one-named, both-named}
 use Rattle.directory.proofs.Settles.{rewritten-set, set-holds}
 use Rattle.putting.proofs.Weighs.{below-none, below-one, below-deep, below-two, double}
@@ -82,17 +81,6 @@ rewritten-then S s t u A B = record {
 
 pub rewritten-self : (S : Shape) (s t : List ℕ) → Rewritten S s t → Rewritten S t t
 rewritten-self S s t A = record { long = refl; low = λ k l. refl; sound = λ p a b. A .sound p a (subst (λ n. p < n / size S) (A .long) b) }
-
--- the directory's page written, the pages are as they were
-module _ (S : Shape) (s t : List ℕ) (d k v p : ℕ) (N : PrefixNamed S s d k v p t) where
-  pub prefix-pages : (q : ℕ) → 2 ≤ q → q < pages S s → page S t q ≡ page S s q
-  prefix-pages q a b = page-above S s t q a (within S s q b) (N .old .len) (λ i m. N .old .above i (omega arith))
-
-  pub prefix-holds : contents S t ≡ contents S s
-  prefix-holds = contents-kept S s t (N .old .len) (λ i m. N .old .above i (omega arith))
-
-  pub prefix-kept : Rewritten S s s → Rewritten S s t
-  prefix-kept W = record { long = N .old .len; low = λ i l. N .old .below i l; sound = λ q a b. subst (SoundPage S) (sym (prefix-pages q a b)) (W .sound q a b) }
 
 module _ (S : Shape) (s : List ℕ) (d k v p : ℕ) (t : List ℕ) where
   named-kept : Rewritten S s s → NamedIf S s d k v p t → Rewritten S s t

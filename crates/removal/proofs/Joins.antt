@@ -1,5 +1,5 @@
 -- The gathered rows, packed into the lowest-numbered page of the prefix. Over any page size. Assumes nothing.
-use mathlib.Core.Path.{_≡_, sym, ap, subst, subst₂, _∙_}
+use mathlib.Core.Path.{_≡_, refl, sym, ap, subst, subst₂, _∙_}
 use mathlib.Core.Logic.{⊎-elim}
 use mathlib.Core.List.{List, [], _++_, map}
 use Prim.Native.Nat.{ℕ, _+_, _-_, _*_, _/_, _≤_, _<_}
@@ -79,12 +79,14 @@ module _ (S : Shape) (h : List ℕ → ℕ) (s : List ℕ) (n j v a b : ℕ) (c 
     there : low < pages S u
     there = subst (λ m. low < m) (sym (ap (λ m. m / size S) (E .long) ∙ many S s n (J .prefix .sound))) low-within
 
-    pub rejoined : Rejoined S h s n j v c (setPage S u low k)
+    pub rejoined : Rejoined S h s n j v c low (setPage S u low k)
     rejoined = record {
       long = set-long S u low k there long ∙ E .long;
-      low = λ i l. let m : 2 * size S ≤ low * size S = mul-le-mul-right (size S) (omega arith) in set-below S u low k there long i (omega (arith, m)) ∙ E .low i l;
+      start = λ i l. let m : 2 * size S ≤ low * size S = mul-le-mul-right (size S) (omega arith) in set-below S u low k there long i (omega (arith, m)) ∙ E .low i l;
       sound = λ x f t. go x f t (ℕ-discrete x low);
       holds = set-contents S u low k there long (omega arith) ∙ (λ i. set (emptied-holds S h s n j v (J .prefix .sound) u E i) (at i) (now-reads i));
+      lowest = refl;
+      rest = λ x f t ne. set-other S u low k there long x ne ∙ E .from x f t;
     }
       where
         go : (x : ℕ) → 2 ≤ x → x < n → Dec (x ≡ low) → SoundPage S (page S (setPage S u low k) x)

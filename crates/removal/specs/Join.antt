@@ -120,9 +120,11 @@ pub record Joinable (S : Shape) (h : List ℕ → ℕ) (s : List ℕ) (n j v a b
 abbrev pub joinedPages : (List ℕ → ℕ) → ℕ → ℕ → List ℕ → List Page → List Page
 joinedPages h j v c gs = set (map (λ g. pick (within h j v g) free g) gs) (find (within h j v) gs) (bucket j (packFrom 8 (inOrder (othersIn h j v c gs))))
 
--- t is s with its pages so
-pub record Rejoined (S : Shape) (h : List ℕ → ℕ) (s : List ℕ) (n j v : ℕ) (c t : List ℕ) : Type 0 where
+-- t is s with its pages so, and low is the lowest-numbered page of the prefix
+pub record Rejoined (S : Shape) (h : List ℕ → ℕ) (s : List ℕ) (n j v : ℕ) (c : List ℕ) (low : ℕ) (t : List ℕ) : Type 0 where
   pub long : length t ≡ length s
-  pub low : (k : ℕ) → k < 2 * size S → byte t k ≡ byte s k
+  pub start : (k : ℕ) → k < 2 * size S → byte t k ≡ byte s k
   pub sound : (p : ℕ) → 2 ≤ p → p < n → SoundPage S (page S t p)
   pub holds : contents S t ≡ joinedPages h j v c (contents S s)
+  pub lowest : low ≡ 2 + find (within h j v) (contents S s)
+  pub rest : (q : ℕ) → 2 ≤ q → q < n → (q ≡ low → ⊥) → page S t q ≡ pick (isOf S h j v s q) (replicate (size S) 0) (page S s q)

@@ -148,7 +148,7 @@ fn clear_all(s: &mut [u8], z: Shape, n: usize, j: u32, v: u64, a: usize, b: usiz
     low
 }
 
-// The rows of the prefix of another code go packed into the lowest-numbered of its pages, and the others are cleared; they are gathered on a page lent, which comes back as it was.
+// The rows of the prefix of another code go packed into the lowest-numbered of its pages, and the others are cleared; they are gathered on a page lent, which comes back as it was. The page that they are on.
 pub fn join(
     s: &mut [u8],
     z: Shape,
@@ -159,9 +159,9 @@ pub fn join(
     b: usize,
     key: &[u8],
     scratch: &mut [u8],
-)
+) -> usize
     requires { ⌜ Scratch z (now scratch) × Joinable z fnv (now s) n j v a b (now key) ⌝ }
-    ensures wrote { λ _. ⌜ Rejoined z fnv (now (s .entry)) n j v (now (key .entry)) (now (s .exit)) ⌝ }
+    ensures wrote { λ r. ⌜ Rejoined z fnv (now (s .entry)) n j v (now (key .entry)) r (now (s .exit)) ⌝ }
     ensures lent { λ _. ⌜ now (scratch .exit) ≡ now (scratch .entry) ⌝ }
 {
     page::new_page(scratch, j as u8);
@@ -172,4 +172,5 @@ pub fn join(
     let end = start + size;
     page::pack_into(&mut s[start..end], scratch);
     page::clear_page(scratch);
+    low
 }

@@ -10,7 +10,9 @@ ghost use Rattle.removal.specs.Join.{Scratch};
 ghost use Rattle.removal.specs.Remove.{Leaving};
 use super::join::join;
 use super::prefix::climb;
+use directory::name_prefix;
 use directory::settle;
+use directory::settle_depth;
 use partition::Shape;
 use query::Spot;
 
@@ -28,8 +30,9 @@ fn take_out(s: &mut [u8], z: Shape, p: usize, i: usize, key: &[u8], scratch: &mu
     let x = hash::hash(key);
     let j = climb(s, z, x, k, 12 + key.len());
     if j < k {
-        let run = partition::run_of(x, j, words::get32(s, 16) as u32);
-        join(
+        let d = words::get32(s, 16);
+        let run = partition::run_of(x, j, d as u32);
+        let low = join(
             s,
             z,
             n,
@@ -40,7 +43,8 @@ fn take_out(s: &mut [u8], z: Shape, p: usize, i: usize, key: &[u8], scratch: &mu
             key,
             scratch,
         );
-        settle(s, z, n);
+        name_prefix(s, z, x, j, d as u32, low);
+        settle_depth(s, z, n, d);
         return;
     }
     if words::get16(&s[a..e], 2) == 1 {

@@ -107,10 +107,10 @@ returns c = let u = c .before .before .before .before .before .before .before .b
     let t = u .clear-all .last .0 in
     let k = c .before .before .before .before .before .before .pack-into in
     let a = low u * size (S z) in (
-      subst (Rejoined (S z) fnv (s z) (z .args .n) (z .args .j) (z .args .v) (key z))
-          (sym (page-back (S z) t (k .last .0) (low u) a (a + size (S z)) refl refl ∙ ap (λ p. setPage (S z) t p (k .last .0)) (u .clear-all .ensures .1)))
+      subst (Rejoined (S z) fnv (s z) (z .args .n) (z .args .j) (z .args .v) (key z) (low u)) (sym (page-back (S z) t (k .last .0) (low u) a (a + size (S z)) refl refl))
+          (subst (λ p. Rejoined (S z) fnv (s z) (z .args .n) (z .args .j) (z .args .v) (key z) p (setPage (S z) t p (k .last .0))) (sym (u .clear-all .ensures .1))
           (rejoined (S z) fnv (s z) (z .args .n) (z .args .j) (z .args .v) (z .args .a) (z .args .b) (key z) (z .pre .1) (lent-long z)
-          (u .before .before .before .before .before .before .before .before .before .new-page .ensures) (u .before .before .before .before .gather .ensures) (u .clear-all .ensures .0) (k .ensures)),
+          (u .before .before .before .before .before .before .before .before .before .new-page .ensures) (u .before .before .before .before .gather .ensures) (u .clear-all .ensures .0) (k .ensures))),
       c .before .before .clear-page .ensures ∙ ap (λ m. replicate m 0) (gathered-long u) ∙ sym (z .pre .0 .blank),
     )
 
