@@ -49,7 +49,7 @@ fresh-taking {p} {d} {q} rs F h = record {
   all = subst₂ (λ m x. Housed m (x ++ rs)) (sym (F .long)) (sym (no-rows q (F .none))) h;
 }
 
-module _ (S : Shape) (h : List ℕ → ℕ) (s : List ℕ) (n j v : ℕ) (c : List ℕ) (J : Joinable S h s n j v c) where
+module _ (S : Shape) (h : List ℕ → ℕ) (s : List ℕ) (n j v a b : ℕ) (c : List ℕ) (J : Joinable S h s n j v a b c) where
   abbrev gs : List Page
   gs = contents S s
 
@@ -57,7 +57,7 @@ module _ (S : Shape) (h : List ℕ → ℕ) (s : List ℕ) (n j v : ℕ) (c : Li
   low = 2 + find (within h j v) gs
 
   pub low-within : low < n
-  low-within = omega (arith, J .there, listed S s n (J .sound))
+  low-within = omega (arith, J .there, listed S s n (J .prefix .sound))
 
   module _ {p q g u k : List ℕ} (l : length p ≡ size S) (F : Fresh p j q) (G : Gathered q (othersIn h j v c gs) g) (E : Emptied S h s n j v 2 u) (K : Packed g k) where
     all : Reordered (rowsAt g) (othersIn h j v c gs)
@@ -86,19 +86,21 @@ module _ (S : Shape) (h : List ℕ → ℕ) (s : List ℕ) (n j v : ℕ) (c : Li
     long = K .long ∙ G .long ∙ F .long ∙ l
 
     there : low < pages S u
-    there = subst (λ m. low < m) (sym (ap (λ m. m / size S) (E .long) ∙ many S s n (J .sound))) low-within
+    there = subst (λ m. low < m) (sym (ap (λ m. m / size S) (E .long) ∙ many S s n (J .prefix .sound))) low-within
 
-    pub rejoined : Rejoined S h s n j v c (setPage S u low k)
+    pub rejoined : Rejoined S h s n j v c low (setPage S u low k)
     rejoined = record {
       long = set-long S u low k there long ∙ E .long;
-      low = λ i b. let m : 2 * size S ≤ low * size S = mul-le-mul-right (size S) (omega arith) in set-below S u low k there long i (omega (arith, m)) ∙ E .low i b;
-      sound = λ x a b. go x a b (ℕ-discrete x low);
-      holds = set-contents S u low k there long (omega arith) ∙ (λ i. set (emptied-holds S h s n j v (J .sound) u E i) (at i) (now-reads i));
+      start = λ i l. let m : 2 * size S ≤ low * size S = mul-le-mul-right (size S) (omega arith) in set-below S u low k there long i (omega (arith, m)) ∙ E .low i l;
+      sound = λ x f t. go x f t (ℕ-discrete x low);
+      holds = set-contents S u low k there long (omega arith) ∙ (λ i. set (emptied-holds S h s n j v (J .prefix .sound) u E i) (at i) (now-reads i));
+      lowest = refl;
+      rest = λ x f t ne. set-other S u low k there long x ne ∙ E .from x f t;
     }
       where
         go : (x : ℕ) → 2 ≤ x → x < n → Dec (x ≡ low) → SoundPage S (page S (setPage S u low k) x)
-        go x a b (yes e) = subst (SoundPage S) (sym (ap (page S (setPage S u low k)) e ∙ set-same S u low k there long)) (used its (omega (arith, deep, J .bits)))
-        go x a b (no ne) = subst (SoundPage S) (sym (set-other S u low k there long x ne)) (emptied-sound S h s n j v (J .sound) u E x a b)
+        go x f t (yes e) = subst (SoundPage S) (sym (ap (page S (setPage S u low k)) e ∙ set-same S u low k there long)) (used its (omega (arith, deep, J .prefix .bits)))
+        go x f t (no ne) = subst (SoundPage S) (sym (set-other S u low k there long x ne)) (emptied-sound S h s n j v (J .prefix .sound) u E x f t)
 
         at : low - 2 ≡ find (within h j v) gs
         at = omega arith

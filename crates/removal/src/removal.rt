@@ -12,7 +12,9 @@ ghost use Rattle.removal.specs.Join.{Scratch};
 ghost use Rattle.removal.specs.Remove.{Leaving};
 use super::join::join;
 use super::prefix::climb;
+use directory::name_prefix;
 use directory::settle;
+use directory::settle_depth;
 use partition::Shape;
 use query::Spot;
 use store_check::Length;
@@ -31,8 +33,21 @@ fn take_out(s: &mut [u8], z: Shape, p: usize, i: usize, key: &[u8], scratch: &mu
     let x = hash::hash(key);
     let j = climb(s, z, x, k, 12 + key.len());
     if j < k {
-        join(s, z, n, j, partition::top_bits(x, j), key, scratch);
-        settle(s, z, n);
+        let d = words::get32(s, 16);
+        let run = partition::run_of(x, j, d as u32);
+        let low = join(
+            s,
+            z,
+            n,
+            j,
+            partition::top_bits(x, j),
+            run.from,
+            run.to,
+            key,
+            scratch,
+        );
+        name_prefix(s, z, x, j, d as u32, low);
+        settle_depth(s, z, n, d);
         return;
     }
     if words::get16(&s[a..e], 2) == 1 {
