@@ -40,5 +40,5 @@ pub from-on : (s : List ℕ) (a b c : ℕ) → ZeroFrom s a b → ZeroFrom s b c
 from-on s a b c y z k l h = ⊎-elim (λ lt. y k l lt) (λ ge. z k ge h) (side k b)
 
 -- past the end there are zeros only
-pub zero-all : (s : List ℕ) → ZeroFrom s 0 (length s) → Zero s
-zero-all s all k = ⊎-elim (λ lt. all k (omega arith) lt) (λ ge. List·getD-eq-default s 0 ge) (side k (length s))
+pub zero-all : (s : List ℕ) (i : ℕ) → length s ≤ i → ((k : ℕ) → k < i → byte s k ≡ 0) → Zero s
+zero-all s i h all k = ⊎-elim (λ lt. all k lt) (λ ge. let past : length s ≤ k = omega arith in List·getD-eq-default s 0 past) (side k i)

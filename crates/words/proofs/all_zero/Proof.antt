@@ -51,7 +51,7 @@ returns-2 : tie.Need-returns-2 Inv-loop μ-loop
 returns-2 c =
     let l = c .before .before .loop in
     let s = c .before .before .before .before .args .s .now in
-    says-same {P = ZeroFrom s (l .a) (length s)} (c .zero-rest .result) (c .zero-rest .ensures) (λ z. zero-all s (from-on s 0 (l .a) (length s) (l .inv .1) z)) (λ z k f h. z k)
+    says-same {P = ZeroFrom s (l .a) (length s)} (c .zero-rest .result) (c .zero-rest .ensures) (λ z. zero-all s (length s) (omega arith) (λ k h. from-on s 0 (l .a) (length s) (l .inv .1) z k (omega arith) h)) (λ z k f h. z k)
 
 pub all-zero-spec : {M : Type 1} → statement M
 all-zero-spec =
