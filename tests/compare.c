@@ -133,7 +133,7 @@ static uint64_t proved(const struct call *c, size_t len, int refusal, uint32_t *
 
 static uint64_t reference(const struct call *c, size_t len, uint32_t *code_len) {
     switch (c->kind) {
-    case FORMAT: return ref_format(theirs, len);
+    case FORMAT: return ref_format(theirs, len, PAGE);
     case CHECK: return ref_check(theirs, len);
     case LOOKUP: return ref_lookup(theirs, len, c->code, c->code_len);
     case REMOVE: return ref_remove(theirs, len, c->code, c->code_len);
@@ -280,6 +280,12 @@ static void history(size_t pages, size_t many, int rounds, int each) {
         }
 }
 
+/* No number of a page size at 20 that the proved calls do not know yet. */
+static void no_other_size(void) {
+    uint32_t n = ours[20] | ours[21] << 8 | ours[22] << 16 | (uint32_t)ours[23] << 24;
+    if (n == 4096 || n == 16384) memset(ours + 20, 0, 4), memset(theirs + 20, 0, 4);
+}
+
 /* Every call on a store with some bytes changed. */
 static void damage(size_t len, int times, size_t many) {
     static uint8_t sound[MOST];
@@ -292,6 +298,7 @@ static void damage(size_t len, int times, size_t many) {
             if (below(2)) at = 2 * PAGE + below(len - 2 * PAGE) / PAGE * PAGE + (below(2) ? below(24) : PAGE - 1 - below(40));
             ours[at] = below(3) ? draw() : ours[at] ^ 1u << below(8);
         }
+        no_other_size();
         memcpy(theirs, ours, len);
         struct call c = random_call(many, 40);
         if (below(2)) c.at = at / PAGE;
@@ -306,6 +313,7 @@ static void random_bytes(int times, size_t many) {
         size_t len = below(3) ? below(6 * PAGE) : (size_t)below(7) * PAGE;
         if (below(60) == 0) len = 258 * PAGE + below(2 * PAGE);
         for (size_t i = 0; i < len; i++) ours[i] = theirs[i] = below(4) ? 0 : draw();
+        no_other_size();
         struct call c = random_call(many, 30);
         c.kind = below(KINDS);
         both(&c, len);
