@@ -3,7 +3,7 @@
 #include <stdlib.h>
 #include <string.h>
 
-enum { LONGEST_PAGE = 16384, MOST_ENTRIES = 4096, MOST_PAGES = MOST_ENTRIES + 2, MOST_ON_PAGE = (LONGEST_PAGE - 8) / 13, MOST_SHEET = 20000 };
+enum { LONGEST_PAGE = 16384, MOST_ENTRIES = 4096, MOST_PAGES = MOST_ENTRIES + 2, MOST_ON_PAGE = (LONGEST_PAGE - 8) / 13 };
 
 #define REFUSED ((uint64_t)1 << 63)
 #define NEW_ROW ((uint64_t)1 << 31)

@@ -4,6 +4,9 @@
 
 #include "../include/lots.h"
 
+/* the most rows of a sheet */
+enum { MOST_SHEET = 20000 };
+
 /* The answers are those of include/lots.h. */
 uint64_t ref_format(uint8_t *store, size_t store_len, uint64_t page_size);
 uint64_t ref_check(const uint8_t *store, size_t store_len);
