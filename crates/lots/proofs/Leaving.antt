@@ -31,7 +31,7 @@ use Rattle.lots.specs.declared.Session.{Session}
 use Rattle.lots.specs.Known.{Known}
 use Rattle.lots.specs.Obeys.{Outcomes, Passes, TellsOnly, Numbers, Untouched, Does, Obeys}
 use Rattle.store.proofs.Demands.Unchecked.{check-says}
-use Rattle.lots.specs.Sessions.{Leaves, After, SessionHolds, Kept, Ran}
+use Rattle.lots.specs.Sessions.{Leaves, After, Alike, SessionHolds, Kept, Ran}
 
 -- a check that is no refusal accepts
 pub checked-accepted : (s : List ℕ) (o : Out) → Answers (checkTable S1024 fnv s) o → ok o ≡ true → Accepted S1024 fnv s
@@ -197,12 +197,22 @@ holds-as {z} {y} {s} e f h = record {
 }
 
 -- a step that is not about the store
-pub beside : {z y : Session} {s : List ℕ} → y .len ≡ z .len → y .known ≡ z .known → y .changed ≡ z .changed → y .stopped ≡ z .stopped → SessionHolds z s → Kept z s y s
-beside e k f g h = record {
-  quiet = λ q. (sym f ∙ q .0, sym g ∙ q .1);
+pub beside : {z y : Session} {s : List ℕ} → Alike z y → SessionHolds z s → Kept z s y s
+beside a h = record {
+  quiet = λ q. (sym (a .changed) ∙ q .0, sym (a .stopped) ∙ q .1);
   same = λ q. refl;
-  long = λ q. e;
-  holds = holds-as e k h;
+  long = λ q. a .len;
+  holds = holds-as (a .len) (a .known) h;
+}
+
+-- the line is counted first
+pub after-counted : {z y r : Session} {o : Outcome} → Alike z y → y .fill ≡ z .fill → After y o r → After z o r
+after-counted k f a = record {
+  len = a .len ∙ k .len;
+  known = a .known ∙ k .known;
+  fill = a .fill ∙ f;
+  quiet = λ q. let p = a .quiet q in (sym (k .changed) ∙ p .0, sym (k .stopped) ∙ p .1);
+  leaves = a .leaves;
 }
 
 -- a line's outcome is taken into the session

@@ -32,6 +32,13 @@ Leaves (Format n) = Unit {0}
 Leaves (Changed x) = ⊥
 Leaves Stopped = ⊥
 
+-- the store and what is known of it, changes and stops, are the same
+pub record Alike (z r : Session) : Type 0 where
+  pub len : r .len ≡ z .len
+  pub known : r .known ≡ z .known
+  pub changed : r .changed ≡ z .changed
+  pub stopped : r .stopped ≡ z .stopped
+
 -- a line's outcome taken into the session z: a change or a stop is marked
 pub record After (z : Session) (o : Outcome) (r : Session) : Type 0 where
   pub len : r .len ≡ z .len
