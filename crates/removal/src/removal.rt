@@ -1,8 +1,9 @@
-// A row taken out of an accepted store. Over any page shape; the public call takes pages of 1,024 bytes.
+// A row taken out of a store.
 ghost use mathlib.Core.Path.{_≡_};
 ghost use Rattle.ground.specs.Ladder.{Answers};
 ghost use Rattle.hash.specs.Fnv.{fnv};
-ghost use Rattle.store.specs.Pages.{S1024, contents};
+ghost use Rattle.partition.specs.Sizes.{shapeOf};
+ghost use Rattle.store.specs.Pages.{contents};
 ghost use Rattle.store.specs.Accepted.{Accepted};
 ghost use Rattle.store.specs.Demands.{Sized};
 ghost use Rattle.store.specs.Moves.{removed};
@@ -14,6 +15,7 @@ use super::prefix::climb;
 use directory::settle;
 use partition::Shape;
 use query::Spot;
+use store_check::Length;
 
 // The row of the code, which is that of slot i of page p, goes: its page loses the record, is cleared, or is joined with others.
 fn take_out(s: &mut [u8], z: Shape, p: usize, i: usize, key: &[u8], scratch: &mut [u8])
@@ -74,19 +76,19 @@ fn remove_lent(s: &mut [u8], z: Shape, key: &[u8]) -> store::Answer
     remove_row(s, z, key, &mut scratch[0..size])
 }
 
-// The row of a code goes; its place. Pages of 1,024 bytes.
+// The row of a code goes; its place.
 pub fn remove(s: &mut [u8], key: &[u8]) -> store::Answer
-    ensures { λ r. ⌜ Answers (removeTable S1024 fnv (now (s .entry)) (now (key .entry))) (meaning r, now (s .exit)) ⌝ }
+    ensures { λ r. ⌜ Answers (removeTable (shapeOf (now (s .entry))) fnv (now (s .entry)) (now (key .entry))) (meaning r, now (s .exit)) ⌝ }
 {
-    if !store_check::good_length(s, partition::S1024) {
+    let Length::Of(z) = store_check::said_shape(s) else {
         return store::Answer::Refused(store::Refusal::BadLength);
-    }
+    };
     if !store::good_code(key) {
         return store::Answer::Refused(store::Refusal::BadCode);
     }
-    let p = store_check::first_bad(s);
-    if p < s.len() / 1024 {
+    let p = store_check::first_bad(s, z);
+    if p < s.len() / (8 + z.capacity) {
         return store::Answer::Refused(store::Refusal::BadPage(p));
     }
-    remove_lent(s, partition::S1024, key)
+    remove_lent(s, z, key)
 }
