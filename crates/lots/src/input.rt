@@ -9,14 +9,17 @@ use crate::Outcome;
 use crate::Session;
 use libc::STDIN_FILENO;
 
-// The length of a store of n pages; of too many, the whole buffer, which is no store either.
-fn length_of(n: usize, most: usize) -> usize
-    ensures { λ r. ⌜ (r ≤ most) × (n ≤ 258 → n * 1024 ≤ most → r ≡ n * 1024) ⌝ }
+// The length of a store of n pages of a size; of too many, the whole buffer, which is no store either.
+fn length_of(n: usize, size: usize, most: usize) -> usize
+    ensures { λ r. ⌜ (r ≤ most) × (n ≤ 4098 → size ≤ 16384 → n * size ≤ most → r ≡ n * size) ⌝ }
 {
-    if n > 258 {
+    if n > 4098 {
         return most;
     }
-    let len = n * 1024;
+    if size > 16384 {
+        return most;
+    }
+    let len = n * size;
     if len > most { most } else { len }
 }
 
@@ -41,13 +44,13 @@ fn after(z: Session, o: Outcome) -> Session
     y
 }
 
-// A store of n pages in the place of the old one, unless that is refused.
-fn format(store: &mut [u8], z: Session, n: usize) -> Session
+// A store of n pages of a size in the place of the old one, unless that is refused.
+fn format(store: &mut [u8], z: Session, n: usize, size: usize) -> Session
     requires { ⌜ SessionHolds z (now store) ⌝ }
-    ensures { λ r. ⌜ Kept z (now (store .entry)) r (now (store .exit)) × (r .fill ≡ z .fill) × FormatAsked n z (now (store .entry)) r (now (store .exit)) ⌝ }
+    ensures { λ r. ⌜ Kept z (now (store .entry)) r (now (store .exit)) × (r .fill ≡ z .fill) × FormatAsked n size z (now (store .entry)) r (now (store .exit)) ⌝ }
 {
-    let len = length_of(n, store.len());
-    let a = directory::format(&mut store[0..len]);
+    let len = length_of(n, size, store.len());
+    let a = directory::format(&mut store[0..len], size);
     let mut y = after(z, obey::wrote(a));
     if obey::is_done(a) {
         y.len = len;
@@ -64,7 +67,7 @@ fn turn(store: &mut [u8], z: Session, line: &[u8]) -> Session
     let len = z.len;
     let o = obey::obey(&mut store[0..len], line, z.number, z.known);
     if let Outcome::Format(n) = o {
-        return format(store, z, n);
+        return format(store, z, n, 1024);
     }
     after(z, o)
 }
