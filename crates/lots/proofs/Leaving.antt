@@ -1,11 +1,11 @@
 -- What a line, and a quiet session, leave of the store. Assumes nothing.
-use Prim.Native.Nat.{ℕ, zero, suc, _-_, _≤_, _<_}
+use Prim.Native.Nat.{ℕ, zero, suc, _+_, _-_, _*_, _/_, _≤_, _<_}
 use mathlib.Core.Path.{_≡_, refl, sym, ap, subst, _∙_}
 use mathlib.Core.Bool.{Bool, true, false, true≢false}
 use mathlib.Core.List.{List, [], _∷_, _++_}
 use mathlib.Core.Option.{none}
 use mathlib.Core.Logic.{⊎-elim}
-use native.Mathlib.Nat.{sub-zero}
+use native.Mathlib.Nat.{sub-zero, suc-mul, mul-le-mul-right, div-mul-le-self}
 use native.Mathlib.Omega.{arith}
 use lib.ListN.{length, take, drop, getElem?, take-append-drop}
 use lib.Seq.{take-at, length-take-le}
@@ -47,6 +47,12 @@ checked-accepted s o m e = says-true (ok o) e (check-says (shapeOf s) fnv s o m)
 -- an accepted store has the number at 20
 pub numbered : (s : List ℕ) → Accepted (shapeOf s) fnv s → 24 ≤ length s
 numbered s a = ⊎-elim (λ l. absurd (short s l (a .long))) (λ g. g) (side (length s) 24)
+
+-- page p of pages of z bytes lies within n bytes
+pub page-inside : (p z n : ℕ) → p < n / z → p * z + z ≤ n
+page-inside p z n b =
+    let m : suc p * z ≤ n / z * z = mul-le-mul-right z b in
+    omega (arith, m, suc-mul p z, div-mul-le-self n z)
 
 -- how many rows the listing has
 pub listing-counts : (S : Shape) (s : List ℕ) → Sized S → Accepted S fnv s → length (rowsHeld S s) ≡ length (listing S fnv (rowsHeld S s))

@@ -5,7 +5,7 @@ ghost use lib.ListN.{length};
 ghost use Rattle.hash.specs.Fnv.{fnv};
 ghost use Rattle.store.specs.Demands.{ok};
 ghost use Rattle.partition.specs.Listing.{listing};
-ghost use Rattle.partition.specs.Sizes.{shapeOf};
+ghost use Rattle.partition.specs.Sizes.{size, shapeOf};
 ghost use Rattle.store.specs.Pages.{rowsHeld};
 ghost use Rattle.store.specs.Tables.{meaning};
 ghost use Rattle.query.specs.Spots.{OnPage};
@@ -205,15 +205,28 @@ fn list_page(page: &[u8]) -> Outcome
     told(a)
 }
 
+// The length of the store's pages, as it says itself; one too short to say it has no page.
+fn page_size(s: &[u8]) -> usize
+    ensures { λ r. ⌜ (1 ≤ r) × (24 ≤ length (now (s .entry)) → r ≡ size (shapeOf (now (s .entry)))) ⌝ }
+{
+    if s.len() < 24 {
+        return 1024;
+    }
+    let z = partition::shape_of(s);
+    let size = 8 + z.capacity;
+    size
+}
+
 // The rows of page p, if the store has it.
 fn inspect(s: &[u8], p: usize, number: usize) -> Outcome
     ensures { λ r. ⌜ Untouched r ⌝ }
 {
-    if p >= s.len() / 1024 {
+    let size = page_size(s);
+    if p >= s.len() / size {
         return unknown(number);
     }
-    let a = p * 1024;
-    let e = a + 1024;
+    let a = p * size;
+    let e = a + size;
     list_page(&s[a..e])
 }
 
