@@ -5,7 +5,7 @@
 #include "../include/lots.h"
 
 /* the most rows of a sheet */
-enum { MOST_SHEET = 20000 };
+enum { MOST_SHEET = 200000 };
 
 /* The answers are those of include/lots.h. */
 uint64_t ref_format(uint8_t *store, size_t store_len, uint64_t page_size);

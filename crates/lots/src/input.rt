@@ -12,14 +12,17 @@ use check::same;
 use commands::Fault;
 use libc::STDIN_FILENO;
 
-// The length of a store of n pages; of too many, the whole buffer, which is no store either.
-fn length_of(n: usize, most: usize) -> usize
-    ensures { λ r. ⌜ (r ≤ most) × (n ≤ 258 → n * 1024 ≤ most → r ≡ n * 1024) ⌝ }
+// The length of a store of n pages of a size; of too many, the whole buffer, which is no store either.
+fn length_of(n: usize, size: usize, most: usize) -> usize
+    ensures { λ r. ⌜ (r ≤ most) × (n ≤ 4098 → size ≤ 16384 → n * size ≤ most → r ≡ n * size) ⌝ }
 {
-    if n > 258 {
+    if n > 4098 {
         return most;
     }
-    let len = n * 1024;
+    if size > 16384 {
+        return most;
+    }
+    let len = n * size;
     if len > most { most } else { len }
 }
 
@@ -60,13 +63,13 @@ fn after(z: Session, o: Outcome) -> Session
     marked(counted(z, obey::faults_in(o)), o)
 }
 
-// A store of n pages in the place of the old one, unless that is refused.
-fn format(store: &mut [u8], z: Session, n: usize) -> Session
+// A store of n pages of a size in the place of the old one, unless that is refused.
+fn format(store: &mut [u8], z: Session, n: usize, size: usize) -> Session
     requires { ⌜ SessionHolds z (now store) ⌝ }
-    ensures { λ r. ⌜ Kept z (now (store .entry)) r (now (store .exit)) × (r .fill ≡ z .fill) × FormatAsked n z (now (store .entry)) r (now (store .exit)) ⌝ }
+    ensures { λ r. ⌜ Kept z (now (store .entry)) r (now (store .exit)) × (r .fill ≡ z .fill) × FormatAsked n size z (now (store .entry)) r (now (store .exit)) ⌝ }
 {
-    let len = length_of(n, store.len());
-    let a = directory::format(&mut store[0..len]);
+    let len = length_of(n, size, store.len());
+    let a = directory::format(&mut store[0..len], size);
     let mut y = after(z, obey::wrote(a, z.number));
     if obey::is_done(a) {
         y.len = len;
@@ -91,7 +94,7 @@ fn ask_format(store: &mut [u8], z: Session, n: usize, anew: bool) -> Session
     if held_back(z.len, anew) {
         return after(z, obey::unknown(Fault::Filled, z.number));
     }
-    format(store, z, n)
+    format(store, z, n, 1024)
 }
 
 // Where ` anew` stands at the end of a format, or the end.

@@ -3,13 +3,13 @@ ghost use mathlib.Core.Path.{_≡_};
 ghost use Prim.Native.Nat.{_≤_};
 ghost use lib.ListN.{length};
 ghost use Rattle.hash.specs.Fnv.{fnv};
-ghost use Rattle.store.specs.Accepted.{Accepted};
 ghost use Rattle.store.specs.Demands.{ok};
 ghost use Rattle.partition.specs.Listing.{listing};
-ghost use Rattle.store.specs.Pages.{S1024, rowsHeld};
+ghost use Rattle.partition.specs.Sizes.{size, shapeOf};
+ghost use Rattle.store.specs.Pages.{rowsHeld};
 ghost use Rattle.store.specs.Tables.{meaning};
 ghost use Rattle.query.specs.Spots.{OnPage};
-ghost use Rattle.lots.specs.Known.{Known};
+ghost use Rattle.lots.specs.Known.{Known, Listable};
 ghost use Rattle.lots.specs.Obeys.{ListAsked, Numbers, Obeys, Outcomes, Passes, TellsOnly, RowAsked, Untouched};
 use super::faults;
 use super::known::check_known;
@@ -22,6 +22,7 @@ use super::say;
 use crate::Outcome;
 use commands::Command;
 use commands::Fault;
+use partition::Shape;
 use query::Step;
 use store::Answer;
 use store::Refusal;
@@ -119,25 +120,25 @@ fn row(s: &[u8], n: usize, known: bool, number: usize) -> Outcome
 }
 
 // The row in slot i of the bucket page p on a line; whether it could be written.
-fn list_row(s: &[u8], p: usize, i: usize) -> bool
-    requires { ⌜ OnPage S1024 (now s) p i ⌝ }
+fn list_row(s: &[u8], z: Shape, p: usize, i: usize) -> bool
+    requires { ⌜ OnPage z (now s) p i ⌝ }
 {
     let mut code = [0u8; 64];
-    let a = query::read_row(s, partition::S1024, p, i, &mut code);
+    let a = query::read_row(s, z, p, i, &mut code);
     say::answer(a, &code, 0)
 }
 
 // Every row of an accepted store in one walk, and how many they are.
-fn list_rows(s: &[u8], n: usize) -> Outcome
-    requires { ⌜ Accepted S1024 fnv (now s) × (n ≡ length (rowsHeld S1024 (now s))) ⌝ }
-    ensures { λ r. ⌜ Numbers (length (listing S1024 fnv (rowsHeld S1024 (now (s .entry))))) r ⌝ }
+fn list_rows(s: &[u8], z: Shape, n: usize) -> Outcome
+    requires { ⌜ Listable z (now s) n ⌝ }
+    ensures { λ r. ⌜ Numbers (length (listing z fnv (rowsHeld z (now (s .entry))))) r ⌝ }
 {
-    let mut c = query::cursor_at(s, partition::S1024, 0);
+    let mut c = query::cursor_at(s, z, 0);
     let mut i = 0;
     while i < n {
-        match query::next_row(s, partition::S1024, c) {
+        match query::next_row(s, z, c) {
             Step::Given(p, slot, next) => {
-                if !list_row(s, p, slot) {
+                if !list_row(s, z, p, slot) {
                     return Outcome::Stopped;
                 }
                 c = next;
@@ -160,7 +161,8 @@ fn list(s: &[u8], known: bool, number: usize) -> Outcome
     if !is_done(a) {
         return told(a, number);
     }
-    list_rows(s, query::count_rows(s, partition::S1024, s.len() / 1024))
+    let z = partition::shape_of(s);
+    list_rows(s, z, query::count_rows(s, z, s.len() / (8 + z.capacity)))
 }
 
 // After n rows: there is none more, or why the page is refused.
@@ -171,11 +173,11 @@ fn ended(r: Refusal, n: usize) -> Answer {
     Answer::Refused(r)
 }
 
-// How many rows a page has, or why it is refused. No page has more than 78 (row-count of page's proofs).
+// How many rows a page has, or why it is refused. No page has more rows than bytes.
 fn rows_on(page: &[u8]) -> Answer {
     let mut code = [0u8; 64];
     let mut n = 0;
-    while n < 78 {
+    while n < page.len() {
         let a = page_reader::inspect(page, n, &mut code);
         match a {
             Answer::RowOf(_, _) => {
@@ -223,15 +225,28 @@ fn list_page(page: &[u8], number: usize) -> Outcome
     told(a, number)
 }
 
+// The length of the store's pages, as it says itself; one too short to say it has no page.
+fn page_size(s: &[u8]) -> usize
+    ensures { λ r. ⌜ (1 ≤ r) × (24 ≤ length (now (s .entry)) → r ≡ size (shapeOf (now (s .entry)))) ⌝ }
+{
+    if s.len() < 24 {
+        return 1024;
+    }
+    let z = partition::shape_of(s);
+    let size = 8 + z.capacity;
+    size
+}
+
 // The rows of page p, if the store has it.
 fn inspect(s: &[u8], p: usize, number: usize) -> Outcome
     ensures { λ r. ⌜ Untouched r ⌝ }
 {
-    if p >= s.len() / 1024 {
+    let size = page_size(s);
+    if p >= s.len() / size {
         return unknown(Fault::Range, number);
     }
-    let a = p * 1024;
-    let e = a + 1024;
+    let a = p * size;
+    let e = a + size;
     list_page(&s[a..e], number)
 }
 

@@ -78,7 +78,7 @@ pub fn remove_row(s: &mut [u8], z: Shape, key: &[u8], scratch: &mut [u8]) -> sto
 }
 
 // The same with a page lent: of 1,024 bytes where the pages are no longer, so that these pay for no more, else of the largest size.
-fn remove_lent(s: &mut [u8], z: Shape, key: &[u8]) -> store::Answer
+pub fn remove_lent(s: &mut [u8], z: Shape, key: &[u8]) -> store::Answer
     requires { ⌜ Sized z × Accepted z fnv (now s) ⌝ }
     ensures { λ r. ⌜ Answers (removeAccepted z fnv (now (s .entry)) (now (key .entry))) (meaning r, now (s .exit)) ⌝ }
 {
