@@ -1,11 +1,12 @@
 /* The check of document 01 in plain C, written for speed: what the proved check is measured against. Same rules, same order, same answer word.
+ * Built once for each page size (-DPAGE, -DDEEPEST); which is asked is the caller's to say, by the number at 20.
  * A page's slots are read once, then its records in the order in which they lie; the directory is counted once, and what the rows of a prefix need is a
  * difference of two sums. */
 #include <stddef.h>
 #include <stdint.h>
 #include <string.h>
 
-enum { PAGE = 1024, CAPACITY = 1016, ENTRIES = 256, DEEPEST = 8, MOST = 258, KIND = 1 << 14 };
+enum { CAPACITY = PAGE - 8, ENTRIES = 1 << DEEPEST, MOST = ENTRIES + 2, NUMBER = PAGE == 1024 ? 0 : PAGE, KIND = 1 << 14 };
 
 #define REFUSED(number, page) ((uint64_t)1 << 63 | (uint64_t)(page) << 8 | (number))
 #define APART static __attribute__((noinline)) /* inlined, these would share too few registers */
@@ -130,7 +131,8 @@ static int bucket(const uint8_t *g, uint32_t d, uint8_t *starts, uint32_t *share
 }
 
 static int page0(const uint8_t *s, uint32_t n) {
-    return get32(s) == n && get32(s + 4) == PAGE && get32(s + 8) == ENTRIES && get32(s + 12) == 2 * PAGE && get32(s + 16) <= DEEPEST && zero(s + 20, PAGE - 20);
+    return get32(s) == n && get32(s + 4) == PAGE && get32(s + 8) == ENTRIES && get32(s + 12) == 2 * PAGE && get32(s + 16) <= DEEPEST && get32(s + 20) == NUMBER &&
+           zero(s + 24, PAGE - 24);
 }
 
 /* Page 1 of a store of n pages, `entries` of them in use: how many name each page. */

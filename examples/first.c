@@ -16,7 +16,7 @@ static void print_place(uint64_t word) {
 }
 
 int main(void) {
-    lots_format(store, sizeof store);
+    lots_format(store, sizeof store, 1024);
     put("LOT-7A", 7, 2, 0, LOTS_EITHER);
     put("LOT-7B", 7, 3, 0, LOTS_ONLY_NEW);
     put("LOT-7A", 9, 1, 0, LOTS_ONLY_NEW);

@@ -3,13 +3,35 @@
 #include <stdlib.h>
 #include <string.h>
 
-enum { PAGE = 1024, CAPACITY = 1016, ENTRIES = 256, DEEPEST = 8, MOST_PAGES = 258, MOST_ROWS = 256 * 78 };
+enum { LONGEST_PAGE = 16384, MOST_ENTRIES = 4096, MOST_PAGES = MOST_ENTRIES + 2, MOST_ON_PAGE = (LONGEST_PAGE - 8) / 13 };
 
 #define REFUSED ((uint64_t)1 << 63)
 #define NEW_ROW ((uint64_t)1 << 31)
 
 static uint64_t refusal(unsigned number) { return REFUSED | number; }
 static uint64_t broken(unsigned page) { return REFUSED | 2 | (uint64_t)page << 8; }
+
+/* ---- page sizes */
+
+static const struct {
+    int size, entries, deepest;
+} table[] = {{1024, 256, 8}, {4096, 1024, 10}, {16384, 4096, 12}};
+
+/* those that the call goes by */
+static int page_size, capacity, entries, deepest;
+
+/* Whether n is one of the three sizes; the call then goes by it. */
+static int go_by(uint64_t n) {
+    for (int i = 0; i < 3; i++)
+        if ((uint64_t)table[i].size == n) {
+            page_size = table[i].size;
+            capacity = page_size - 8;
+            entries = table[i].entries;
+            deepest = table[i].deepest;
+            return 1;
+        }
+    return 0;
+}
 
 /* ---- numbers and codes */
 
@@ -49,10 +71,9 @@ static int code_order(const uint8_t *a, int alen, const uint8_t *b, int blen) {
     return c != 0 ? c : alen - blen;
 }
 
-static int row_order(const void *a, const void *b) {
-    const struct row *x = a, *y = b;
-    return code_order(x->code, x->len, y->code, y->len);
-}
+static int row_order(const struct row *x, const struct row *y) { return code_order(x->code, x->len, y->code, y->len); }
+
+static int sort_order(const void *a, const void *b) { return row_order(*(struct row *const *)a, *(struct row *const *)b); }
 
 /* ---- one page */
 
@@ -65,13 +86,14 @@ static int all_zero(const uint8_t *at, int n) {
 /* The rows of a bucket page into out; how many, or -1 where a rule of the bucket page fails. */
 static int bucket_rows(const uint8_t *g, int page, struct row *out) {
     int count = number(g + 2, 2), frontier = number(g + 4, 2), total_free = number(g + 6, 2);
-    uint8_t owned[PAGE] = {0};
+    static uint8_t owned[LONGEST_PAGE];
     int largest = 0, needs = 0;
-    if (g[0] != 1 || count < 1 || count > 78) return -1;
+    memset(owned, 0, page_size);
+    if (g[0] != 1 || count < 1 || count > capacity / 13) return -1;
     for (int i = 0; i < count; i++) {
-        uint32_t slot = number(g + PAGE - 4 * (i + 1), 4);
+        uint32_t slot = number(g + page_size - 4 * (i + 1), 4);
         int start = slot & 0x3FFF, len = slot >> 14 & 0x3FFF;
-        if (slot >> 28 != 1 || len < 9 || len > 72 || start < 8 || start + len > PAGE - 4 * count) return -1;
+        if (slot >> 28 != 1 || len < 9 || len > 72 || start < 8 || start + len > page_size - 4 * count) return -1;
         for (int b = start; b < start + len; b++) {
             if (owned[b]) return -1;
             owned[b] = 1;
@@ -89,8 +111,8 @@ static int bucket_rows(const uint8_t *g, int page, struct row *out) {
         needs += need(r);
         if (i > 0 && row_order(out + i - 1, r) >= 0) return -1;
     }
-    if (frontier != largest || needs > CAPACITY || total_free != CAPACITY - needs) return -1;
-    for (int b = 8; b < PAGE - 4 * count; b++)
+    if (frontier != largest || needs > capacity || total_free != capacity - needs) return -1;
+    for (int b = 8; b < page_size - 4 * count; b++)
         if (!owned[b] && g[b] != 0) return -1;
     for (int i = 1; i < count; i++)
         if (g[1] > 32 ? out[i].hash != out[0].hash : prefix(out[i].hash, g[1]) != prefix(out[0].hash, g[1])) return -1;
@@ -98,14 +120,14 @@ static int bucket_rows(const uint8_t *g, int page, struct row *out) {
 }
 
 /* The bytes of a bucket page with these rows, in code order, each where it stands. */
-static void write_bucket(uint8_t *g, int depth, const struct row *rows, int count) {
+static void write_bucket(uint8_t *g, int depth, struct row *const *of, int count) {
     int frontier = 8, needs = 0;
-    memset(g, 0, PAGE);
+    memset(g, 0, page_size);
     for (int i = 0; i < count; i++) {
-        const struct row *r = rows + i;
+        const struct row *r = of[i];
         memcpy(g + r->start, r->place, 8);
         memcpy(g + r->start + 8, r->code, r->len);
-        set_number(g + PAGE - 4 * (i + 1), 4, (uint32_t)r->start | (uint32_t)(8 + r->len) << 14 | 1u << 28);
+        set_number(g + page_size - 4 * (i + 1), 4, (uint32_t)r->start | (uint32_t)(8 + r->len) << 14 | 1u << 28);
         if (r->start + 8 + r->len > frontier) frontier = r->start + 8 + r->len;
         needs += need(r);
     }
@@ -113,16 +135,19 @@ static void write_bucket(uint8_t *g, int depth, const struct row *rows, int coun
     g[1] = depth;
     set_number(g + 2, 2, count);
     set_number(g + 4, 2, frontier);
-    set_number(g + 6, 2, CAPACITY - needs);
+    set_number(g + 6, 2, capacity - needs);
 }
 
-static void pack(struct row *rows, int count) {
+/* These rows packed onto a page, as its bytes. */
+static void write_packed(uint8_t *s, int p, int depth, struct row **of, int count) {
     int at = 8;
-    qsort(rows, count, sizeof *rows, row_order);
+    qsort(of, count, sizeof *of, sort_order);
     for (int i = 0; i < count; i++) {
-        rows[i].start = at;
-        at += 8 + rows[i].len;
+        of[i]->page = p;
+        of[i]->start = at;
+        at += 8 + of[i]->len;
     }
+    write_bucket(s + (size_t)p * page_size, depth, of, count);
 }
 
 /* ---- the partition, worked out afresh */
@@ -132,94 +157,116 @@ struct bucket {
     uint32_t value;
 };
 
-static int of_prefix(const struct row *rows, int count, int bits, uint32_t value, struct row *out) {
-    int n = 0;
-    for (int i = 0; i < count; i++)
-        if (prefix(rows[i].hash, bits) == value) {
-            if (out) out[n] = rows[i];
-            n++;
-        }
-    return n;
+/* What the rows of the deepest prefixes before each need together; a prefix needs what those below it need. */
+static int before_leaf[MOST_ENTRIES + 1];
+
+static void weigh(const struct row *of, int count) {
+    memset(before_leaf, 0, sizeof before_leaf);
+    for (int i = 0; i < count; i++) before_leaf[prefix(of[i].hash, deepest) + 1] += need(of + i);
+    for (int leaf = 0; leaf < entries; leaf++) before_leaf[leaf + 1] += before_leaf[leaf];
 }
 
-static int needs_of(const struct row *rows, int count, int bits, uint32_t value) {
-    int sum = 0;
-    for (int i = 0; i < count; i++)
-        if (prefix(rows[i].hash, bits) == value) sum += need(rows + i);
-    return sum;
-}
+static int weight(int bits, uint32_t value) { return before_leaf[(value + 1) << (deepest - bits)] - before_leaf[value << (deepest - bits)]; }
 
-/* What the rows of each deepest prefix need; a shorter prefix needs what those below it need. */
-static int leaf_needs[ENTRIES];
+/* The bucket of each deepest prefix, -1 for none. */
+static int of_leaf[MOST_ENTRIES];
 
-static void weigh(const struct row *rows, int count) {
-    memset(leaf_needs, 0, sizeof leaf_needs);
-    for (int i = 0; i < count; i++) leaf_needs[prefix(rows[i].hash, DEEPEST)] += need(rows + i);
-}
-
-static int weight(int bits, uint32_t value) {
-    int sum = 0;
-    for (uint32_t leaf = value << (DEEPEST - bits); leaf < (value + 1) << (DEEPEST - bits); leaf++) sum += leaf_needs[leaf];
-    return sum;
-}
+static int bucket_of(uint32_t hash) { return of_leaf[prefix(hash, deepest)]; }
 
 /* Each prefix held to the definition, in prefix order, which is the order of first entries. A row needs something, so no need means no row. */
-static int partition(const struct row *rows, int count, struct bucket *out) {
+static int partition(const struct row *of, int count, struct bucket *out) {
     int n = 0;
-    weigh(rows, count);
-    for (uint32_t leaf = 0; leaf < ENTRIES; leaf++)
-        for (int bits = 0; bits <= DEEPEST; bits++) {
-            uint32_t value = leaf >> (DEEPEST - bits);
-            if (value << (DEEPEST - bits) != leaf) continue;
+    weigh(of, count);
+    for (int leaf = 0; leaf < entries; leaf++) of_leaf[leaf] = -1;
+    for (uint32_t leaf = 0; leaf < (uint32_t)entries; leaf++)
+        for (int bits = 0; bits <= deepest; bits++) {
+            uint32_t value = leaf >> (deepest - bits);
+            if (value << (deepest - bits) != leaf) continue;
             int own = weight(bits, value);
-            if (own > 0 && own <= CAPACITY && (bits == 0 || weight(bits - 1, value >> 1) > CAPACITY)) out[n++] = (struct bucket){bits, value};
+            if (own == 0 || own > capacity || (bits > 0 && weight(bits - 1, value >> 1) <= capacity)) continue;
+            for (uint32_t below = leaf; below < (value + 1) << (deepest - bits); below++) of_leaf[below] = n;
+            out[n++] = (struct bucket){bits, value};
         }
     return n;
 }
 
 /* ---- the store */
 
-static struct row rows[MOST_ROWS + 1];
-static int row_count;
+static struct row *rows;
+static int row_count, row_room;
 
-static int good_length(size_t len) { return len % PAGE == 0 && len / PAGE >= 3 && len / PAGE <= MOST_PAGES; }
+/* Room for the rows of one page more, and one row. */
+static void make_room(void) {
+    if (row_room - row_count > MOST_ON_PAGE) return;
+    row_room = 2 * row_room + 2 * MOST_ON_PAGE;
+    rows = realloc(rows, row_room * sizeof *rows);
+    if (!rows) abort();
+}
+
+static int in_limits(size_t len) { return len % page_size == 0 && len / page_size >= 3 && len / page_size <= (size_t)entries + 2; }
+
+/* By the number at 20, 0 for 1,024; one that is no size counts as 1,024, so does 1,024 itself, and a store without one is too short. */
+static int good_length(const uint8_t *s, size_t len) {
+    if (len < 24) return 0;
+    if (!go_by(number(s + 20, 4))) go_by(1024);
+    return in_limits(len);
+}
+
+static int good_page0(const uint8_t *s, int pages) {
+    return number(s, 4) == (uint32_t)pages && number(s + 4, 4) == (uint32_t)page_size && number(s + 8, 4) == (uint32_t)entries &&
+           number(s + 12, 4) == 2 * (uint32_t)page_size && number(s + 16, 4) <= (uint32_t)deepest && number(s + 20, 4) == (page_size == 1024 ? 0 : (uint32_t)page_size) &&
+           all_zero(s + 24, page_size - 24);
+}
+
+/* Ranges and zeros of page 1; how many entries name each page. */
+static int good_page1(const uint8_t *s, int pages, int depth, int *named) {
+    memset(named, 0, pages * sizeof *named);
+    for (int i = 0; i < entries; i++) {
+        uint32_t e = number(s + page_size + 4 * i, 4);
+        if (e != 0 && (e < 2 || e >= (uint32_t)pages || i >= 1 << depth)) return 0;
+        named[e]++;
+    }
+    return 1;
+}
+
+/* Whether all entries for a prefix name the page, and `named`, as many as name it, are no more. */
+static int called(const uint8_t *s, int p, int depth, int bits, uint32_t value, int named) {
+    uint32_t from = value << (depth - bits), to = (value + 1) << (depth - bits);
+    for (uint32_t i = from; i < to; i++)
+        if (number(s + page_size + 4 * i, 4) != (uint32_t)p) return 0;
+    return (uint32_t)named == to - from;
+}
 
 /* 0 and the rows of the store, or the refusal. */
 static uint64_t read_store(const uint8_t *s, size_t len) {
-    if (!good_length(len)) return refusal(1);
-    int pages = len / PAGE, depth, deepest = 0;
-    static struct row first[MOST_PAGES];
+    static uint32_t hashes[MOST_PAGES]; /* of each bucket's first row */
+    static int named[MOST_PAGES];
+    if (!good_length(s, len)) return refusal(1);
+    int pages = len / page_size, depth = number(s + 16, 4), largest = 0;
     row_count = 0;
-    depth = number(s + 16, 4) > 8 ? 9 : (int)number(s + 16, 4);
-    if (number(s, 4) != (uint32_t)pages || number(s + 4, 4) != PAGE || number(s + 8, 4) != ENTRIES || number(s + 12, 4) != 2 * PAGE) return broken(0);
-    if (depth > DEEPEST || !all_zero(s + 20, PAGE - 20)) return broken(0);
-    for (int i = 0; i < ENTRIES; i++) {
-        uint32_t e = number(s + PAGE + 4 * i, 4);
-        if (e != 0 && (e < 2 || e >= (uint32_t)pages || i >= 1 << depth)) return broken(1);
-    }
+    make_room();
+    if (!good_page0(s, pages)) return broken(0);
+    if (!good_page1(s, pages, depth, named)) return broken(1);
     for (int p = 2; p < pages; p++) {
-        const uint8_t *g = s + (size_t)p * PAGE;
-        int zero = all_zero(g, PAGE), count = 0;
-        first[p].page = 0;
-        if (!zero) {
-            count = bucket_rows(g, p, rows + row_count);
-            if (count < 0 || g[1] > depth) return broken(p);
-            first[p] = rows[row_count];
+        const uint8_t *g = s + (size_t)p * page_size;
+        if (all_zero(g, page_size)) {
+            if (named[p] != 0) return broken(p);
+            continue;
         }
-        for (int i = 0; i < ENTRIES; i++) {
-            int calls = !zero && i < 1 << depth && (uint32_t)i >> (depth - g[1]) == prefix(first[p].hash, g[1]);
-            if (calls != (number(s + PAGE + 4 * i, 4) == (uint32_t)p)) return broken(p);
-        }
+        int count = bucket_rows(g, p, rows + row_count);
+        if (count < 0 || g[1] > depth) return broken(p);
+        hashes[p] = rows[row_count].hash;
+        if (!called(s, p, depth, g[1], prefix(hashes[p], g[1]), named[p])) return broken(p);
         row_count += count;
+        make_room();
     }
     weigh(rows, row_count);
     for (int p = 2; p < pages; p++) {
-        int bits = s[(size_t)p * PAGE + 1];
-        if (first[p].page == 0) continue;
-        if (bits > deepest) deepest = bits;
-        if (bits > 0 && weight(bits - 1, prefix(first[p].hash, bits - 1)) <= CAPACITY) return broken(p);
+        int bits = s[(size_t)p * page_size + 1]; /* 0 on a free page */
+        if (bits > largest) largest = bits;
+        if (bits > 0 && weight(bits - 1, prefix(hashes[p], bits - 1)) <= capacity) return broken(p);
     }
-    return depth == deepest ? 0 : broken(0);
+    return depth == largest ? 0 : broken(0);
 }
 
 static int find(const uint8_t *code, size_t len) {
@@ -228,37 +275,55 @@ static int find(const uint8_t *code, size_t len) {
     return -1;
 }
 
+/* The rows that stand on page p, in code order. */
+static int on_page(int p, struct row **out) {
+    int n = 0;
+    for (int i = 0; i < row_count; i++)
+        if (rows[i].page == p) out[n++] = rows + i;
+    qsort(out, n, sizeof *out, sort_order);
+    return n;
+}
+
+/* Those of some rows whose hash begins so. */
+static int of_prefix(struct row *const *some, int count, struct bucket b, struct row **out) {
+    int n = 0;
+    for (int i = 0; i < count; i++)
+        if (prefix(some[i]->hash, b.bits) == b.value) out[n++] = some[i];
+    return n;
+}
+
 /* Depth and entries from the rows, each bucket on the page where its rows stand. */
 static void write_directory(uint8_t *s) {
-    static struct bucket buckets[ENTRIES];
-    static struct row some[MOST_ROWS + 1];
+    static struct bucket buckets[MOST_ENTRIES];
+    static int page_of[MOST_ENTRIES];
     int n = partition(rows, row_count, buckets), depth = 0;
+    for (int i = 0; i < row_count; i++) page_of[bucket_of(rows[i].hash)] = rows[i].page;
     for (int b = 0; b < n; b++)
         if (buckets[b].bits > depth) depth = buckets[b].bits;
     set_number(s + 16, 4, depth);
-    memset(s + PAGE, 0, PAGE);
-    for (int b = 0; b < n; b++) {
-        of_prefix(rows, row_count, buckets[b].bits, buckets[b].value, some);
-        for (int i = 0; i < 1 << depth; i++)
-            if ((uint32_t)i >> (depth - buckets[b].bits) == buckets[b].value) set_number(s + PAGE + 4 * i, 4, some[0].page);
+    memset(s + page_size, 0, page_size);
+    for (int i = 0; i < 1 << depth; i++) {
+        int b = of_leaf[i << (deepest - depth)];
+        if (b >= 0) set_number(s + page_size + 4 * i, 4, page_of[b]);
     }
 }
 
 static int lowest_free(const uint8_t *s, int pages) {
     for (int p = 2; p < pages; p++)
-        if (s[(size_t)p * PAGE] == 0) return p;
+        if (s[(size_t)p * page_size] == 0) return p;
     return 0;
 }
 
 /* ---- the calls */
 
-uint64_t ref_format(uint8_t *s, size_t len) {
-    if (!good_length(len)) return refusal(1);
+uint64_t ref_format(uint8_t *s, size_t len, uint64_t size) {
+    if (!go_by(size) || !in_limits(len)) return refusal(1);
     memset(s, 0, len);
-    set_number(s, 4, len / PAGE);
-    set_number(s + 4, 4, PAGE);
-    set_number(s + 8, 4, ENTRIES);
-    set_number(s + 12, 4, 2 * PAGE);
+    set_number(s, 4, len / page_size);
+    set_number(s + 4, 4, page_size);
+    set_number(s + 8, 4, entries);
+    set_number(s + 12, 4, 2 * page_size);
+    set_number(s + 20, 4, page_size == 1024 ? 0 : page_size);
     return 0;
 }
 
@@ -270,7 +335,7 @@ uint64_t ref_count(const uint8_t *s, size_t len) {
 }
 
 uint64_t ref_lookup(const uint8_t *s, size_t len, const uint8_t *code, size_t code_len) {
-    if (!good_length(len)) return refusal(1);
+    if (!good_length(s, len)) return refusal(1);
     if (code_len == 0 || code_len > 64) return refusal(3);
     uint64_t bad = read_store(s, len);
     if (bad) return bad;
@@ -279,71 +344,80 @@ uint64_t ref_lookup(const uint8_t *s, size_t len, const uint8_t *code, size_t co
 }
 
 /* Row n of these, in this order, to the output. */
-static uint64_t give(const struct row *of, int count, uint64_t n, uint8_t *out, uint32_t *code_len) {
+static uint64_t give(struct row *const *of, int count, uint64_t n, uint8_t *out, uint32_t *code_len) {
     if (n >= (uint64_t)count) return refusal(9);
-    memcpy(out, of[n].code, of[n].len);
-    *code_len = of[n].len;
-    return place_word(of[n].place);
+    memcpy(out, of[n]->code, of[n]->len);
+    *code_len = of[n]->len;
+    return place_word(of[n]->place);
 }
 
-static struct row listing[MOST_ROWS + 1];
+/* Buckets by their first entry, in a bucket codes in order. */
+static int list_order(const void *a, const void *b) {
+    int p = bucket_of((*(struct row *const *)a)->hash), q = bucket_of((*(struct row *const *)b)->hash);
+    return p != q ? p - q : sort_order(a, b);
+}
 
-/* The rows that were read, as they are listed; how many. */
-static int list_rows(void) {
-    static struct bucket buckets[ENTRIES];
-    int many = partition(rows, row_count, buckets), listed = 0;
-    for (int b = 0; b < many; b++) {
-        int k = of_prefix(rows, row_count, buckets[b].bits, buckets[b].value, listing + listed);
-        qsort(listing + listed, k, sizeof *listing, row_order);
-        listed += k;
-    }
-    return listed;
+static struct row **listing;
+
+/* The rows that were read, as they are listed. */
+static void list_rows(void) {
+    static struct bucket buckets[MOST_ENTRIES];
+    partition(rows, row_count, buckets);
+    listing = realloc(listing, (row_count + 1) * sizeof *listing);
+    if (!listing) abort();
+    for (int i = 0; i < row_count; i++) listing[i] = rows + i;
+    qsort(listing, row_count, sizeof *listing, list_order);
 }
 
 uint64_t ref_row(const uint8_t *s, size_t len, uint64_t n, uint8_t *out, size_t out_len, uint32_t *code_len) {
-    if (!good_length(len)) return refusal(1);
+    if (!good_length(s, len)) return refusal(1);
     if (out_len < 64) return refusal(8);
     uint64_t bad = read_store(s, len);
     if (bad) return bad;
-    return give(listing, list_rows(), n, out, code_len);
+    list_rows();
+    return give(listing, row_count, n, out, code_len);
 }
 
-/* ---- the bid report: every listed row against every sheet row */
+/* ---- the bid report */
 
-static int same_place(const struct row *r, const lots_sheet_row *x) {
-    return number(r->place, 4) == (uint32_t)x->page && number(r->place + 4, 2) == (uint16_t)x->slot && number(r->place + 6, 2) == (uint16_t)x->volume;
+static int order_of(int64_t a, int64_t b) { return (a > b) - (a < b); }
+
+static int place_order(int32_t page, int slot, int volume, const lots_sheet_row *x) {
+    int c = order_of(page, x->page);
+    if (c == 0) c = order_of(slot, x->slot);
+    return c != 0 ? c : order_of(volume, x->volume);
+}
+
+static int row_to_sheet(const void *a, const void *x) {
+    const uint8_t *place = ((const struct row *)a)->place;
+    return place_order(number(place, 4), number(place + 4, 2), number(place + 6, 2), x);
 }
 
 static int good_sheet(const lots_sheet_row *x, size_t n) {
-    if (n > 20000) return 0;
+    if (n > MOST_SHEET) return 0;
     for (size_t i = 0; i < n; i++) {
         if (x[i].page < 0 || x[i].slot < 0 || x[i].volume < 0) return 0;
         if (x[i].cents < -1000000000000 || x[i].cents > 1000000000000) return 0;
-        if (i == 0) continue;
-        const lots_sheet_row *a = x + i - 1, *b = x + i;
-        if (a->page > b->page) return 0;
-        if (a->page == b->page && a->slot > b->slot) return 0;
-        if (a->page == b->page && a->slot == b->slot && a->volume >= b->volume) return 0;
+        if (i > 0 && place_order(x[i - 1].page, x[i - 1].slot, x[i - 1].volume, x + i) >= 0) return 0;
     }
     return 1;
 }
 
 lots_report_answer ref_report(const uint8_t *s, size_t len, const lots_sheet_row *sheet, size_t n) {
-    static int named[20000];
+    static int named[MOST_SHEET];
     lots_report_answer r = {0, 0, 0, 0, 0, 0};
-    if (!good_length(len)) return r.answer = refusal(1), r;
+    if (!good_length(s, len)) return r.answer = refusal(1), r;
     if (!good_sheet(sheet, n)) return r.answer = refusal(10), r;
     uint64_t bad = read_store(s, len);
     if (bad) return r.answer = bad, r;
-    int listed = list_rows();
+    list_rows();
     int64_t total = 0;
     memset(named, 0, sizeof named);
-    for (int k = 0; k < listed; k++) {
-        size_t i = 0;
-        while (i < n && !same_place(listing + k, sheet + i)) i++;
-        if (i == n) return r.answer = refusal(11), r.place = place_word(listing[k].place), r;
-        total += sheet[i].cents;
-        named[i]++;
+    for (int k = 0; k < row_count; k++) {
+        const lots_sheet_row *x = bsearch(listing[k], sheet, n, sizeof *sheet, row_to_sheet);
+        if (!x) return r.answer = refusal(11), r.place = place_word(listing[k]->place), r;
+        total += x->cents;
+        named[x - sheet]++;
     }
     r.total = total;
     for (size_t i = 0; i < n; i++) {
@@ -354,75 +428,63 @@ lots_report_answer ref_report(const uint8_t *s, size_t len, const lots_sheet_row
 }
 
 uint64_t ref_inspect(const uint8_t *g, size_t len, uint64_t n, uint8_t *out, size_t out_len, uint32_t *code_len) {
-    static struct row of[79];
+    static struct row on[MOST_ON_PAGE], *of[MOST_ON_PAGE];
     int count = 0;
-    if (len != PAGE) return refusal(1);
+    if (!go_by(len)) return refusal(1);
     if (out_len < 64) return refusal(8);
-    if (!all_zero(g, PAGE)) {
-        count = g[1] > DEEPEST ? -1 : bucket_rows(g, 0, of);
+    if (!all_zero(g, page_size)) {
+        count = g[1] > deepest ? -1 : bucket_rows(g, 0, on);
         if (count < 0) return broken(0);
     }
+    for (int i = 0; i < count; i++) of[i] = on + i;
     return give(of, count, n, out, code_len);
 }
 
-/* The rows that stand on page p, in code order, into out. */
-static int on_page(int p, struct row *out) {
-    int n = 0;
-    for (int i = 0; i < row_count; i++)
-        if (rows[i].page == p) out[n++] = rows[i];
-    qsort(out, n, sizeof *out, row_order);
-    return n;
-}
-
-/* out goes back to where the rows stand now: the page's rows get its starts. */
-static void settle(int p, const struct row *moved, int n) {
-    for (int i = 0; i < n; i++) {
-        struct row *r = rows + find(moved[i].code, moved[i].len);
-        r->page = p;
-        r->start = moved[i].start;
-    }
-}
-
-static void put_at_frontier(uint8_t *g, int p, int depth) {
-    struct row of[80], *fresh = NULL;
-    int n = on_page(p, of), frontier = 8;
-    for (int i = 0; i < n; i++) {
-        if (of[i].start == 0) fresh = of + i;
-        else if (of[i].start + 8 + of[i].len > frontier) frontier = of[i].start + 8 + of[i].len;
-    }
-    if (PAGE - 4 * (n - 1) - frontier < need(fresh)) { /* too little room there: packed first, without the new row */
+/* The row `fresh` is one of the page's, and has no place on it yet. */
+static void put_at_frontier(uint8_t *g, struct row *fresh, int depth) {
+    struct row *of[MOST_ON_PAGE];
+    int n = on_page(fresh->page, of), frontier = 8;
+    for (int i = 0; i < n; i++)
+        if (of[i] != fresh && of[i]->start + 8 + of[i]->len > frontier) frontier = of[i]->start + 8 + of[i]->len;
+    if (page_size - 4 * (n - 1) - frontier < need(fresh)) { /* too little room there: packed first, without the new row */
         frontier = 8;
         for (int i = 0; i < n; i++)
-            if (of + i != fresh) {
-                of[i].start = frontier;
-                frontier += 8 + of[i].len;
+            if (of[i] != fresh) {
+                of[i]->start = frontier;
+                frontier += 8 + of[i]->len;
             }
     }
     fresh->start = frontier;
-    settle(p, of, n);
     write_bucket(g, depth, of, n);
 }
 
-/* Row `fresh` is the last of the rows and stands nowhere. The new buckets of its page's rows, packed, in prefix order. */
-static void split(uint8_t *s, int pages, int old, const struct bucket *after, int n) {
-    struct row below[80], some[80];
+/* The rows of the old page and the row `fresh`, which stands nowhere: the new buckets, packed, in prefix order. */
+static void split(uint8_t *s, int pages, int old, struct row *fresh, const struct bucket *after, int n) {
+    struct row *below[MOST_ON_PAGE + 1], *some[MOST_ON_PAGE + 1];
     int count = on_page(old, below), first = 1;
-    memset(s + (size_t)old * PAGE, 0, PAGE);
-    below[count++] = rows[row_count - 1];
+    memset(s + (size_t)old * page_size, 0, page_size);
+    below[count++] = fresh;
     for (int b = 0; b < n; b++) {
-        int k = of_prefix(below, count, after[b].bits, after[b].value, some);
+        int k = of_prefix(below, count, after[b], some);
         if (k == 0) continue;
-        int p = first ? old : lowest_free(s, pages);
+        write_packed(s, first ? old : lowest_free(s, pages), after[b].bits, some, k);
         first = 0;
-        pack(some, k);
-        settle(p, some, k);
-        write_bucket(s + (size_t)p * PAGE, after[b].bits, some, k);
     }
 }
 
+static struct row *add_row(const uint8_t *code, size_t code_len, const uint8_t *place) {
+    struct row *r = rows + row_count++;
+    memset(r, 0, sizeof *r);
+    memcpy(r->code, code, code_len);
+    r->len = code_len;
+    memcpy(r->place, place, 8);
+    r->hash = ref_hash(code, code_len);
+    return r;
+}
+
 uint64_t ref_put(uint8_t *s, size_t len, const uint8_t *code, size_t code_len, int32_t page, int16_t slot, int16_t volume, uint64_t mode) {
-    static struct bucket before[ENTRIES], after[ENTRIES];
-    if (!good_length(len)) return refusal(1);
+    static struct bucket before[MOST_ENTRIES], after[MOST_ENTRIES];
+    if (!good_length(s, len)) return refusal(1);
     if (code_len == 0 || code_len > 64) return refusal(3);
     if (page < 0 || slot < 0 || volume < 0) return refusal(4);
     if (mode != 0 && mode != 1 && mode != 2) return refusal(14);
@@ -437,36 +499,22 @@ uint64_t ref_put(uint8_t *s, size_t len, const uint8_t *code, size_t code_len, i
     if (known < 0 && mode == 2) return refusal(5);
     if (known >= 0) {
         uint64_t old = place_word(rows[known].place);
-        memcpy(s + (size_t)rows[known].page * PAGE + rows[known].start, place, 8);
+        memcpy(s + (size_t)rows[known].page * page_size + rows[known].start, place, 8);
         return old;
     }
-    int pages = len / PAGE, were = partition(rows, row_count, before);
-    struct row *r = rows + row_count++;
-    memset(r, 0, sizeof *r);
-    memcpy(r->code, code, code_len);
-    r->len = code_len;
-    memcpy(r->place, place, 8);
-    r->hash = ref_hash(code, code_len);
-    if (needs_of(rows, row_count, DEEPEST, prefix(r->hash, DEEPEST)) > CAPACITY) return refusal(6);
-    int are = partition(rows, row_count, after), old = 0, depth = 0;
+    partition(rows, row_count, before);
+    int pages = len / page_size, home = bucket_of(ref_hash(code, code_len)), old = 0;
+    for (int i = 0; i < row_count && home >= 0; i++)
+        if (bucket_of(rows[i].hash) == home) old = rows[i].page;
+    struct row *r = add_row(code, code_len, place);
+    int are = partition(rows, row_count, after);
+    if (weight(deepest, prefix(r->hash, deepest)) > capacity) return refusal(6);
     if (are > pages - 2) return refusal(7);
-    for (int b = 0; b < were; b++)
-        if (prefix(r->hash, before[b].bits) == before[b].value) {
-            struct row some[80];
-            of_prefix(rows, row_count - 1, before[b].bits, before[b].value, some);
-            old = some[0].page;
-            depth = before[b].bits;
-        }
-    if (old == 0) {
-        for (int b = 0; b < are; b++)
-            if (prefix(r->hash, after[b].bits) == after[b].value) depth = after[b].bits;
-        r->page = lowest_free(s, pages);
-        put_at_frontier(s + (size_t)r->page * PAGE, r->page, depth);
-    } else if (needs_of(rows, row_count, depth, prefix(r->hash, depth)) <= CAPACITY) {
-        r->page = old;
-        put_at_frontier(s + (size_t)old * PAGE, old, depth);
+    if (home >= 0 && weight(before[home].bits, before[home].value) > capacity) {
+        split(s, pages, old, r, after, are);
     } else {
-        split(s, pages, old, after, are);
+        r->page = home >= 0 ? old : lowest_free(s, pages);
+        put_at_frontier(s + (size_t)r->page * page_size, r, after[bucket_of(r->hash)].bits);
     }
     write_directory(s);
     return NEW_ROW;
@@ -476,7 +524,7 @@ uint64_t ref_put(uint8_t *s, size_t len, const uint8_t *code, size_t code_len, i
 uint64_t ref_put_all(uint8_t *s, size_t len, const uint8_t *codes, size_t codes_len, const uint32_t *lengths, size_t lengths_len, const uint64_t *places,
                      size_t places_len, uint32_t *answers, size_t answers_len, uint64_t mode) {
     uint64_t sum = 0, bad;
-    if (!good_length(len)) return refusal(1);
+    if (!good_length(s, len)) return refusal(1);
     for (size_t i = 0; i < lengths_len; i++) sum += lengths[i];
     if (places_len != lengths_len || answers_len != lengths_len || sum != codes_len) return refusal(12);
     if (mode > 2) return refusal(14);
@@ -489,9 +537,9 @@ uint64_t ref_put_all(uint8_t *s, size_t len, const uint8_t *codes, size_t codes_
 }
 
 uint64_t ref_remove(uint8_t *s, size_t len, const uint8_t *code, size_t code_len) {
-    static struct bucket after[ENTRIES];
-    struct row some[160];
-    if (!good_length(len)) return refusal(1);
+    static struct bucket after[MOST_ENTRIES];
+    struct row *some[MOST_ON_PAGE];
+    if (!good_length(s, len)) return refusal(1);
     if (code_len == 0 || code_len > 64) return refusal(3);
     uint64_t bad = read_store(s, len);
     if (bad) return bad;
@@ -499,24 +547,23 @@ uint64_t ref_remove(uint8_t *s, size_t len, const uint8_t *code, size_t code_len
     if (at < 0) return refusal(5);
     struct row gone = rows[at];
     rows[at] = rows[--row_count];
-    int n = partition(rows, row_count, after), home = -1;
-    for (int b = 0; b < n; b++)
-        if (prefix(gone.hash, after[b].bits) == after[b].value) home = b;
-    uint8_t *g = s + (size_t)gone.page * PAGE;
+    partition(rows, row_count, after);
+    int home = bucket_of(gone.hash), lowest = gone.page, k = 0;
+    uint8_t *g = s + (size_t)gone.page * page_size;
     if (home < 0) {
-        memset(g, 0, PAGE);
+        memset(g, 0, page_size);
     } else if (after[home].bits == g[1]) {
-        int k = on_page(gone.page, some);
+        k = on_page(gone.page, some);
         write_bucket(g, g[1], some, k);
     } else {
-        int k = of_prefix(rows, row_count, after[home].bits, after[home].value, some), lowest = gone.page;
-        for (int i = 0; i < k; i++)
-            if (some[i].page < lowest) lowest = some[i].page;
-        memset(g, 0, PAGE);
-        for (int i = 0; i < k; i++) memset(s + (size_t)some[i].page * PAGE, 0, PAGE);
-        pack(some, k);
-        settle(lowest, some, k);
-        write_bucket(s + (size_t)lowest * PAGE, after[home].bits, some, k);
+        memset(g, 0, page_size);
+        for (int i = 0; i < row_count; i++) {
+            if (bucket_of(rows[i].hash) != home) continue;
+            some[k++] = rows + i;
+            if (rows[i].page < lowest) lowest = rows[i].page;
+            memset(s + (size_t)rows[i].page * page_size, 0, page_size);
+        }
+        write_packed(s, lowest, after[home].bits, some, k);
     }
     write_directory(s);
     return place_word(gone.place);

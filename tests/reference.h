@@ -1,11 +1,14 @@
-/* A second implementation of document 01 with the modes, the batch and the report of document 02, written from the documents and from nothing else: slow, plain, and worked out afresh from the rows at every call. */
+/* A second implementation of document 01 with the modes, the batch, the report and the page sizes of document 02, written from the documents and from nothing else: slow, plain, and worked out afresh from the rows at every call. */
 #ifndef REFERENCE_H
 #define REFERENCE_H
 
 #include "../include/lots.h"
 
+/* the most rows of a sheet */
+enum { MOST_SHEET = 200000 };
+
 /* The answers are those of include/lots.h. */
-uint64_t ref_format(uint8_t *store, size_t store_len);
+uint64_t ref_format(uint8_t *store, size_t store_len, uint64_t page_size);
 uint64_t ref_check(const uint8_t *store, size_t store_len);
 uint64_t ref_lookup(const uint8_t *store, size_t store_len, const uint8_t *code, size_t code_len);
 uint64_t ref_remove(uint8_t *store, size_t store_len, const uint8_t *code, size_t code_len);

@@ -40,7 +40,7 @@ module _ (S : Shape) (h : List ℕ → ℕ) (m : ℕ) where
       (λ _. ((λ _ _. kept _ refl), (λ _. ((λ _ _. kept _ refl), (λ _. ((λ _ _. kept _ refl), (λ _. ((λ _ _. kept _ refl), (λ _ _. by-mode))))))))),
     )
 
-  left-by : (w : Wanted) (s : List ℕ) (n : ℕ) (t : List ℕ) (p : OnePut S h m w s n t) (rs : List Row) → surviving (put (w .code) (w .place) m) (p .out) rs ≡ leftBy n w rs
+  pub left-by : (w : Wanted) (s : List ℕ) (n : ℕ) (t : List ℕ) (p : OnePut S h m w s n t) (rs : List Row) → surviving (put (w .code) (w .place) m) (p .out) rs ≡ leftBy n w rs
   left-by w s n t p rs = sym (ap (λ k. leftBy k w rs) (p .is) ∙ by-answer w s rs (p .out, t) (p .made))
 
   pub puts-history : {l : List Wanted} {rs : List Row} {s ns t : List ℕ} → History S h rs s → OneByOne S h m l s ns t → History S h (survivors l ns rs) t
@@ -48,7 +48,7 @@ module _ (S : Shape) (h : List ℕ → ℕ) (m : ℕ) where
   puts-history {rs = rs} H (and-then {w} {l} {s} {t} {u} {n} {ns} p ps) =
       puts-history (subst (λ x. History S h x t) (left-by w s n t p rs) (next (put (w .code) (w .place) m) (p .out) H (p .made))) ps
 
-  refused-not : {A : Type 0} {y : Out × (List ℕ × List ℕ)} → ok (y .0) ≡ false → (x : Out × (List ℕ × List ℕ)) → x ≡ y → ok (x .0) ≡ true → A
+  pub refused-not : {A : Type 0} {y : Out × (List ℕ × List ℕ)} → ok (y .0) ≡ false → (x : Out × (List ℕ × List ℕ)) → x ≡ y → ok (x .0) ≡ true → A
   refused-not f x e g = absurd (true≢false (sym g ∙ ap (λ y. ok (y .0)) e ∙ f))
 
   -- of the whole call: one that is taken is its puts

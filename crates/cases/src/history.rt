@@ -157,7 +157,7 @@ fn by_mode(store: &mut [u8], kind: Kind)
 pub fn full(store: &mut [u8]) {
     io::write_all(STDOUT_FILENO, b"case 11, full store\n");
     let any = codes(64, 0, 0);
-    say_number(b"format:", lots_c::lots_format(store));
+    say_number(b"format:", lots_c::lots_format(store, 1024));
     say_number(b"rows put:", put_all(store, any, 13));
     say_place(b"a 14th:", put(store, any, 13));
     say_place(b"on one of the 13:", put(store, any, 5));
@@ -169,7 +169,7 @@ pub fn full(store: &mut [u8]) {
 pub fn crowded(store: &mut [u8]) {
     io::write_all(STDOUT_FILENO, b"case 11, crowded prefix\n");
     let alike = codes(64, 8, 90);
-    say_number(b"format:", lots_c::lots_format(store));
+    say_number(b"format:", lots_c::lots_format(store, 1024));
     say_number(b"rows put:", put_all(store, alike, 13));
     say_place(b"a 14th:", put(store, alike, 13));
     say_place(b"on one of the 13:", put(store, alike, 5));
@@ -196,7 +196,7 @@ pub fn deep_split(store: &mut [u8]) {
     io::write_all(STDOUT_FILENO, b"deep split\n");
     let short = codes(3, 6, 0);
     let long = codes(64, 6, 0);
-    say_number(b"format:", lots_c::lots_format(store));
+    say_number(b"format:", lots_c::lots_format(store, 1024));
     say_number(b"rows put at 1, 01 to 000001:", put_ladder(store));
     say_number(b"rows put at 000000:", put_all(store, short, 62));
     say(store);
@@ -224,7 +224,7 @@ pub fn deep_join(store: &mut [u8]) {
 pub fn fragmented(store: &mut [u8]) {
     io::write_all(STDOUT_FILENO, b"fragmented page\n");
     let any = codes(64, 0, 0);
-    say_number(b"format:", lots_c::lots_format(store));
+    say_number(b"format:", lots_c::lots_format(store, 1024));
     say_number(b"rows put:", put_all(store, any, 13));
     say_place(b"the first removed:", remove(store, any, 0));
     say(store);
@@ -237,7 +237,7 @@ fn beside_hole(store: &mut [u8], kind: Kind)
     requires { ⌜ (kind .len ≤ 64) × (kind .bits ≤ 8) ⌝ }
 {
     let any = codes(64, 0, 0);
-    say_number(b"format:", lots_c::lots_format(store));
+    say_number(b"format:", lots_c::lots_format(store, 1024));
     say_number(b"rows put:", put_all(store, any, 13));
     say_place(b"the first removed:", remove(store, any, 0));
     say(store);
@@ -261,7 +261,7 @@ pub fn joined(store: &mut [u8]) {
     io::write_all(STDOUT_FILENO, b"emptied bucket, joined\n");
     let left = codes(64, 2, 0);
     let right = codes(64, 2, 1);
-    say_number(b"format:", lots_c::lots_format(store));
+    say_number(b"format:", lots_c::lots_format(store, 1024));
     say_number(b"rows put at 00:", put_all(store, left, 13));
     say_place(b"one at 01:", put(store, right, 0));
     say(store);

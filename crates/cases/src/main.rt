@@ -36,7 +36,7 @@ fn histories(store: &mut [u8]) {
 
 // In 3 pages, "a" with place (7, 2, 0), whatever they held.
 fn case_10(store: &mut [u8]) {
-    say_number(b"format:", lots_c::lots_format(store));
+    say_number(b"format:", lots_c::lots_format(store, 1024));
     say_place(b"put a:", lots_c::lots_put(store, b"a", 7, 2, 0, 0));
     io::write_all(STDOUT_FILENO, b"case 10\n");
     show::lines(store);

@@ -208,7 +208,10 @@ fn removes(sound: &mut [u8], damaged: &mut [u8]) {
 // The same two stores, lent for writing: they are left as they were.
 pub fn of_writes(sound: &mut [u8], damaged: &mut [u8]) {
     let mut short = [0xAAu8; 3071];
-    say_number(b"format, 3071 bytes:", lots_c::lots_format(&mut short));
+    say_number(
+        b"format, 3071 bytes:",
+        lots_c::lots_format(&mut short, 1024),
+    );
     puts(sound, damaged);
     removes(sound, damaged);
     io::write_all(STDOUT_FILENO, b"every byte as before\n");

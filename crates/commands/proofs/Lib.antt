@@ -6,4 +6,3 @@ pub mod Adding
 pub mod Shown
 pub mod Unread
 pub mod Unasked
-pub mod Settled

@@ -17,7 +17,7 @@ use borrow.Author.Tests.{ltb-true}
 use Rattle.ground.specs.Lists.{byte}
 use Rattle.ground.proofs.Tests.{untrue}
 use Rattle.page.proofs.Signs.{bits-back}
-use Rattle.commands.specs.Numbers.{Decimal, Integer, ReadsSigned, signed}
+use Rattle.commands.specs.Numbers.{Decimal, Integer, ReadsSigned, integer, signed}
 use Rattle.commands.specs.declared.Signed.the-variants.{Of}
 
 less-one : (k : ℕ) → negsuc 0 -ℤ pos k ≡ negsuc k
@@ -139,5 +139,5 @@ module _ (z : ℤ) (h : mag z < 2147483648) where
     keep-is = from-zero z is-from ∙ sym (rw (whole, is-from) (ap pos (ap natAbs (from-zero z is-from))))
 
 -- a part of a place that is shown
-pub part-text : (D : ℤ → List ℕ → Type 0) (w : Width) (x r : ℤ) (t : List ℕ) → SFits w x → mag r < 2147483648 → r ≡ toZ w (ofZ w x) → D (toZ w64 (ofZ w64 r)) t → D x t
-part-text D w x r t f h e k = subst (λ (y : ℤ). D y t) (whole r h ∙ e ∙ toZ-ofZ f) k
+pub part-text : (w : Width) (x r : ℤ) → SFits w x → mag r < 2147483648 → r ≡ toZ w (ofZ w x) → integer (toZ w64 (ofZ w64 r)) ≡ integer x
+part-text w x r f h e = ap integer (whole r h ∙ e ∙ toZ-ofZ f)

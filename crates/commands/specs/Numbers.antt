@@ -1,13 +1,14 @@
 -- Numbers as text: plain decimal, with - for negative ones. Assumes nothing.
-use Prim.Native.Nat.{ℕ, zero, suc, _+_, _*_, _-_, _^_, _≤_, _<_}
+use Prim.Native.Nat.{ℕ, zero, suc, _+_, _*_, _-_, _/_, _^_, _≤_, _<_}
 use mathlib.Core.Path.{_≡_}
-use mathlib.Core.Bool.{Bool, true, false}
+use mathlib.Core.Bool.{Bool, true, false, cond}
 use mathlib.Core.List.{List, _∷_}
+use lib.Dec.{ltb}
 use lib.ListN.{length}
 use lib.IntN.{ℤ, pos, negℤ, natAbs}
 use lib.Signed.{mag, ltZ}
 use Rattle.ground.specs.Lists.{byte}
-use Rattle.io.specs.Digits.{digits, Fewest}
+use Rattle.io.specs.Digits.{digits}
 use Rattle.commands.specs.declared.Number.{Number}
 use Rattle.commands.specs.declared.Number.the-variants.{Is, Not}
 use Rattle.commands.specs.declared.Signed.{Signed}
@@ -34,10 +35,14 @@ pub record Decimal (n : ℕ) (w : List ℕ) : Type 0 where
   pub each : (k : ℕ) → k < length w → Digit (byte w k)
   pub is : value w (length w) ≡ n
 
--- w is n in the fewest digits
-pub record Numeral (n : ℕ) (w : List ℕ) : Type 0 where
-  pub fewest : Fewest 10 1 n (length w)
-  pub text : w ≡ digits 10 (length w) n
+-- how many decimal digits n has, if they are at most one more than f
+unfoldable pub width : ℕ → ℕ → ℕ
+width zero n = 1
+width (suc f) n = cond (ltb n 10) 1 (suc (width f (n / 10)))
+
+-- n in the fewest decimal digits
+unfoldable pub decimal : ℕ → List ℕ
+decimal n = digits 10 (width n n) n
 
 -- a word is read as a number of 64 bits, or it is none
 abbrev pub ReadsNumber : List ℕ → Number → Type 0
@@ -63,11 +68,9 @@ pub record Integer (z : ℤ) (w : List ℕ) : Type 0 where
   pub sized : Decimal size digits
   pub is : z ≡ signed minus size
 
--- w is z in the fewest digits, with - before a negative one
-pub record Shortest (z : ℤ) (w : List ℕ) : Type 0 where
-  pub digits : List ℕ
-  pub text : w ≡ marked (ltZ z (pos 0)) digits
-  pub sized : Numeral (natAbs z) digits
+-- z in the fewest digits, with - before a negative one
+abbrev pub integer : ℤ → List ℕ
+integer z = marked (ltZ z (pos 0)) (decimal (natAbs z))
 
 -- a word is read as a number from -most - 1 to most
 abbrev pub ReadsSigned : List ℕ → ℕ → Signed → Type 0

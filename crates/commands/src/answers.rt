@@ -1,15 +1,18 @@
 // Answers as lines of text, put together in a buffer.
 ghost use mathlib.Core.Path.{_≡_};
-ghost use mathlib.Core.List.{[]};
+ghost use mathlib.Core.List.{[], _∷_, _++_};
 ghost use Prim.Native.Nat.{_+_, _*_, _≤_, _<_};
 ghost use lib.ListN.{length, take};
 ghost use lib.IntN.{pos};
 ghost use lib.Signed.{ltZ, mag};
-ghost use Rattle.commands.specs.Answers.{Adds, Lines, Paged, Rowed, Shows, refusedWord, replacedWord};
+ghost use Rattle.io.specs.Digits.{digits};
 ghost use Rattle.store.specs.Tables.{meaning, refusal};
+ghost use Rattle.commands.specs.Answers.{Adds, Lines, because, faulty, numbered, placed, rowed, shows, why};
 ghost use Rattle.commands.specs.Codes.{escape, glyphs, shown, upper};
-ghost use Rattle.commands.specs.Lines.{After, Placed};
-ghost use Rattle.commands.specs.Numbers.{Numeral, Shortest, signed};
+ghost use Rattle.commands.specs.Numbers.{decimal, integer, signed};
+ghost use Rattle.commands.specs.Numbers.{width as Numbers·width};
+ghost use Rattle.commands.specs.Texts.{text as Texts·text};
+use crate::Fault;
 use page::Place;
 use store::Answer;
 use store::Refusal;
@@ -17,21 +20,56 @@ use store::Refusal;
 // A text goes to out at an index.
 fn add(out: &mut [u8], at: usize, text: &[u8]) -> usize
     requires { ⌜ at + length (now text) ≤ length (now out) ⌝ }
-    ensures { λ r. ⌜ Adds (λ t. t ≡ now (text .entry)) (now (out .entry)) at (now (out .exit)) r ⌝ }
-    ensures { λ r. ⌜ r ≡ at + length (now (text .entry)) ⌝ }
+    ensures { λ r. ⌜ Adds (now (text .entry)) (now (out .entry)) at (now (out .exit)) r ⌝ }
 {
     words::copy_at(out, at, text);
     at + text.len()
 }
 
+// How many decimal digits a number has. Most numbers are short.
+fn width(n: u64) -> usize
+    ensures { λ r. ⌜ (r ≡ Numbers·width n n) × (r ≤ 20) ⌝ }
+{
+    if n < 10 {
+        return 1;
+    }
+    if n < 100 {
+        return 2;
+    }
+    if n < 1000 {
+        return 3;
+    }
+    let mut k = 4;
+    let mut rest = n / 1000;
+    while rest > 9 {
+        rest /= 10;
+        k += 1;
+    }
+    k
+}
+
+// The last k digits of a number go to out at an index.
+fn spell(out: &mut [u8], at: usize, k: usize, n: u64)
+    requires { ⌜ at + k ≤ length (now out) ⌝ }
+    ensures { λ _. ⌜ Adds (digits 10 k n) (now (out .entry)) at (now (out .exit)) (at + k) ⌝ }
+{
+    let mut i = k;
+    let mut rest = n;
+    while i > 0 {
+        i -= 1;
+        out[at + i] = 48 + (rest % 10) as u8;
+        rest /= 10;
+    }
+}
+
 fn add_number(out: &mut [u8], at: usize, n: u64) -> usize
     requires { ⌜ at + 20 ≤ length (now out) ⌝ }
-    ensures { λ r. ⌜ Adds (Numeral n) (now (out .entry)) at (now (out .exit)) r ⌝ }
+    ensures { λ r. ⌜ Adds (decimal n) (now (out .entry)) at (now (out .exit)) r ⌝ }
     ensures { λ r. ⌜ r ≤ at + 20 ⌝ }
 {
-    let mut digits = [0u8; 20];
-    let k = io::decimal(n, &mut digits);
-    add(out, at, &digits[..k])
+    let k = width(n);
+    spell(out, at, k, n);
+    at + k
 }
 
 fn wide32(z: i32) -> i64
@@ -58,7 +96,7 @@ fn size_of(z: i64) -> u64
 
 fn add_signed(out: &mut [u8], at: usize, z: i64) -> usize
     requires { ⌜ (at + 21 ≤ length (now out)) × (mag z < 2147483648) ⌝ }
-    ensures { λ r. ⌜ Adds (Shortest z) (now (out .entry)) at (now (out .exit)) r ⌝ }
+    ensures { λ r. ⌜ Adds (integer z) (now (out .entry)) at (now (out .exit)) r ⌝ }
     ensures { λ r. ⌜ r ≤ at + 21 ⌝ }
 {
     let n = size_of(z);
@@ -71,7 +109,7 @@ fn add_signed(out: &mut [u8], at: usize, z: i64) -> usize
 
 fn add_place(out: &mut [u8], at: usize, p: Place) -> usize
     requires { ⌜ at + 65 ≤ length (now out) ⌝ }
-    ensures { λ r. ⌜ Adds (Placed Shortest p) (now (out .entry)) at (now (out .exit)) r ⌝ }
+    ensures { λ r. ⌜ Adds (placed p) (now (out .entry)) at (now (out .exit)) r ⌝ }
     ensures { λ r. ⌜ r ≤ at + 65 ⌝ }
 {
     let a = add_signed(out, at, wide32(p.page));
@@ -90,7 +128,7 @@ fn upper_digit(d: u8) -> u8
 
 fn add_escaped(out: &mut [u8], at: usize, b: u8) -> usize
     requires { ⌜ at + 3 ≤ length (now out) ⌝ }
-    ensures { λ r. ⌜ Adds (λ t. t ≡ escape b) (now (out .entry)) at (now (out .exit)) r ⌝ }
+    ensures { λ r. ⌜ Adds (escape b) (now (out .entry)) at (now (out .exit)) r ⌝ }
 {
     let text = [37, upper_digit(b / 16), upper_digit(b % 16)];
     add(out, at, &text)
@@ -98,7 +136,7 @@ fn add_escaped(out: &mut [u8], at: usize, b: u8) -> usize
 
 fn add_byte(out: &mut [u8], at: usize, b: u8) -> usize
     requires { ⌜ at + 3 ≤ length (now out) ⌝ }
-    ensures { λ r. ⌜ Adds (λ t. t ≡ glyphs b) (now (out .entry)) at (now (out .exit)) r ⌝ }
+    ensures { λ r. ⌜ Adds (glyphs b) (now (out .entry)) at (now (out .exit)) r ⌝ }
 {
     if b < 33 {
         return add_escaped(out, at, b);
@@ -115,7 +153,7 @@ fn add_byte(out: &mut [u8], at: usize, b: u8) -> usize
 
 fn add_code(out: &mut [u8], at: usize, code: &[u8]) -> usize
     requires { ⌜ at + 3 * length (now code) ≤ length (now out) ⌝ }
-    ensures { λ r. ⌜ Adds (λ t. t ≡ shown (now (code .entry))) (now (out .entry)) at (now (out .exit)) r ⌝ }
+    ensures { λ r. ⌜ Adds (shown (now (code .entry))) (now (out .entry)) at (now (out .exit)) r ⌝ }
     ensures { λ r. ⌜ r ≤ at + 3 * length (now (code .entry)) ⌝ }
 {
     let mut r = at;
@@ -127,40 +165,68 @@ fn add_code(out: &mut [u8], at: usize, code: &[u8]) -> usize
     r
 }
 
-fn refused_text(out: &mut [u8], n: u64) -> usize
-    requires { ⌜ 127 ≤ length (now out) ⌝ }
-    ensures { λ r. ⌜ Adds (λ t. After t refusedWord (Numeral n)) (now (out .entry)) 0 (now (out .exit)) r ⌝ }
-    ensures { λ r. ⌜ r ≤ 28 ⌝ }
+// The number of a line, and why it is not obeyed.
+fn add_because(out: &mut [u8], at: usize, number: usize, text: &[u8]) -> usize
+    requires { ⌜ at + 28 + length (now text) ≤ length (now out) ⌝ }
+    ensures { λ r. ⌜ Adds (because number (now (text .entry))) (now (out .entry)) at (now (out .exit)) r ⌝ }
+    ensures { λ r. ⌜ r ≤ at + 28 + length (now (text .entry)) ⌝ }
 {
-    let a = add(out, 0, b"refused ");
-    add_number(out, a, n)
+    let a = add(out, at, b" line ");
+    let b = add_number(out, a, number as u64);
+    let c = add(out, b, b": ");
+    add(out, c, text)
 }
 
-fn page_text(out: &mut [u8], p: usize) -> usize
-    requires { ⌜ 127 ≤ length (now out) ⌝ }
-    ensures { λ r. ⌜ Adds (λ t. After t refusedWord (Paged 2 p)) (now (out .entry)) 0 (now (out .exit)) r ⌝ }
-    ensures { λ r. ⌜ r ≤ 127 ⌝ }
-{
-    let a = refused_text(out, 2);
-    let b = add(out, a, b" page ");
-    add_number(out, b, p as u64)
-}
-
-fn refusal_text(out: &mut [u8], f: Refusal) -> usize
-    requires { ⌜ 127 ≤ length (now out) ⌝ }
-    ensures { λ r. ⌜ Adds (Shows [] (refusal f)) (now (out .entry)) 0 (now (out .exit)) r ⌝ }
-    ensures { λ r. ⌜ r ≤ 127 ⌝ }
+// A refusal's number, and of 2 the page.
+fn add_refusal(out: &mut [u8], f: Refusal) -> usize
+    requires { ⌜ 54 ≤ length (now out) ⌝ }
+    ensures { λ r. ⌜ Adds (numbered (refusal f)) (now (out .entry)) 0 (now (out .exit)) r ⌝ }
+    ensures { λ r. ⌜ r ≤ 54 ⌝ }
 {
     let n = store::numbers_of(f);
+    let a = add(out, 0, b"refused ");
+    let b = add_number(out, a, n.number as u64);
     if n.number == 2 {
-        return page_text(out, n.page);
+        let c = add(out, b, b" page ");
+        return add_number(out, c, n.page as u64);
     }
-    refused_text(out, n.number as u64)
+    b
+}
+
+// The number of a line that is refused, and why.
+fn add_reason(out: &mut [u8], at: usize, number: usize, f: Refusal) -> usize
+    requires { ⌜ at + 68 ≤ length (now out) ⌝ }
+    ensures { λ r. ⌜ Adds (because number (why (refusal f))) (now (out .entry)) at (now (out .exit)) r ⌝ }
+    ensures { λ r. ⌜ r ≤ at + 68 ⌝ }
+{
+    match f {
+        Refusal::BadLength => add_because(out, at, number, b"a store has 3 to 258 whole pages"),
+        Refusal::BadPage(_) => add_because(out, at, number, b"a rule of the store fails there"),
+        Refusal::BadCode => add_because(out, at, number, b"a code has 1 to 64 bytes"),
+        Refusal::BadPlace => add_because(out, at, number, b"a part of the place is negative"),
+        Refusal::NoCode => add_because(out, at, number, b"no such code"),
+        Refusal::PrefixFull => add_because(out, at, number, b"no room for codes that hash like it"),
+        Refusal::PagesFull => add_because(out, at, number, b"no free page for its buckets"),
+        Refusal::ShortOutput => add_because(out, at, number, b"the output is under 64 bytes"),
+        Refusal::NoRow => add_because(out, at, number, b"not so many rows"),
+        Refusal::BadRuns => add_because(out, at, number, b"the runs differ in length"),
+        Refusal::KnownCode => add_because(out, at, number, b"the code is there"),
+        Refusal::BadMode => add_because(out, at, number, b"no such mode"),
+    }
+}
+
+fn refusal_text(out: &mut [u8], number: usize, f: Refusal) -> usize
+    requires { ⌜ 127 ≤ length (now out) ⌝ }
+    ensures { λ r. ⌜ Adds (shows [] number (refusal f)) (now (out .entry)) 0 (now (out .exit)) r ⌝ }
+    ensures { λ r. ⌜ r ≤ 127 ⌝ }
+{
+    let n = add_refusal(out, f);
+    add_reason(out, n, number, f)
 }
 
 fn replaced_text(out: &mut [u8], p: Place) -> usize
     requires { ⌜ 127 ≤ length (now out) ⌝ }
-    ensures { λ r. ⌜ Adds (λ t. After t replacedWord (Placed Shortest p)) (now (out .entry)) 0 (now (out .exit)) r ⌝ }
+    ensures { λ r. ⌜ Adds (Texts·text "replaced " ++ placed p) (now (out .entry)) 0 (now (out .exit)) r ⌝ }
     ensures { λ r. ⌜ r ≤ 127 ⌝ }
 {
     let n = add(out, 0, b"replaced ");
@@ -169,7 +235,7 @@ fn replaced_text(out: &mut [u8], p: Place) -> usize
 
 fn row_text(out: &mut [u8], code: &[u8], p: Place) -> usize
     requires { ⌜ 127 + 3 * length (now code) ≤ length (now out) ⌝ }
-    ensures { λ r. ⌜ Adds (Rowed (now (code .entry)) p) (now (out .entry)) 0 (now (out .exit)) r ⌝ }
+    ensures { λ r. ⌜ Adds (rowed (now (code .entry)) p) (now (out .entry)) 0 (now (out .exit)) r ⌝ }
     ensures { λ r. ⌜ r ≤ 127 + 3 * length (now (code .entry)) ⌝ }
 {
     let n = add_code(out, 0, code);
@@ -177,25 +243,25 @@ fn row_text(out: &mut [u8], code: &[u8], p: Place) -> usize
     add_place(out, m, p)
 }
 
-// The row's code is the first n bytes of the buffer, if it has so many.
+// The row's code is the first n bytes of the buffer, or all of it.
 fn row_part(out: &mut [u8], code: &[u8], n: usize, p: Place) -> usize
     requires { ⌜ 127 + 3 * length (now code) ≤ length (now out) ⌝ }
-    ensures { λ r. ⌜ Adds (λ t. n ≤ length (now (code .entry)) → Rowed (take n (now (code .entry))) p t) (now (out .entry)) 0 (now (out .exit)) r ⌝ }
+    ensures { λ r. ⌜ Adds (rowed (take n (now (code .entry))) p) (now (out .entry)) 0 (now (out .exit)) r ⌝ }
     ensures { λ r. ⌜ r ≤ 127 + 3 * length (now (code .entry)) ⌝ }
 {
     if n <= code.len() {
         return row_text(out, &code[..n], p);
     }
-    0
+    row_text(out, code, p)
 }
 
-fn answer_text(out: &mut [u8], code: &[u8], a: Answer) -> usize
+fn answer_text(out: &mut [u8], code: &[u8], number: usize, a: Answer) -> usize
     requires { ⌜ 127 + 3 * length (now code) ≤ length (now out) ⌝ }
-    ensures { λ r. ⌜ Adds (Shows (now (code .entry)) (meaning a)) (now (out .entry)) 0 (now (out .exit)) r ⌝ }
+    ensures { λ r. ⌜ Adds (shows (now (code .entry)) number (meaning a)) (now (out .entry)) 0 (now (out .exit)) r ⌝ }
     ensures { λ r. ⌜ r ≤ 127 + 3 * length (now (code .entry)) ⌝ }
 {
     match a {
-        Answer::Refused(r) => refusal_text(out, r),
+        Answer::Refused(r) => refusal_text(out, number, r),
         Answer::Formatted => add(out, 0, b"ok"),
         Answer::Accepted => add(out, 0, b"accepted"),
         Answer::New => add(out, 0, b"new"),
@@ -206,22 +272,65 @@ fn answer_text(out: &mut [u8], code: &[u8], a: Answer) -> usize
     }
 }
 
-// An answer as a line at the start of out. Of a row the code is lent beside it.
-pub fn answer_line(a: Answer, code: &[u8], out: &mut [u8]) -> usize
+// The answer to the line of that number, as a line at the start of out. Of a row the code is lent beside it.
+pub fn answer_line(a: Answer, code: &[u8], number: usize, out: &mut [u8]) -> usize
     requires { ⌜ 128 + 3 * length (now code) ≤ length (now out) ⌝ }
-    ensures { λ r. ⌜ Lines (Shows (now (code .entry)) (meaning a)) (now (out .exit)) r ⌝ }
+    ensures { λ r. ⌜ Lines (shows (now (code .entry)) number (meaning a)) (now (out .exit)) r ⌝ }
 {
-    let n = answer_text(out, code, a);
+    let n = answer_text(out, code, number, a);
     add(out, n, b"\n")
 }
 
 // A word and a number as a line at the start of out.
 pub fn number_line(word: &[u8], n: usize, out: &mut [u8]) -> usize
     requires { ⌜ 22 + length (now word) ≤ length (now out) ⌝ }
-    ensures { λ r. ⌜ Lines (λ t. After t (now (word .entry)) (Numeral n)) (now (out .exit)) r ⌝ }
+    ensures { λ r. ⌜ Lines (now (word .entry) ++ (32 ∷ decimal n)) (now (out .exit)) r ⌝ }
 {
     let a = add(out, 0, word);
     let b = add(out, a, b" ");
     let c = add_number(out, b, n as u64);
     add(out, c, b"\n")
+}
+
+fn add_fault(out: &mut [u8], word: &[u8], number: usize, text: &[u8]) -> usize
+    requires { ⌜ 28 + (length (now word) + length (now text)) ≤ length (now out) ⌝ }
+    ensures { λ r. ⌜ Adds (now (word .entry) ++ because number (now (text .entry))) (now (out .entry)) 0 (now (out .exit)) r ⌝ }
+    ensures { λ r. ⌜ r ≤ 28 + (length (now (word .entry)) + length (now (text .entry))) ⌝ }
+{
+    let n = add(out, 0, word);
+    add_because(out, n, number, text)
+}
+
+fn fault_text(out: &mut [u8], number: usize, f: Fault) -> usize
+    requires { ⌜ 127 ≤ length (now out) ⌝ }
+    ensures { λ r. ⌜ Adds (faulty number f) (now (out .entry)) 0 (now (out .exit)) r ⌝ }
+    ensures { λ r. ⌜ r ≤ 127 ⌝ }
+{
+    match f {
+        Fault::Word => add_fault(out, b"unknown", number, b"no such command"),
+        Fault::Escape => add_fault(out, b"unknown", number, b"% wants two hexadecimal digits"),
+        Fault::Range => add_fault(out, b"unknown", number, b"a number is out of range"),
+        Fault::Form => add_fault(
+            out,
+            b"unknown",
+            number,
+            b"its words are not those of the command",
+        ),
+        Fault::Long => add_fault(out, b"unknown", number, b"over 4096 bytes"),
+        Fault::Filled => add_fault(
+            out,
+            b"refused",
+            number,
+            b"the file is not empty, say format N anew",
+        ),
+    }
+}
+
+// Why the line of that number is not obeyed, as a line at the start of out.
+pub fn fault_line(f: Fault, number: usize, out: &mut [u8]) -> usize
+    requires { ⌜ 128 ≤ length (now out) ⌝ }
+    ensures { λ r. ⌜ Lines (faulty number f) (now (out .exit)) r ⌝ }
+{
+    let n = fault_text(out, number, f);
+    add(out, n, b"\n")
 }

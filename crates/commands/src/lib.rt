@@ -5,6 +5,7 @@ mod lines;
 mod numbers;
 
 pub use answers::answer_line;
+pub use answers::fault_line;
 pub use answers::number_line;
 pub use lines::parse;
 use page::Place;
@@ -23,6 +24,16 @@ pub enum Command {
     Listing,
     Check,
     Inspect(usize),
+}
+
+// Why a line is not obeyed, where no call was asked: its word, its code's text, a number, its words, its length; Filled: the file is not empty.
+pub enum Fault {
+    Word,
+    Escape,
+    Range,
+    Form,
+    Long,
+    Filled,
 }
 
 enum Number {

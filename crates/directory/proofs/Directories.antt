@@ -22,7 +22,7 @@ use Rattle.store.specs.Pages.{size, page, entryAt}
 use Rattle.store.specs.Demands.{Sized}
 use Rattle.store.specs.Accepted.{Calls}
 use Rattle.store.proofs.Paging.Views.{apart}
-use Rattle.directory.specs.Directory.{CallsFor, EntryFor, none, names, Directed, RunSet, PageNamed, Nameable}
+use Rattle.directory.specs.Directory.{CallsFor, EntryFor, none, names, Directed, RunSet, PrefixNamed, PageNamed, Nameable}
 
 pub run-none : (S : Shape) (s : List ℕ) (a p : ℕ) → RunSet S s a a p s
 run-none S s a p = record { new = λ i f l. absurd (omega arith); old = record { len = refl; below = λ i l. refl; above = λ i l. refl } }
@@ -43,39 +43,25 @@ page-above S s t p h l e f =
     let low : 2 * size S ≤ p * size S = mul-le-mul-right (size S) h in
     part-same s t (p * size S) (size S) l (omega arith) (λ i a b. f i (omega (arith, low)))
 
-module _ (S : Shape) (sized : Sized S) (h : List ℕ → ℕ) (s : List ℕ) (d p : ℕ) (deep : d ≤ S .deepest) where
-  abbrev g : List ℕ
-  g = page S s p
-
+-- the run of a prefix is the entries that it calls for
+module _ (S : Shape) (sized : Sized S) (s : List ℕ) (d k v p : ℕ) (deep : d ≤ S .deepest) where
   abbrev prefix : Prefix
-  prefix = record { bits = depth g; value = top (depth g) (h (code g 0)) }
+  prefix = record { bits = k; value = v }
 
-  pub unnamed-page : (byte g 0 ≡ 1 → ⊥) → PageNamed S h s d p s
-  unnamed-page no-use = record {
-    entry = λ i l. inr ((λ c. no-use (c .used)), refl);
-    old = record { len = refl; below = λ i l. refl; above = λ i l. refl };
-  }
-
-  pub named-page : (t : List ℕ) (a b : ℕ) → byte g 0 ≡ 1 → a ≡ first d prefix → b ≡ after d prefix → a ≤ b → b ≤ 2 ^ d → RunSet S s a b p t → PageNamed S h s d p t
-  named-page t a b used ea eb le end r =
+  pub prefix-named : (t : List ℕ) (a b : ℕ) → a ≡ first d prefix → b ≡ after d prefix → a ≤ b → b ≤ 2 ^ d → RunSet S s a b p t → PrefixNamed S s d k v p t
+  prefix-named t a b ea eb le end r =
       let small : b ≤ S .entries = let m : 2 ^ d ≤ 2 ^ S .deepest = pow-mono deep in omega (arith, sized .deep) in
       let whole : 4 * S .entries ≡ size S = sized .whole in
       record {
         entry = λ i l. ⊎-elim
             (λ lt. inr (
-              (λ c. let w : (first d prefix ≤ i) × (i < after d prefix) = holds-range d i prefix .0 (c .calls .bits) in omega (arith, w .0)),
+              (λ c. let w : (first d prefix ≤ i) × (i < after d prefix) = holds-range d i prefix .0 (c .bits) in omega (arith, w .0)),
               le32-below (size S + 4 * i) (r .old) (omega arith),
             ))
             (λ ge. ⊎-elim
-            (λ lt. inl (
-              record {
-                used = used;
-                calls = record { below = omega arith; bits = holds-range d i prefix .1 (omega arith, omega arith) };
-              },
-              r .new i ge lt,
-            ))
+            (λ lt. inl (record { below = omega arith; bits = holds-range d i prefix .1 (omega arith, omega arith) }, r .new i ge lt))
             (λ ge₂. inr (
-              (λ c. let w : (first d prefix ≤ i) × (i < after d prefix) = holds-range d i prefix .0 (c .calls .bits) in omega (arith, w .1)),
+              (λ c. let w : (first d prefix ≤ i) × (i < after d prefix) = holds-range d i prefix .0 (c .bits) in omega (arith, w .1)),
               le32-above (size S + 4 * i) (r .old) (omega arith),
             ))
             (side i b))
@@ -83,8 +69,29 @@ module _ (S : Shape) (sized : Sized S) (h : List ℕ → ℕ) (s : List ℕ) (d 
         old = record { len = r .old .len; below = λ i l. r .old .below i (omega arith); above = λ i l. r .old .above i (omega arith) };
       }
 
+module _ (S : Shape) (h : List ℕ → ℕ) (s : List ℕ) (d p : ℕ) where
+  abbrev g : List ℕ
+  g = page S s p
+
+  pub unnamed-page : (byte g 0 ≡ 1 → ⊥) → PageNamed S h s d p s
+  unnamed-page no-use = record {
+    entry = λ i l. inr ((λ c. no-use (c .used)), refl);
+    old = record { len = refl; below = λ i l. refl; above = λ i l. refl };
+  }
+
+  pub named-page : (t : List ℕ) (k x : ℕ) → byte g 0 ≡ 1 → depth g ≡ k → h (code g 0) ≡ x → PrefixNamed S s d k (top k x) p t → PageNamed S h s d p t
+  named-page t k x used ek ex N =
+      let e : (i : ℕ) → Calls d (depth g) (top (depth g) (h (code g 0))) i ≡ Calls d k (top k x) i = λ i. λ j. Calls d (ek j) (top (ek j) (ex j)) i in
+      record {
+        entry = λ i l. ⊎-elim
+            (λ y. inl (record { used = used; calls = rw (e i) (y .0) }, y .1))
+            (λ n. inr ((λ c. n .0 (rw (← e i) (c .calls))), n .1))
+            (N .entry i l);
+        old = N .old;
+      }
+
 -- a page calls for the same entries in two stores in which it is the same
-calls-same : (S : Shape) (h : List ℕ → ℕ) (s t : List ℕ) (d i p : ℕ) → page S t p ≡ page S s p → CallsFor S h t d i p → CallsFor S h s d i p
+pub calls-same : (S : Shape) (h : List ℕ → ℕ) (s t : List ℕ) (d i p : ℕ) → page S t p ≡ page S s p → CallsFor S h t d i p → CallsFor S h s d i p
 calls-same S h s t d i p e c = record {
   used = rw (← e) (c .used);
   calls = subst (λ g. Calls d (depth g) (top (depth g) (h (code g 0))) i) e (c .calls);

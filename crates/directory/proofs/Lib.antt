@@ -5,3 +5,4 @@ pub mod Frees
 pub mod Laying
 pub mod Vacancy
 pub mod Settles
+pub mod Renews

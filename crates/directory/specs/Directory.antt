@@ -43,6 +43,18 @@ pub record Runnable (S : Shape) (s : List ℕ) (a b p : ℕ) : Type 0 where
   pub within : b ≤ S .entries
   pub word : p < 4294967296
 
+-- a prefix of k bits in a directory of depth d, and p can be an entry
+pub record Namable (S : Shape) (s : List ℕ) (d k p : ℕ) : Type 0 where
+  pub long : 2 * size S ≤ length s
+  pub low : k ≤ d
+  pub deep : d ≤ S .deepest
+  pub word : p < 4294967296
+
+-- the entries that the prefix v of k bits calls for are p, all else is as it was
+pub record PrefixNamed (S : Shape) (s : List ℕ) (d k v p : ℕ) (t : List ℕ) : Type 0 where
+  pub entry : (i : ℕ) → i < S .entries → (Calls d k v i × (entryAt S t i ≡ p)) ⊎ ((Calls d k v i → ⊥) × (entryAt S t i ≡ entryAt S s i))
+  pub old : Frame s (size S) (size S) t
+
 -- the entries that page p calls for name it, all else is as it was
 pub record PageNamed (S : Shape) (h : List ℕ → ℕ) (s : List ℕ) (d p : ℕ) (t : List ℕ) : Type 0 where
   pub entry : (i : ℕ) → i < S .entries → (CallsFor S h s d i p × (entryAt S t i ≡ p)) ⊎ ((CallsFor S h s d i p → ⊥) × (entryAt S t i ≡ entryAt S s i))
@@ -81,8 +93,8 @@ pub record Settling (S : Shape) (s : List ℕ) (n : ℕ) : Type 0 where
   pub most : n ≤ S .entries + 2
   pub pages : (p : ℕ) → 2 ≤ p → p < n → SoundPage S (page S s p)
 
--- t is s but for its pages from 2 on, which are sound
+-- t is s but for its pages from 1 on, of which those from 2 on are sound
 pub record Rewritten (S : Shape) (s t : List ℕ) : Type 0 where
   pub long : length t ≡ length s
-  pub low : (k : ℕ) → k < 2 * size S → byte t k ≡ byte s k
+  pub low : (k : ℕ) → k < size S → byte t k ≡ byte s k
   pub sound : (p : ℕ) → 2 ≤ p → p < pages S s → SoundPage S (page S t p)

@@ -1,8 +1,10 @@
 // Depth and directory, written from the pages. Over any page shape.
+ghost use mathlib.Core.Path.{_≡_};
 ghost use Rattle.hash.specs.Fnv.{fnv};
+ghost use Rattle.partition.specs.Bits.{top};
 ghost use Rattle.store.specs.Pages.{contents, deepestIn};
 ghost use Rattle.store.specs.Demands.{Sized};
-ghost use Rattle.directory.specs.Directory.{RunSet, Runnable, PageNamed, PageOf, Directable, Directed, Settling};
+ghost use Rattle.directory.specs.Directory.{RunSet, Runnable, Namable, PrefixNamed, PageNamed, PageOf, Directable, Directed, Settling};
 use partition::Shape;
 
 // The entries from a up to b name page p.
@@ -17,6 +19,15 @@ fn set_run(s: &mut [u8], z: Shape, a: usize, b: usize, p: usize)
     }
 }
 
+// The entries that the first k bits of the hash x call for name page p, or none where p is 0.
+pub fn name_prefix(s: &mut [u8], z: Shape, x: u32, k: u32, d: u32, p: usize)
+    requires { ⌜ Sized z × Namable z (now s) d k p ⌝ }
+    ensures { λ _. ⌜ PrefixNamed z (now (s .entry)) d k (top k x) p (now (s .exit)) ⌝ }
+{
+    let r = partition::run_of(x, k, d);
+    set_run(s, z, r.from, r.to, p);
+}
+
 // The entries that page p calls for name it.
 fn name_page(s: &mut [u8], z: Shape, p: usize, d: u32)
     requires { ⌜ Sized z × PageOf z (now s) d p ⌝ }
@@ -28,8 +39,7 @@ fn name_page(s: &mut [u8], z: Shape, p: usize, d: u32)
     if s[a] == 1 {
         let k = s[a + 1] as u32;
         let x = page_check::hash_slot(&s[a..e], 0);
-        let r = partition::run_of(x, k, d);
-        set_run(s, z, r.from, r.to, p);
+        name_prefix(s, z, x, k, d, p);
     }
 }
 
@@ -55,4 +65,15 @@ pub fn settle(s: &mut [u8], z: Shape, n: usize)
 {
     let d = store::deepest(s, z, n);
     write_directory(s, z, n, d as u32);
+}
+
+// The same, where the directory is known to be as defined if its depth d is.
+pub fn settle_depth(s: &mut [u8], z: Shape, n: usize, d: usize)
+    requires { ⌜ Sized z × Settling z (now s) n × (deepestIn (contents z (now s)) ≡ d → Directed z fnv (now s) d n (now s)) ⌝ }
+    ensures { λ _. ⌜ Directed z fnv (now (s .entry)) (deepestIn (contents z (now (s .entry)))) n (now (s .exit)) ⌝ }
+{
+    let e = store::deepest(s, z, n);
+    if e != d {
+        write_directory(s, z, n, e as u32);
+    }
 }

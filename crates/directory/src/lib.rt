@@ -1,14 +1,16 @@
 // Format, free pages, and depth and directory written from the pages.
 ghost use Rattle.ground.specs.Ladder.{Answers};
-ghost use Rattle.store.specs.Pages.{S1024};
+ghost use Rattle.ground.specs.Says.{Says};
 ghost use Rattle.store.specs.Demands.{Sized};
-ghost use Rattle.store.specs.Tables.{formatTable, meaning};
+ghost use Rattle.store.specs.Tables.{PageSize, formatTable, formatSized, meaning};
 use partition::Shape;
 
 mod directory;
 mod pages;
 
+pub use directory::name_prefix;
 pub use directory::settle;
+pub use directory::settle_depth;
 pub use pages::free_pages;
 pub use pages::lowest_free;
 
@@ -38,9 +40,25 @@ fn format_pages(s: &mut [u8], z: Shape) -> store::Answer
     store::Answer::Formatted
 }
 
-// Pages of 1,024 bytes.
-pub fn format(s: &mut [u8]) -> store::Answer
-    ensures { λ r. ⌜ Answers (formatTable S1024 (now (s .entry))) (meaning r, now (s .exit)) ⌝ }
+// Whether a page size is one of the three.
+fn is_page_size(n: usize) -> bool
+    ensures { λ r. ⌜ Says r (PageSize n) ⌝ }
 {
-    format_pages(s, partition::S1024)
+    if n == 1024 {
+        return true;
+    }
+    if n == 4096 {
+        return true;
+    }
+    n == 16384
+}
+
+// A store without rows, of the page size that is given.
+pub fn format(s: &mut [u8], size: usize) -> store::Answer
+    ensures { λ r. ⌜ Answers (formatSized size (now (s .entry))) (meaning r, now (s .exit)) ⌝ }
+{
+    if !is_page_size(size) {
+        return store::Answer::Refused(store::Refusal::BadLength);
+    }
+    format_pages(s, partition::shape_for(size))
 }

@@ -9,8 +9,9 @@ use Rattle.commands.specs.declared.Command.the-variants.{Nothing, Unknown, Form
 use Rattle.commands.specs.Lines.{Means}
 use Rattle.hash.specs.Fnv.{fnv}
 use Rattle.partition.specs.Listing.{listing}
+use Rattle.partition.specs.Sizes.{shapeOf}
 use Rattle.store.specs.Demands.{Call, check, count, lookup, put, remove, rowAt, Made, ok}
-use Rattle.store.specs.Pages.{S1024, rowsHeld}
+use Rattle.store.specs.Pages.{rowsHeld}
 use Rattle.store.specs.Tables.{Out, meaning}
 use Rattle.lots.specs.declared.Outcome.{Outcome}
 use Rattle.lots.specs.declared.Outcome.the-variants.{Silent, Unknown as NotKnown, Told, Changed, Listed, Format as Formats, Stopped}
@@ -68,13 +69,13 @@ Numbers n (Formats m) = ⊥
 -- the call c made t of the store s, and its answer is told
 pub record Written (c : Call) (s : List ℕ) (o : Outcome) (t : List ℕ) : Type 0 where
   pub answer : Out
-  pub made : Made S1024 fnv c s answer t
+  pub made : Made (shapeOf s) fnv c s answer t
   pub told : Outcomes answer o
 
 -- the call c reads the store s, and its answer is told
 pub record Asked (c : Call) (s : List ℕ) (o : Outcome) : Type 0 where
   pub answer : Out
-  pub made : Made S1024 fnv c s answer s
+  pub made : Made (shapeOf s) fnv c s answer s
   pub told : TellsOnly answer o
 
 -- row at place n, into a buffer of 64 bytes
@@ -86,9 +87,9 @@ pub record RowAsked (n : ℕ) (s : List ℕ) (o : Outcome) : Type 0 where
 -- the check's refusal, or as many rows as the listing has
 pub record ListAsked (s : List ℕ) (o : Outcome) : Type 0 where
   pub answer : Out
-  pub made : Made S1024 fnv check s answer s
+  pub made : Made (shapeOf s) fnv check s answer s
   pub refused : ok answer ≡ false → TellsOnly answer o
-  pub rows : ok answer ≡ true → Numbers (length (listing S1024 fnv (rowsHeld S1024 s))) o
+  pub rows : ok answer ≡ true → Numbers (length (listing (shapeOf s) fnv (rowsHeld (shapeOf s) s))) o
 
 -- a command on the store s; its code begins the buffer k
 abbrev pub Does : List ℕ → Command → List ℕ → Outcome → List ℕ → Type 0

@@ -4,10 +4,9 @@ use mathlib.Core.Path.{_≡_}
 use mathlib.Core.Bool.{true, false}
 use mathlib.Core.List.{List}
 use lib.ListN.{length, take}
-use Rattle.hash.specs.Fnv.{fnv}
-use Rattle.store.specs.Demands.{format, Made, ok}
-use Rattle.store.specs.Pages.{S1024}
-use Rattle.store.specs.Tables.{Out}
+use Rattle.ground.specs.Ladder.{Answers}
+use Rattle.store.specs.Demands.{ok}
+use Rattle.store.specs.Tables.{Out, formatSized}
 use Rattle.lots.specs.declared.Outcome.{Outcome}
 use Rattle.lots.specs.declared.Outcome.the-variants.{Silent, Unknown, Told, Changed, Listed, Format, Stopped}
 use Rattle.lots.specs.declared.Session.{Session}
@@ -32,6 +31,13 @@ Leaves (Format n) = Unit {0}
 Leaves (Changed x) = ⊥
 Leaves Stopped = ⊥
 
+-- the store and what is known of it, changes and stops, are the same
+pub record Alike (z r : Session) : Type 0 where
+  pub len : r .len ≡ z .len
+  pub known : r .known ≡ z .known
+  pub changed : r .changed ≡ z .changed
+  pub stopped : r .stopped ≡ z .stopped
+
 -- a line's outcome taken into the session z: a change or a stop is marked
 pub record After (z : Session) (o : Outcome) (r : Session) : Type 0 where
   pub len : r .len ≡ z .len
@@ -53,12 +59,12 @@ pub record Ran (len : ℕ) (s : List ℕ) (r : Session) (t : List ℕ) : Type 0 
   pub long : Quiet r → r .len ≡ len
   pub holds : SessionHolds r t
 
--- A format of n pages: the call answers on so many of the buffer's bytes, whatever they held, and these are the store then, unless it is refused.
-pub record FormatAsked (n : ℕ) (z : Session) (s : List ℕ) (r : Session) (t : List ℕ) : Type 0 where
+-- A format of n pages of a size: the call answers on so many of the buffer's bytes, whatever they held, and these are the store then, unless it is refused.
+pub record FormatAsked (n size : ℕ) (z : Session) (s : List ℕ) (r : Session) (t : List ℕ) : Type 0 where
   pub len : ℕ
-  pub long : n ≤ 258 → n * 1024 ≤ length s → len ≡ n * 1024
+  pub long : n ≤ 4098 → size ≤ 16384 → n * size ≤ length s → len ≡ n * size
   pub answer : Out
   pub left : List ℕ
-  pub made : Made S1024 fnv format (take len s) answer left
+  pub made : Answers (formatSized size (take len s)) (answer, left)
   pub refused : ok answer ≡ false → (t ≡ s) × (r .len ≡ z .len)
   pub done : ok answer ≡ true → (take len t ≡ left) × (r .len ≡ len)

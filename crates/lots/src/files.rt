@@ -81,14 +81,16 @@ fn make(path: &[u8], store: &[u8]) -> bool {
 }
 
 // The store goes to a new file, which then takes the old one's name.
-fn replace(path: &[u8], beside: &[u8], store: &[u8]) {
+fn replace(path: &[u8], beside: &[u8], store: &[u8]) -> bool {
     if !make(beside, store) {
-        return;
+        return false;
     }
     if os::rename(beside, path) != 0 {
         os::fail(path);
         os::unlink(beside);
+        return false;
     }
+    true
 }
 
 // The name of the new file: FILE.new.
@@ -102,10 +104,10 @@ fn name(path: &[u8], out: &mut [u8]) -> usize
 }
 
 // Writes the store beside the file and renames it over the file. Whatever fails, the old file is as it was.
-pub fn save(path: &[u8], store: &[u8])
+pub fn save(path: &[u8], store: &[u8]) -> bool
     requires { ⌜ length (now path) ≤ 4096 ⌝ }
 {
     let mut beside = [0u8; 4100];
     let n = name(path, &mut beside);
-    replace(path, &beside[0..n], store);
+    replace(path, &beside[0..n], store)
 }

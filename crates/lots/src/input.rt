@@ -2,26 +2,32 @@
 ghost use mathlib.Core.Path.{_≡_};
 ghost use Prim.Native.Nat.{_*_, _≤_};
 ghost use lib.ListN.{length};
-ghost use Rattle.lots.specs.Sessions.{After, FormatAsked, SessionHolds, Kept, Ran};
+ghost use Rattle.lots.specs.Sessions.{After, Alike, FormatAsked, SessionHolds, Kept, Ran};
 use super::known;
 use super::obey;
+use super::say;
 use crate::Outcome;
 use crate::Session;
+use check::same;
+use commands::Fault;
 use libc::STDIN_FILENO;
 
-// The length of a store of n pages; of too many, the whole buffer, which is no store either.
-fn length_of(n: usize, most: usize) -> usize
-    ensures { λ r. ⌜ (r ≤ most) × (n ≤ 258 → n * 1024 ≤ most → r ≡ n * 1024) ⌝ }
+// The length of a store of n pages of a size; of too many, the whole buffer, which is no store either.
+fn length_of(n: usize, size: usize, most: usize) -> usize
+    ensures { λ r. ⌜ (r ≤ most) × (n ≤ 4098 → size ≤ 16384 → n * size ≤ most → r ≡ n * size) ⌝ }
 {
-    if n > 258 {
+    if n > 4098 {
         return most;
     }
-    let len = n * 1024;
+    if size > 16384 {
+        return most;
+    }
+    let len = n * size;
     if len > most { most } else { len }
 }
 
-// What a line did, kept.
-fn after(z: Session, o: Outcome) -> Session
+// What a line did, marked.
+fn marked(z: Session, o: Outcome) -> Session
     ensures { λ r. ⌜ After z o r ⌝ }
 {
     let mut y = z;
@@ -41,14 +47,30 @@ fn after(z: Session, o: Outcome) -> Session
     y
 }
 
-// A store of n pages in the place of the old one, unless that is refused.
-fn format(store: &mut [u8], z: Session, n: usize) -> Session
-    requires { ⌜ SessionHolds z (now store) ⌝ }
-    ensures { λ r. ⌜ Kept z (now (store .entry)) r (now (store .exit)) × (r .fill ≡ z .fill) × FormatAsked n z (now (store .entry)) r (now (store .exit)) ⌝ }
+// A line that was not obeyed is counted.
+fn counted(z: Session, more: usize) -> Session
+    ensures { λ r. ⌜ Alike z r × (r .fill ≡ z .fill) ⌝ }
 {
-    let len = length_of(n, store.len());
-    let a = directory::format(&mut store[0..len]);
-    let mut y = after(z, obey::wrote(a));
+    let mut y = z;
+    y.refused = std::num::wrapping_add_usize(y.refused, more);
+    y
+}
+
+// What a line did, kept.
+fn after(z: Session, o: Outcome) -> Session
+    ensures { λ r. ⌜ After z o r ⌝ }
+{
+    marked(counted(z, obey::faults_in(o)), o)
+}
+
+// A store of n pages of a size in the place of the old one, unless that is refused.
+fn format(store: &mut [u8], z: Session, n: usize, size: usize) -> Session
+    requires { ⌜ SessionHolds z (now store) ⌝ }
+    ensures { λ r. ⌜ Kept z (now (store .entry)) r (now (store .exit)) × (r .fill ≡ z .fill) × FormatAsked n size z (now (store .entry)) r (now (store .exit)) ⌝ }
+{
+    let len = length_of(n, size, store.len());
+    let a = directory::format(&mut store[0..len], size);
+    let mut y = after(z, obey::wrote(a, z.number));
     if obey::is_done(a) {
         y.len = len;
         y.known = true;
@@ -56,22 +78,76 @@ fn format(store: &mut [u8], z: Session, n: usize) -> Session
     y
 }
 
+// Whether a format waits for the word anew: there is something that it would clear.
+fn held_back(len: usize, anew: bool) -> bool {
+    if anew {
+        return false;
+    }
+    len > 0
+}
+
+// A format of n pages that a line asks.
+fn ask_format(store: &mut [u8], z: Session, n: usize, anew: bool) -> Session
+    requires { ⌜ SessionHolds z (now store) ⌝ }
+    ensures { λ r. ⌜ Kept z (now (store .entry)) r (now (store .exit)) × (r .fill ≡ z .fill) ⌝ }
+{
+    if held_back(z.len, anew) {
+        return after(z, obey::unknown(Fault::Filled, z.number));
+    }
+    format(store, z, n, 1024)
+}
+
+// Where ` anew` stands at the end of a format, or the end.
+fn before_anew(line: &[u8]) -> usize
+    ensures { λ r. ⌜ r ≤ length (now (line .entry)) ⌝ }
+{
+    let n = line.len();
+    if n < 12 {
+        return n;
+    }
+    if !same(&line[0..7], b"format ") {
+        return n;
+    }
+    let e = n - 5;
+    if !same(&line[e..], b" anew") {
+        return n;
+    }
+    e
+}
+
+// A command on the store.
+fn command(store: &mut [u8], z: Session, line: &[u8]) -> Session
+    requires { ⌜ SessionHolds z (now store) ⌝ }
+    ensures { λ r. ⌜ Kept z (now (store .entry)) r (now (store .exit)) × (r .fill ≡ z .fill) ⌝ }
+{
+    let n = before_anew(line);
+    let len = z.len;
+    let o = obey::obey(&mut store[0..len], &line[..n], z.number, z.known);
+    if let Outcome::Format(p) = o {
+        return ask_format(store, z, p, n < line.len());
+    }
+    after(z, o)
+}
+
 // A whole line.
 fn turn(store: &mut [u8], z: Session, line: &[u8]) -> Session
     requires { ⌜ SessionHolds z (now store) ⌝ }
     ensures { λ r. ⌜ Kept z (now (store .entry)) r (now (store .exit)) × (r .fill ≡ z .fill) ⌝ }
 {
-    let len = z.len;
-    let o = obey::obey(&mut store[0..len], line, z.number, z.known);
-    if let Outcome::Format(n) = o {
-        return format(store, z, n);
+    if same(line, b"quit") {
+        let mut y = z;
+        y.ended = true;
+        return y;
     }
-    after(z, o)
+    if same(line, b"help") {
+        return after(z, obey::help());
+    }
+    command(store, z, line)
 }
 
 // The session at the start of the next line.
 fn next_line(z: Session) -> Session
-    ensures { λ r. ⌜ (r .len ≡ z .len) × (r .known ≡ z .known) × (r .changed ≡ z .changed) × (r .stopped ≡ z .stopped) × (r .fill ≡ 0) ⌝ }
+    ensures { λ r. ⌜ Alike z r × (r .fill ≡ 0) ⌝ }
 {
     let mut y = z;
     y.number = std::num::wrapping_add_usize(y.number, 1);
@@ -80,27 +156,64 @@ fn next_line(z: Session) -> Session
     y
 }
 
+// Where the line's text begins: behind a byte-order mark and a blank.
+fn text_start(line: &[u8], e: usize) -> usize
+    requires { ⌜ e ≤ length (now line) ⌝ }
+    ensures { λ r. ⌜ r ≤ e ⌝ }
+{
+    if e < 3 {
+        return 0;
+    }
+    if line[0] != 239 {
+        return 0;
+    }
+    if line[1] != 187 {
+        return 0;
+    }
+    if line[2] != 191 {
+        return 0;
+    }
+    if e > 3 {
+        if line[3] == 32 {
+            return 4;
+        }
+    }
+    3
+}
+
+// Where it ends: before a blank.
+fn text_end(line: &[u8], e: usize) -> usize
+    requires { ⌜ e ≤ length (now line) ⌝ }
+    ensures { λ r. ⌜ r ≤ e ⌝ }
+{
+    if e == 0 {
+        return 0;
+    }
+    if line[e - 1] == 32 {
+        return e - 1;
+    }
+    e
+}
+
 // The end of a line: it is obeyed, and the next one begins.
 fn end_line(store: &mut [u8], z: Session, line: &[u8]) -> Session
     requires { ⌜ SessionHolds z (now store) × (z .fill ≤ length (now line)) ⌝ }
     ensures { λ r. ⌜ Kept z (now (store .entry)) r (now (store .exit)) × (r .fill ≡ 0) ⌝ }
 {
     let y = next_line(z);
-    let fill = z.fill;
+    let e = text_end(line, z.fill);
+    let a = text_start(line, e);
     if z.over {
-        return after(y, obey::too_long(&line[0..fill], y.number));
+        return after(y, obey::too_long(&line[a..e], y.number));
     }
-    turn(store, y, &line[0..fill])
+    turn(store, y, &line[a..e])
 }
 
-// One byte of the input.
-fn take(store: &mut [u8], z: Session, line: &mut [u8], b: u8) -> Session
-    requires { ⌜ SessionHolds z (now store) × (z .fill ≤ length (now line)) ⌝ }
-    ensures { λ r. ⌜ Kept z (now (store .entry)) r (now (store .exit)) × (r .fill ≤ length (now (line .exit))) ⌝ }
+// One byte more of the line, if there is room.
+fn push(z: Session, line: &mut [u8], b: u8) -> Session
+    requires { ⌜ z .fill ≤ length (now line) ⌝ }
+    ensures { λ r. ⌜ Alike z r × (r .fill ≤ length (now (line .exit))) ⌝ }
 {
-    if b == 10 {
-        return end_line(store, z, line);
-    }
     let mut y = z;
     let fill = y.fill;
     if fill < line.len() {
@@ -110,6 +223,49 @@ fn take(store: &mut [u8], z: Session, line: &mut [u8], b: u8) -> Session
     }
     y.over = true;
     y
+}
+
+// A blank: one stands for several, and none before the first word.
+fn push_blank(z: Session, line: &mut [u8]) -> Session
+    requires { ⌜ z .fill ≤ length (now line) ⌝ }
+    ensures { λ r. ⌜ Alike z r × (r .fill ≤ length (now (line .exit))) ⌝ }
+{
+    let fill = z.fill;
+    if fill == 0 {
+        return z;
+    }
+    if line[fill - 1] == 32 {
+        return z;
+    }
+    push(z, line, 32)
+}
+
+// A space, a tab or a carriage return.
+fn is_blank(b: u8) -> bool {
+    if b == 32 {
+        return true;
+    }
+    if b == 9 {
+        return true;
+    }
+    b == 13
+}
+
+// One byte of the input; none after the line quit.
+fn take(store: &mut [u8], z: Session, line: &mut [u8], b: u8) -> Session
+    requires { ⌜ SessionHolds z (now store) × (z .fill ≤ length (now line)) ⌝ }
+    ensures { λ r. ⌜ Kept z (now (store .entry)) r (now (store .exit)) × (r .fill ≤ length (now (line .exit))) ⌝ }
+{
+    if z.ended {
+        return z;
+    }
+    if b == 10 {
+        return end_line(store, z, line);
+    }
+    if is_blank(b) {
+        return push_blank(z, line);
+    }
+    push(z, line, b)
 }
 
 // A piece of the input.
@@ -135,6 +291,7 @@ fn read(store: &mut [u8], z: Session, line: &mut [u8]) -> Session
     ensures { λ r. ⌜ Kept z (now (store .entry)) r (now (store .exit)) × (r .fill ≤ length (now (line .exit))) ⌝ }
 {
     let mut y = z;
+    say::prompt(y.terminal);
     let mut piece = io::buffer();
     let got = libc::read(STDIN_FILENO, &mut piece);
     if got < 0 {
@@ -171,7 +328,7 @@ fn read_all(store: &mut [u8], z: Session, line: &mut [u8]) -> Session
 }
 
 // A session before its first line.
-fn begin(len: usize, known: bool) -> Session
+fn begin(len: usize, known: bool, terminal: bool) -> Session
     ensures { λ r. ⌜ (r .len ≡ len) × (r .fill ≡ 0) × (r .known ≡ known) ⌝ }
 {
     Session {
@@ -181,19 +338,21 @@ fn begin(len: usize, known: bool) -> Session
         fill: 0,
         over: false,
         number: 0,
+        refused: 0,
+        terminal,
         ended: false,
         stopped: false,
     }
 }
 
 // Every line of the input, on a store that is the first len bytes of the buffer. It is checked once, here.
-pub fn run(store: &mut [u8], len: usize) -> Session
+pub fn run(store: &mut [u8], len: usize, terminal: bool) -> Session
     requires { ⌜ len ≤ length (now store) ⌝ }
     ensures { λ r. ⌜ Ran len (now (store .entry)) r (now (store .exit)) ⌝ }
 {
     let mut line = io::buffer();
     let known = known::is_accepted(&store[0..len]);
-    let y = read_all(store, begin(len, known), &mut line);
+    let y = read_all(store, begin(len, known, terminal), &mut line);
     if y.stopped {
         return y;
     }

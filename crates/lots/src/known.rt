@@ -4,8 +4,8 @@ ghost use lib.ListN.{length};
 ghost use Rattle.ground.specs.Ladder.{Answers};
 ghost use Rattle.ground.specs.Says.{Says};
 ghost use Rattle.hash.specs.Fnv.{fnv};
+ghost use Rattle.partition.specs.Sizes.{shapeOf};
 ghost use Rattle.store.specs.Accepted.{Accepted};
-ghost use Rattle.store.specs.Pages.{S1024};
 ghost use Rattle.store.specs.Tables.{checkTable, countTable, lookupTable, putTable, removeTable, rowTable, meaning};
 ghost use Rattle.lots.specs.Known.{Known};
 use super::obey;
@@ -15,14 +15,14 @@ use store::Refusal;
 
 // Whether the store is accepted: the one check of a run.
 pub fn is_accepted(s: &[u8]) -> bool
-    ensures { λ r. ⌜ Says r (Accepted S1024 fnv (now (s .entry))) ⌝ }
+    ensures { λ r. ⌜ Says r (Accepted (shapeOf (now (s .entry))) fnv (now (s .entry))) ⌝ }
 {
     obey::is_done(query::check(s))
 }
 
 pub fn check_known(s: &[u8], known: bool) -> Answer
     requires { ⌜ Known known (now s) ⌝ }
-    ensures { λ r. ⌜ Answers (checkTable S1024 fnv (now (s .entry))) (meaning r) ⌝ }
+    ensures { λ r. ⌜ Answers (checkTable (shapeOf (now (s .entry))) fnv (now (s .entry))) (meaning r) ⌝ }
 {
     if !known {
         return query::check(s);
@@ -32,17 +32,18 @@ pub fn check_known(s: &[u8], known: bool) -> Answer
 
 pub fn count_known(s: &[u8], known: bool) -> Answer
     requires { ⌜ Known known (now s) ⌝ }
-    ensures { λ r. ⌜ Answers (countTable S1024 fnv (now (s .entry))) (meaning r) ⌝ }
+    ensures { λ r. ⌜ Answers (countTable (shapeOf (now (s .entry))) fnv (now (s .entry))) (meaning r) ⌝ }
 {
     if !known {
         return query::count(s);
     }
-    Answer::Rows(query::count_rows(s, partition::S1024, s.len() / 1024))
+    let z = partition::shape_of(s);
+    Answer::Rows(query::count_rows(s, z, s.len() / (8 + z.capacity)))
 }
 
 pub fn lookup_known(s: &[u8], key: &[u8], known: bool) -> Answer
     requires { ⌜ Known known (now s) ⌝ }
-    ensures { λ r. ⌜ Answers (lookupTable S1024 fnv (now (s .entry)) (now (key .entry))) (meaning r) ⌝ }
+    ensures { λ r. ⌜ Answers (lookupTable (shapeOf (now (s .entry))) fnv (now (s .entry)) (now (key .entry))) (meaning r) ⌝ }
 {
     if !known {
         return query::lookup(s, key);
@@ -50,22 +51,22 @@ pub fn lookup_known(s: &[u8], key: &[u8], known: bool) -> Answer
     if !store::good_code(key) {
         return Answer::Refused(Refusal::BadCode);
     }
-    query::place_of(s, partition::S1024, key)
+    query::place_of(s, partition::shape_of(s), key)
 }
 
 pub fn row_known(s: &[u8], n: usize, out: &mut [u8], known: bool) -> Answer
     requires { ⌜ Known known (now s) × (64 ≤ length (now out)) ⌝ }
-    ensures { λ r. ⌜ Answers (rowTable S1024 fnv (now (s .entry)) n (now (out .entry))) (meaning r, now (out .exit)) ⌝ }
+    ensures { λ r. ⌜ Answers (rowTable (shapeOf (now (s .entry))) fnv (now (s .entry)) n (now (out .entry))) (meaning r, now (out .exit)) ⌝ }
 {
     if !known {
         return query::row_at(s, n, out);
     }
-    query::give_row(s, partition::S1024, n, out)
+    query::give_row(s, partition::shape_of(s), n, out)
 }
 
 pub fn put_known(s: &mut [u8], key: &[u8], place: Place, mode: u64, known: bool) -> Answer
     requires { ⌜ Known known (now s) ⌝ }
-    ensures { λ r. ⌜ Answers (putTable S1024 fnv (now (s .entry)) (now (key .entry)) place mode) (meaning r, now (s .exit)) ⌝ }
+    ensures { λ r. ⌜ Answers (putTable (shapeOf (now (s .entry))) fnv (now (s .entry)) (now (key .entry)) place mode) (meaning r, now (s .exit)) ⌝ }
 {
     if !known {
         return putting::put(s, key, place, mode);
@@ -73,12 +74,13 @@ pub fn put_known(s: &mut [u8], key: &[u8], place: Place, mode: u64, known: bool)
     if 2 < mode {
         return putting::put(s, key, place, mode);
     }
-    putting::put_checked(s, key, place, mode)
+    let z = partition::shape_of(s);
+    putting::put_checked(s, z, key, place, mode)
 }
 
 pub fn remove_known(s: &mut [u8], key: &[u8], known: bool) -> Answer
     requires { ⌜ Known known (now s) ⌝ }
-    ensures { λ r. ⌜ Answers (removeTable S1024 fnv (now (s .entry)) (now (key .entry))) (meaning r, now (s .exit)) ⌝ }
+    ensures { λ r. ⌜ Answers (removeTable (shapeOf (now (s .entry))) fnv (now (s .entry)) (now (key .entry))) (meaning r, now (s .exit)) ⌝ }
 {
     if !known {
         return removal::remove(s, key);
@@ -86,6 +88,6 @@ pub fn remove_known(s: &mut [u8], key: &[u8], known: bool) -> Answer
     if !store::good_code(key) {
         return Answer::Refused(Refusal::BadCode);
     }
-    let mut scratch = [0u8; 1024];
-    removal::remove_row(s, partition::S1024, key, &mut scratch)
+    let z = partition::shape_of(s);
+    removal::remove_lent(s, z, key)
 }

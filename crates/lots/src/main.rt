@@ -2,6 +2,7 @@
 ghost use Prim.Native.Nat.{_≤_};
 ghost use lib.ListN.{length};
 
+mod faults;
 mod files;
 mod input;
 mod known;
@@ -31,6 +32,9 @@ pub struct Session {
     pub fill: usize,
     pub over: bool,
     pub number: usize,
+    // how many lines were refused or unknown; whether lines are typed at a terminal
+    pub refused: usize,
+    pub terminal: bool,
     // the input is at its end; it cannot be read, or an answer cannot be written
     pub ended: bool,
     pub stopped: bool,
@@ -39,7 +43,12 @@ pub struct Session {
 fn main() {
     let mut path = io::buffer();
     let n = os::arg(1, &mut path);
-    if os::arg_count() != 2 {
+    let words = os::arg_count();
+    if words < 2 {
+        usage();
+        return;
+    }
+    if words > 3 {
         usage();
         return;
     }
@@ -49,22 +58,41 @@ fn main() {
     }
     // 258 pages and one byte more, so that a longer file shows refusal 1
     let mut store = [0u8; 264193];
-    work(&path[0..n], &mut store);
+    work(&path[0..n], &mut store, words == 3);
 }
 
 fn usage() {
-    io::write_all(STDERR_FILENO, b"usage: lots FILE\n");
+    io::write_all(STDERR_FILENO, b"usage: lots FILE [terminal]\n");
+}
+
+// How many lines were not obeyed.
+fn tell_refused(n: usize) {
+    if n > 0 {
+        io::write_all(STDERR_FILENO, b"lots: ");
+        io::print_decimal(STDERR_FILENO, n as u64);
+        io::write_all(STDERR_FILENO, b" lines refused or unknown\n");
+    }
+}
+
+// How many rows the file has now.
+fn tell_saved(a: Answer) {
+    if let Answer::Rows(n) = a {
+        io::write_all(STDERR_FILENO, b"saved ");
+        io::print_decimal(STDERR_FILENO, n as u64);
+        io::write_all(STDERR_FILENO, b" rows\n");
+    }
 }
 
 // Reads the file, if it is there; obeys the input; writes a changed store.
-fn work(path: &[u8], store: &mut [u8])
+fn work(path: &[u8], store: &mut [u8], terminal: bool)
     requires { ⌜ length (now path) ≤ 4096 ⌝ }
 {
     let f = files::load(path, store);
     if !f.good {
         return;
     }
-    let z = input::run(store, f.len);
+    let z = input::run(store, f.len, terminal);
+    tell_refused(z.refused);
     if z.stopped {
         return;
     }
@@ -72,5 +100,7 @@ fn work(path: &[u8], store: &mut [u8])
         return;
     }
     let len = z.len;
-    files::save(path, &store[0..len]);
+    if files::save(path, &store[0..len]) {
+        tell_saved(known::count_known(&store[0..len], z.known));
+    }
 }

@@ -3,14 +3,15 @@ ghost use mathlib.Core.Path.{_≡_};
 ghost use Prim.Native.Nat.{_≤_};
 ghost use lib.ListN.{length};
 ghost use Rattle.hash.specs.Fnv.{fnv};
-ghost use Rattle.store.specs.Accepted.{Accepted};
 ghost use Rattle.store.specs.Demands.{ok};
 ghost use Rattle.partition.specs.Listing.{listing};
-ghost use Rattle.store.specs.Pages.{S1024, rowsHeld};
+ghost use Rattle.partition.specs.Sizes.{size, shapeOf};
+ghost use Rattle.store.specs.Pages.{rowsHeld};
 ghost use Rattle.store.specs.Tables.{meaning};
 ghost use Rattle.query.specs.Spots.{OnPage};
-ghost use Rattle.lots.specs.Known.{Known};
+ghost use Rattle.lots.specs.Known.{Known, Listable};
 ghost use Rattle.lots.specs.Obeys.{ListAsked, Numbers, Obeys, Outcomes, Passes, TellsOnly, RowAsked, Untouched};
+use super::faults;
 use super::known::check_known;
 use super::known::count_known;
 use super::known::lookup_known;
@@ -20,31 +21,34 @@ use super::known::row_known;
 use super::say;
 use crate::Outcome;
 use commands::Command;
+use commands::Fault;
+use partition::Shape;
 use query::Step;
 use store::Answer;
 use store::Refusal;
 
 // A line that reads: its answer was written, or could not be. Of a row the code stands in the buffer.
-fn tell(a: Answer, code: &[u8]) -> Outcome
+fn tell(a: Answer, code: &[u8], number: usize) -> Outcome
     requires { ⌜ length (now code) ≤ 64 ⌝ }
     ensures { λ r. ⌜ TellsOnly (meaning a) r ⌝ }
 {
-    if !say::answer(a, code) {
+    if !say::answer(a, code, number) {
         return Outcome::Stopped;
     }
     Outcome::Told(a)
 }
 
-fn told(a: Answer) -> Outcome
+fn told(a: Answer, number: usize) -> Outcome
     ensures { λ r. ⌜ TellsOnly (meaning a) r ⌝ }
 {
-    tell(a, b"")
+    tell(a, b"", number)
 }
 
-pub fn unknown(number: usize) -> Outcome
+// A line that asks no call.
+pub fn unknown(f: Fault, number: usize) -> Outcome
     ensures { λ r. ⌜ Passes r ⌝ }
 {
-    if !say::number(b"unknown", number) {
+    if !say::fault(f, number) {
         return Outcome::Stopped;
     }
     Outcome::Unknown
@@ -76,11 +80,28 @@ pub fn is_done(a: Answer) -> bool
     }
 }
 
+// One where the line was refused or unknown, else none.
+pub fn faults_in(o: Outcome) -> usize {
+    match o {
+        Outcome::Unknown => 1,
+        Outcome::Told(a) => refusals_in(a),
+        Outcome::Silent => 0,
+        Outcome::Changed(_) => 0,
+        Outcome::Listed(_) => 0,
+        Outcome::Format(_) => 0,
+        Outcome::Stopped => 0,
+    }
+}
+
+fn refusals_in(a: Answer) -> usize {
+    if is_done(a) { 0 } else { 1 }
+}
+
 // The answer of a call that writes.
-pub fn wrote(a: Answer) -> Outcome
+pub fn wrote(a: Answer, number: usize) -> Outcome
     ensures { λ r. ⌜ Outcomes (meaning a) r ⌝ }
 {
-    if !say::answer(a, b"") {
+    if !say::answer(a, b"", number) {
         return Outcome::Stopped;
     }
     if is_done(a) {
@@ -89,35 +110,35 @@ pub fn wrote(a: Answer) -> Outcome
     Outcome::Told(a)
 }
 
-fn row(s: &[u8], n: usize, known: bool) -> Outcome
+fn row(s: &[u8], n: usize, known: bool, number: usize) -> Outcome
     requires { ⌜ Known known (now s) ⌝ }
     ensures { λ r. ⌜ RowAsked n (now (s .entry)) r ⌝ }
 {
     let mut code = [0u8; 64];
     let a = row_known(s, n, &mut code, known);
-    tell(a, &code)
+    tell(a, &code, number)
 }
 
 // The row in slot i of the bucket page p on a line; whether it could be written.
-fn list_row(s: &[u8], p: usize, i: usize) -> bool
-    requires { ⌜ OnPage S1024 (now s) p i ⌝ }
+fn list_row(s: &[u8], z: Shape, p: usize, i: usize) -> bool
+    requires { ⌜ OnPage z (now s) p i ⌝ }
 {
     let mut code = [0u8; 64];
-    let a = query::read_row(s, partition::S1024, p, i, &mut code);
-    say::answer(a, &code)
+    let a = query::read_row(s, z, p, i, &mut code);
+    say::answer(a, &code, 0)
 }
 
 // Every row of an accepted store in one walk, and how many they are.
-fn list_rows(s: &[u8], n: usize) -> Outcome
-    requires { ⌜ Accepted S1024 fnv (now s) × (n ≡ length (rowsHeld S1024 (now s))) ⌝ }
-    ensures { λ r. ⌜ Numbers (length (listing S1024 fnv (rowsHeld S1024 (now (s .entry))))) r ⌝ }
+fn list_rows(s: &[u8], z: Shape, n: usize) -> Outcome
+    requires { ⌜ Listable z (now s) n ⌝ }
+    ensures { λ r. ⌜ Numbers (length (listing z fnv (rowsHeld z (now (s .entry))))) r ⌝ }
 {
-    let mut c = query::cursor_at(s, partition::S1024, 0);
+    let mut c = query::cursor_at(s, z, 0);
     let mut i = 0;
     while i < n {
-        match query::next_row(s, partition::S1024, c) {
+        match query::next_row(s, z, c) {
             Step::Given(p, slot, next) => {
-                if !list_row(s, p, slot) {
+                if !list_row(s, z, p, slot) {
                     return Outcome::Stopped;
                 }
                 c = next;
@@ -132,15 +153,16 @@ fn list_rows(s: &[u8], n: usize) -> Outcome
 }
 
 // Every row, or why the store is refused.
-fn list(s: &[u8], known: bool) -> Outcome
+fn list(s: &[u8], known: bool, number: usize) -> Outcome
     requires { ⌜ Known known (now s) ⌝ }
     ensures { λ r. ⌜ ListAsked (now (s .entry)) r ⌝ }
 {
     let a = check_known(s, known);
     if !is_done(a) {
-        return told(a);
+        return told(a, number);
     }
-    list_rows(s, query::count_rows(s, partition::S1024, s.len() / 1024))
+    let z = partition::shape_of(s);
+    list_rows(s, z, query::count_rows(s, z, s.len() / (8 + z.capacity)))
 }
 
 // After n rows: there is none more, or why the page is refused.
@@ -151,11 +173,11 @@ fn ended(r: Refusal, n: usize) -> Answer {
     Answer::Refused(r)
 }
 
-// How many rows a page has, or why it is refused. No page has more than 78 (row-count of page's proofs).
+// How many rows a page has, or why it is refused. No page has more rows than bytes.
 fn rows_on(page: &[u8]) -> Answer {
     let mut code = [0u8; 64];
     let mut n = 0;
-    while n < 78 {
+    while n < page.len() {
         let a = page_reader::inspect(page, n, &mut code);
         match a {
             Answer::RowOf(_, _) => {
@@ -176,7 +198,7 @@ fn rows_on(page: &[u8]) -> Answer {
 fn page_row(page: &[u8], n: usize) -> bool {
     let mut code = [0u8; 64];
     let a = page_reader::inspect(page, n, &mut code);
-    say::answer(a, &code)
+    say::answer(a, &code, 0)
 }
 
 // The first n rows of a page, and how many they are.
@@ -193,26 +215,39 @@ fn page_rows(page: &[u8], n: usize) -> Outcome
     listed(n)
 }
 
-fn list_page(page: &[u8]) -> Outcome
+fn list_page(page: &[u8], number: usize) -> Outcome
     ensures { λ r. ⌜ Untouched r ⌝ }
 {
     let a = rows_on(page);
     if let Answer::Rows(n) = a {
         return page_rows(page, n);
     }
-    told(a)
+    told(a, number)
+}
+
+// The length of the store's pages, as it says itself; one too short to say it has no page.
+fn page_size(s: &[u8]) -> usize
+    ensures { λ r. ⌜ (1 ≤ r) × (24 ≤ length (now (s .entry)) → r ≡ size (shapeOf (now (s .entry)))) ⌝ }
+{
+    if s.len() < 24 {
+        return 1024;
+    }
+    let z = partition::shape_of(s);
+    let size = 8 + z.capacity;
+    size
 }
 
 // The rows of page p, if the store has it.
 fn inspect(s: &[u8], p: usize, number: usize) -> Outcome
     ensures { λ r. ⌜ Untouched r ⌝ }
 {
-    if p >= s.len() / 1024 {
-        return unknown(number);
+    let size = page_size(s);
+    if p >= s.len() / size {
+        return unknown(Fault::Range, number);
     }
-    let a = p * 1024;
-    let e = a + 1024;
-    list_page(&s[a..e])
+    let a = p * size;
+    let e = a + size;
+    list_page(&s[a..e], number)
 }
 
 // The line's command on the store. Format is left to the session, which has room for another length.
@@ -224,15 +259,18 @@ pub fn obey(s: &mut [u8], line: &[u8], number: usize, known: bool) -> Outcome
     let c = commands::parse(line, &mut code);
     match c {
         Command::Nothing => Outcome::Silent,
-        Command::Unknown => unknown(number),
+        Command::Unknown => unknown(faults::fault_of(line), number),
         Command::Format(n) => Outcome::Format(n),
-        Command::Put(k, place, mode) => wrote(put_known(s, &code[0..k], place, mode, known)),
-        Command::Lookup(k) => told(lookup_known(s, &code[0..k], known)),
-        Command::Remove(k) => wrote(remove_known(s, &code[0..k], known)),
-        Command::Count => told(count_known(s, known)),
-        Command::Row(n) => row(s, n, known),
-        Command::Listing => list(s, known),
-        Command::Check => told(check_known(s, known)),
+        Command::Put(k, place, mode) => wrote(
+            put_known(s, &code[0..k], place, mode, known),
+            number,
+        ),
+        Command::Lookup(k) => told(lookup_known(s, &code[0..k], known), number),
+        Command::Remove(k) => wrote(remove_known(s, &code[0..k], known), number),
+        Command::Count => told(count_known(s, known), number),
+        Command::Row(n) => row(s, n, known, number),
+        Command::Listing => list(s, known, number),
+        Command::Check => told(check_known(s, known), number),
         Command::Inspect(p) => inspect(s, p, number),
     }
 }
@@ -246,5 +284,13 @@ pub fn too_long(line: &[u8], number: usize) -> Outcome
             return Outcome::Silent;
         }
     }
-    unknown(number)
+    unknown(Fault::Long, number)
+}
+
+// The lines that there are.
+pub fn help() -> Outcome {
+    if !say::help() {
+        return Outcome::Stopped;
+    }
+    Outcome::Silent
 }

@@ -9,12 +9,14 @@ use native.Mathlib.Omega.{arith}
 use borrow.Author.Tests.{lt-ltb, le-ltb, ne-eqb}
 use lib.Dec.{ltb, eqb}
 use lib.IntN.{pos}
+use lib.ListN.{length}
 use Rattle.hash.specs.Fnv.{fnv, fnv-lt}
 use Rattle.page.specs.Places.{place, InRange}
 use Rattle.page.specs.declared.Place.{Place}
-use Rattle.store.specs.Pages.{S1024}
-use Rattle.store.specs.Tables.{Out, refused, refusedAt, formatted, accepted, new, replaced, found, counted, row, formatTable, checkTable, countTable, lookupTable, putTable, removeTable, rowTable, inspectTable}
-use Rattle.store.specs.Demands.{sized-1024}
+use Rattle.ground.specs.Ladder.{Answers}
+use Rattle.partition.specs.Sizes.{shapeFor, shapeOf}
+use Rattle.partition.proofs.Sizes.{sized-of}
+use Rattle.store.specs.Tables.{Out, refused, refusedAt, formatted, accepted, new, replaced, found, counted, row, formatSized, checkTable, countTable, lookupTable, putTable, removeTable, rowTable, inspectTable}
 use Rattle.store.proofs.Demands.Said.{RefusedBelow, Placed, Rowed, Counted, Kept, Said, format-said, check-said, count-said, lookup-said, put-said, remove-said, row-said, inspect-said}
 use Rattle.batch.specs.Batch.{Runs, batchTable}
 use Rattle.batch.proofs.Settled.{batch-said}
@@ -106,40 +108,56 @@ count-off o m (n, (l, e)) = subst (λ x. readOff counted (word x) ≡ x) (sym e)
 same : (value : ℕ → Out) {a b : Out} {r : ℕ} → r ≡ word a → r ≡ word b → readOff value (word a) ≡ a → readOff value (word b) ≡ b → a ≡ b
 same value e f x y = sym x ∙ ap (readOff value) (sym e ∙ f) ∙ y
 
-module _ (value : ℕ → Out) (Values : Out → Type 0) (most : ℕ) (m : most ≤ 2 ^ 32) (off : (o : Out) → Values o → readOff value (word o) ≡ o) where
-  one : {a b : Out} {r : ℕ} → r ≡ word a → r ≡ word b → Said most Values a → Said most Values b → a ≡ b
-  one {a} {b} e f s t = same value e f (read a s) (read b t)
+module _ (value : ℕ → Out) (Values : Out → Type 0) (off : (o : Out) → Values o → readOff value (word o) ≡ o) where
+  one : {a b : Out} {r i j : ℕ} → i ≤ 2 ^ 32 → j ≤ 2 ^ 32 → r ≡ word a → r ≡ word b → Said i Values a → Said j Values b → a ≡ b
+  one {a} {b} k l e f s t = same value e f (read a k s) (read b l t)
     where
-      read : (o : Out) → Said most Values o → readOff value (word o) ≡ o
-      read o s = ⊎-elim (refusal-off value o m) (off o) s
+      read : (o : Out) {most : ℕ} → most ≤ 2 ^ 32 → Said most Values o → readOff value (word o) ≡ o
+      read o m s = ⊎-elim (refusal-off value o m) (off o) s
 
-pub format-one : (s t u v : List ℕ) (r : ℕ) (a : TellsAnd (formatTable S1024 s) u r) (b : TellsAnd (formatTable S1024 t) v r) → a .out ≡ b .out
-format-one s t u v r a b = one (λ _. formatted) (λ o. o ≡ formatted) 0 (omega arith) (λ o e. subst (λ x. readOff (λ _. formatted) (word x) ≡ x) (sym e) refl) (a .is) (b .is)
-    (format-said S1024 fnv s (a .out, u) (a .allowed)) (format-said S1024 fnv t (b .out, v) (b .allowed))
+-- a store of any of the sizes has fewer pages than a word has room for
+few : (s : List ℕ) → shapeOf s .entries + 2 ≤ 2 ^ 32
+few s = omega (arith, sized-of s .whole, sized-of s .most)
 
-pub check-one : (s t : List ℕ) (r : ℕ) (a : Tells (checkTable S1024 fnv s) r) (b : Tells (checkTable S1024 fnv t) r) → a .out ≡ b .out
-check-one s t r a b = one (λ _. accepted) (λ o. o ≡ accepted) 258 (omega arith) (λ o e. subst (λ x. readOff (λ _. accepted) (word x) ≡ x) (sym e) refl) (a .is) (b .is)
-    (check-said S1024 fnv s (a .out) (a .allowed)) (check-said S1024 fnv t (b .out) (b .allowed))
+module _ (s : List ℕ) where
+  -- what format may answer, whatever size it is given
+  format-sized : (n : ℕ) (x : Out × List ℕ) → Answers (formatSized n s) x → Said 0 (λ o. o ≡ formatted) (x .0)
+  unfolding formatSized
+  format-sized n x (inl (_, (_, e))) = inl (inl (1, (omega arith, (λ z. omega arith), ap (λ y. y .0) e)))
+  format-sized n x (inr (_, a)) = format-said (shapeFor n) fnv s x a
 
-pub count-one : (s t : List ℕ) (r : ℕ) (a : Tells (countTable S1024 fnv s) r) (b : Tells (countTable S1024 fnv t) r) → a .out ≡ b .out
-count-one s t r a b = one counted (Counted 4194304) 258 (omega arith) (λ o. count-off o (omega arith)) (a .is) (b .is)
-    (count-said S1024 fnv sized-1024 fnv-lt s (a .out) (a .allowed)) (count-said S1024 fnv sized-1024 fnv-lt t (b .out) (b .allowed))
+  -- the number of rows is below a bound that no size has to do with
+  widely : (o : Out) → Said (shapeOf s .entries + 2) (Counted (16384 * shapeOf s .entries)) o → Said (shapeOf s .entries + 2) (Counted (2 ^ 62)) o
+  widely o (inl n) = inl n
+  widely o (inr (n, (l, e))) = inr (n, (omega (arith, l, few s), e))
 
-pub lookup-one : (s t c d : List ℕ) (r : ℕ) (a : Tells (lookupTable S1024 fnv s c) r) (b : Tells (lookupTable S1024 fnv t d) r) → a .out ≡ b .out
-lookup-one s t c d r a b = one (λ w. found (placeIn w)) (Placed found) 258 (omega arith) (place-off found (λ p. refl)) (a .is) (b .is)
-    (lookup-said S1024 fnv sized-1024 fnv-lt s c (a .out) (a .allowed)) (lookup-said S1024 fnv sized-1024 fnv-lt t d (b .out) (b .allowed))
+pub format-one : (s t u v : List ℕ) (m n r : ℕ) (a : TellsAnd (formatSized m s) u r) (b : TellsAnd (formatSized n t) v r) → a .out ≡ b .out
+format-one s t u v m n r a b = one (λ _. formatted) (λ o. o ≡ formatted) (λ o e. subst (λ x. readOff (λ _. formatted) (word x) ≡ x) (sym e) refl) (omega arith) (omega arith) (a .is) (b .is)
+    (format-sized s m (a .out, u) (a .allowed)) (format-sized t n (b .out, v) (b .allowed))
 
-pub remove-one : (s t c d u v : List ℕ) (r : ℕ) (a : TellsAnd (removeTable S1024 fnv s c) u r) (b : TellsAnd (removeTable S1024 fnv t d) v r) → a .out ≡ b .out
-remove-one s t c d u v r a b = one (λ w. found (placeIn w)) (Placed found) 258 (omega arith) (place-off found (λ p. refl)) (a .is) (b .is)
-    (remove-said S1024 fnv sized-1024 fnv-lt s c (a .out, u) (a .allowed)) (remove-said S1024 fnv sized-1024 fnv-lt t d (b .out, v) (b .allowed))
+pub check-one : (s t : List ℕ) (r : ℕ) (a : Tells (checkTable (shapeOf s) fnv s) r) (b : Tells (checkTable (shapeOf t) fnv t) r) → a .out ≡ b .out
+check-one s t r a b = one (λ _. accepted) (λ o. o ≡ accepted) (λ o e. subst (λ x. readOff (λ _. accepted) (word x) ≡ x) (sym e) refl) (few s) (few t) (a .is) (b .is)
+    (check-said (shapeOf s) fnv s (a .out) (a .allowed)) (check-said (shapeOf t) fnv t (b .out) (b .allowed))
 
-pub put-one : (s t c d u v : List ℕ) (p q : Place) (m n r : ℕ) (a : TellsAnd (putTable S1024 fnv s c p m) u r) (b : TellsAnd (putTable S1024 fnv t d q n) v r) → a .out ≡ b .out
-put-one s t c d u v p q m n r a b = one putIn Kept 258 (omega arith) put-off (a .is) (b .is)
-    (put-said S1024 fnv sized-1024 fnv-lt s c p m (a .out, u) (a .allowed)) (put-said S1024 fnv sized-1024 fnv-lt t d q n (b .out, v) (b .allowed))
+pub count-one : (s t : List ℕ) (r : ℕ) (a : Tells (countTable (shapeOf s) fnv s) r) (b : Tells (countTable (shapeOf t) fnv t) r) → a .out ≡ b .out
+count-one s t r a b = one counted (Counted (2 ^ 62)) (λ o. count-off o (omega arith)) (few s) (few t) (a .is) (b .is)
+    (widely s (a .out) (count-said (shapeOf s) fnv (sized-of s) fnv-lt s (a .out) (a .allowed))) (widely t (b .out) (count-said (shapeOf t) fnv (sized-of t) fnv-lt t (b .out) (b .allowed)))
 
-pub all-one : (s t u v ns ks : List ℕ) (d e : Runs) (m n r : ℕ) (a : TellsAll (batchTable S1024 fnv s d m) u ns r) (b : TellsAll (batchTable S1024 fnv t e n) v ks r) → a .out ≡ b .out
-all-one s t u v ns ks d e m n r a b = one (λ _. accepted) (λ o. o ≡ accepted) 258 (omega arith) (λ o e. subst (λ x. readOff (λ _. accepted) (word x) ≡ x) (sym e) refl) (a .is) (b .is)
-    (batch-said S1024 fnv s d m (a .out, (u, ns)) (a .allowed)) (batch-said S1024 fnv t e n (b .out, (v, ks)) (b .allowed))
+pub lookup-one : (s t c d : List ℕ) (r : ℕ) (a : Tells (lookupTable (shapeOf s) fnv s c) r) (b : Tells (lookupTable (shapeOf t) fnv t d) r) → a .out ≡ b .out
+lookup-one s t c d r a b = one (λ w. found (placeIn w)) (Placed found) (place-off found (λ p. refl)) (few s) (few t) (a .is) (b .is)
+    (lookup-said (shapeOf s) fnv (sized-of s) fnv-lt s c (a .out) (a .allowed)) (lookup-said (shapeOf t) fnv (sized-of t) fnv-lt t d (b .out) (b .allowed))
+
+pub remove-one : (s t c d u v : List ℕ) (r : ℕ) (a : TellsAnd (removeTable (shapeOf s) fnv s c) u r) (b : TellsAnd (removeTable (shapeOf t) fnv t d) v r) → a .out ≡ b .out
+remove-one s t c d u v r a b = one (λ w. found (placeIn w)) (Placed found) (place-off found (λ p. refl)) (few s) (few t) (a .is) (b .is)
+    (remove-said (shapeOf s) fnv (sized-of s) fnv-lt s c (a .out, u) (a .allowed)) (remove-said (shapeOf t) fnv (sized-of t) fnv-lt t d (b .out, v) (b .allowed))
+
+pub put-one : (s t c d u v : List ℕ) (p q : Place) (m n r : ℕ) (a : TellsAnd (putTable (shapeOf s) fnv s c p m) u r) (b : TellsAnd (putTable (shapeOf t) fnv t d q n) v r) → a .out ≡ b .out
+put-one s t c d u v p q m n r a b = one putIn Kept put-off (few s) (few t) (a .is) (b .is)
+    (put-said (shapeOf s) fnv (sized-of s) fnv-lt s c p m (a .out, u) (a .allowed)) (put-said (shapeOf t) fnv (sized-of t) fnv-lt t d q n (b .out, v) (b .allowed))
+
+pub all-one : (s t u v ns ks : List ℕ) (d e : Runs) (m n r : ℕ) (a : TellsAll (batchTable (shapeOf s) fnv s d m) u ns r) (b : TellsAll (batchTable (shapeOf t) fnv t e n) v ks r) → a .out ≡ b .out
+all-one s t u v ns ks d e m n r a b = one (λ _. accepted) (λ o. o ≡ accepted) (λ o e. subst (λ x. readOff (λ _. accepted) (word x) ≡ x) (sym e) refl) (few s) (few t) (a .is) (b .is)
+    (batch-said (shapeOf s) fnv s d m (a .out, (u, ns)) (a .allowed)) (batch-said (shapeOf t) fnv t e n (b .out, (v, ks)) (b .allowed))
 
 -- a row, with the code's length
 abbrev Sized : ℕ → Out → Type 0
@@ -153,10 +171,14 @@ row-off len o (old, (z, (l, (h, (b, (r, e)))))) =
 sized : (len old : ℕ) {most : ℕ} (o : Out) → len ≡ lengthAfter o old → Said most Rowed o → Said most (Sized len) o
 sized len old o z s = ⊎-elim inl (λ r. inr (old, (z, r))) s
 
-pub row-one : (s t u v out out′ : List ℕ) (m n old old′ len r : ℕ) (a : TellsRow (rowTable S1024 fnv s m out) u old len r) (b : TellsRow (rowTable S1024 fnv t n out′) v old′ len r) → a .out ≡ b .out
-row-one s t u v out out′ m n old old′ len r a b = one (λ w. row len (placeIn w)) (Sized len) 258 (omega arith) (row-off len) (a .is) (b .is)
-    (sized len old (a .out) (a .size) (row-said S1024 fnv sized-1024 fnv-lt s m out (a .out, u) (a .allowed))) (sized len old′ (b .out) (b .size) (row-said S1024 fnv sized-1024 fnv-lt t n out′ (b .out, v) (b .allowed)))
+pub row-one : (s t u v out out′ : List ℕ) (m n old old′ len r : ℕ) (a : TellsRow (rowTable (shapeOf s) fnv s m out) u old len r) (b : TellsRow (rowTable (shapeOf t) fnv t n out′) v old′ len r)
+    → a .out ≡ b .out
+row-one s t u v out out′ m n old old′ len r a b = one (λ w. row len (placeIn w)) (Sized len) (row-off len) (few s) (few t) (a .is) (b .is)
+    (sized len old (a .out) (a .size) (row-said (shapeOf s) fnv (sized-of s) fnv-lt s m out (a .out, u) (a .allowed)))
+    (sized len old′ (b .out) (b .size) (row-said (shapeOf t) fnv (sized-of t) fnv-lt t n out′ (b .out, v) (b .allowed)))
 
-pub inspect-one : (g k u v out out′ : List ℕ) (m n old old′ len r : ℕ) (a : TellsRow (inspectTable S1024 fnv g m out) u old len r) (b : TellsRow (inspectTable S1024 fnv k n out′) v old′ len r) → a .out ≡ b .out
-inspect-one g k u v out out′ m n old old′ len r a b = one (λ w. row len (placeIn w)) (Sized len) 1 (omega arith) (row-off len) (a .is) (b .is)
-    (sized len old (a .out) (a .size) (inspect-said S1024 fnv g m out (a .out, u) (a .allowed))) (sized len old′ (b .out) (b .size) (inspect-said S1024 fnv k n out′ (b .out, v) (b .allowed)))
+pub inspect-one : (g k u v out out′ : List ℕ) (m n old old′ len r : ℕ) (a : TellsRow (inspectTable (shapeFor (length g)) fnv g m out) u old len r)
+    (b : TellsRow (inspectTable (shapeFor (length k)) fnv k n out′) v old′ len r) → a .out ≡ b .out
+inspect-one g k u v out out′ m n old old′ len r a b = one (λ w. row len (placeIn w)) (Sized len) (row-off len) (omega arith) (omega arith) (a .is) (b .is)
+    (sized len old (a .out) (a .size) (inspect-said (shapeFor (length g)) fnv g m out (a .out, u) (a .allowed)))
+    (sized len old′ (b .out) (b .size) (inspect-said (shapeFor (length k)) fnv k n out′ (b .out, v) (b .allowed)))

@@ -1,10 +1,11 @@
 // The C face of include/lots.h: each call checks for itself, and its word is the meaning of its answer.
 ghost use mathlib.Core.Path.{_≡_};
 ghost use Prim.Native.Nat.{_<_};
+ghost use lib.ListN.{length};
 ghost use Rattle.hash.specs.Fnv.{fnv};
 ghost use Rattle.page.specs.declared.Place.{Place};
-ghost use Rattle.store.specs.Pages.{S1024};
-ghost use Rattle.store.specs.Tables.{formatTable, checkTable, countTable, lookupTable, putTable, removeTable, rowTable, inspectTable, meaning};
+ghost use Rattle.partition.specs.Sizes.{shapeFor, shapeOf};
+ghost use Rattle.store.specs.Tables.{formatSized, checkTable, countTable, lookupTable, putTable, removeTable, rowTable, inspectTable, meaning};
 ghost use Rattle.batch.specs.Batch.{runs, batchTable};
 ghost use Rattle.report.specs.Report.{reported, reportTable};
 ghost use Rattle.lots_c.specs.Words.{plain, placeWord, refusalWord, word, lengthAfter, Tells, TellsAnd, TellsAll, TellsRow, noSums, reportWords, TellsReport};
@@ -124,36 +125,37 @@ pub fn report_of(o: Outcome) -> ReportAnswer
 }
 
 #[no_mangle]
-pub extern "C" fn lots_format(store: &mut [u8]) -> u64
-    ensures { λ r. ⌜ TellsAnd (formatTable S1024 (now (store .entry))) (now (store .exit)) r ⌝ }
+pub extern "C" fn lots_format(store: &mut [u8], page_size: u64) -> u64
+    ensures { λ r. ⌜ TellsAnd (formatSized «page_size» (now (store .entry))) (now (store .exit)) r ⌝ }
 {
-    word_of(directory::format(store))
+    word_of(directory::format(store, page_size as usize))
 }
 
 #[no_mangle]
 pub extern "C" fn lots_check(store: &[u8]) -> u64
-    ensures { λ r. ⌜ Tells (checkTable S1024 fnv (now (store .entry))) r ⌝ }
+    ensures { λ r. ⌜ Tells (checkTable (shapeOf (now (store .entry))) fnv (now (store .entry))) r ⌝ }
 {
     word_of(query::check(store))
 }
 
 #[no_mangle]
 pub extern "C" fn lots_count(store: &[u8]) -> u64
-    ensures { λ r. ⌜ Tells (countTable S1024 fnv (now (store .entry))) r ⌝ }
+    ensures { λ r. ⌜ Tells (countTable (shapeOf (now (store .entry))) fnv (now (store .entry))) r ⌝ }
 {
     word_of(query::count(store))
 }
 
 #[no_mangle]
 pub extern "C" fn lots_lookup(store: &[u8], code: &[u8]) -> u64
-    ensures { λ r. ⌜ Tells (lookupTable S1024 fnv (now (store .entry)) (now (code .entry))) r ⌝ }
+    ensures { λ r. ⌜ Tells (lookupTable (shapeOf (now (store .entry))) fnv (now (store .entry)) (now (code .entry))) r ⌝ }
 {
     word_of(query::lookup(store, code))
 }
 
 #[no_mangle]
 pub extern "C" fn lots_row(store: &[u8], n: u64, out: &mut [u8], code_len: &mut u32) -> u64
-    ensures { λ r. ⌜ TellsRow (rowTable S1024 fnv (now (store .entry)) n (now (out .entry))) (now (out .exit)) (now («code_len» .entry)) (now («code_len» .exit)) r ⌝ }
+    ensures { λ r. ⌜ TellsRow (rowTable (shapeOf (now (store .entry))) fnv (now (store .entry)) n (now (out .entry)))
+        (now (out .exit)) (now («code_len» .entry)) (now («code_len» .exit)) r ⌝ }
 {
     let a = query::row_at(store, n as usize, out);
     give_length(a, code_len);
@@ -162,7 +164,8 @@ pub extern "C" fn lots_row(store: &[u8], n: u64, out: &mut [u8], code_len: &mut 
 
 #[no_mangle]
 pub extern "C" fn lots_inspect(page: &[u8], n: u64, out: &mut [u8], code_len: &mut u32) -> u64
-    ensures { λ r. ⌜ TellsRow (inspectTable S1024 fnv (now (page .entry)) n (now (out .entry))) (now (out .exit)) (now («code_len» .entry)) (now («code_len» .exit)) r ⌝ }
+    ensures { λ r. ⌜ TellsRow (inspectTable (shapeFor (length (now (page .entry)))) fnv (now (page .entry)) n (now (out .entry)))
+        (now (out .exit)) (now («code_len» .entry)) (now («code_len» .exit)) r ⌝ }
 {
     let a = page_reader::inspect(page, n as usize, out);
     give_length(a, code_len);
@@ -171,7 +174,7 @@ pub extern "C" fn lots_inspect(page: &[u8], n: u64, out: &mut [u8], code_len: &m
 
 #[no_mangle]
 pub extern "C" fn lots_remove(store: &mut [u8], code: &[u8]) -> u64
-    ensures { λ r. ⌜ TellsAnd (removeTable S1024 fnv (now (store .entry)) (now (code .entry))) (now (store .exit)) r ⌝ }
+    ensures { λ r. ⌜ TellsAnd (removeTable (shapeOf (now (store .entry))) fnv (now (store .entry)) (now (code .entry))) (now (store .exit)) r ⌝ }
 {
     word_of(removal::remove(store, code))
 }
@@ -185,7 +188,8 @@ pub extern "C" fn lots_put(
     volume: i16,
     mode: u64,
 ) -> u64
-    ensures { λ r. ⌜ TellsAnd (putTable S1024 fnv (now (store .entry)) (now (code .entry)) (record { page = page; slot = slot; volume = volume }) mode) (now (store .exit)) r ⌝ }
+    ensures { λ r. ⌜ TellsAnd (putTable (shapeOf (now (store .entry))) fnv (now (store .entry)) (now (code .entry))
+        (record { page = page; slot = slot; volume = volume }) mode) (now (store .exit)) r ⌝ }
 {
     let place = Place { page, slot, volume };
     word_of(putting::put(store, code, place, mode))
@@ -200,14 +204,15 @@ pub extern "C" fn lots_put_all(
     answers: &mut [u32],
     mode: u64,
 ) -> u64
-    ensures { λ r. ⌜ TellsAll (batchTable S1024 fnv (now (store .entry)) (runs (now (codes .entry)) (now (lengths .entry)) (now (places .entry)) (now (answers .entry))) mode) (now (store .exit)) (now (answers .exit)) r ⌝ }
+    ensures { λ r. ⌜ TellsAll (batchTable (shapeOf (now (store .entry))) fnv (now (store .entry))
+        (runs (now (codes .entry)) (now (lengths .entry)) (now (places .entry)) (now (answers .entry))) mode) (now (store .exit)) (now (answers .exit)) r ⌝ }
 {
     word_of(batch::put_all(store, codes, lengths, places, answers, mode))
 }
 
 #[no_mangle]
 pub extern "C" fn lots_report(store: &[u8], sheet: &[SheetRow]) -> ReportAnswer
-    ensures { λ r. ⌜ TellsReport (reportTable S1024 fnv (now (store .entry)) (now (sheet .entry))) r ⌝ }
+    ensures { λ r. ⌜ TellsReport (reportTable (shapeOf (now (store .entry))) fnv (now (store .entry)) (now (sheet .entry))) r ⌝ }
 {
     report_of(report::report(store, sheet))
 }

@@ -1,11 +1,14 @@
 -- Laws of what a reader reads, and of the table of one row. Assumes nothing.
-use mathlib.Core.Path.{_≡_, refl, ap, _∙_}
+use mathlib.Core.Path.{_≡_, refl, sym, ap, subst, _∙_}
+use mathlib.Core.Bool.{Bool, true, false}
 use mathlib.Core.List.{List, [], _∷_, _++_}
 use mathlib.Core.Logic.{_⊎_, inl, inr, ⊎-elim}
 use Prim.Native.Nat.{ℕ, _+_, _-_, _≤_, _<_, min}
 use native.Mathlib.Omega.{arith}
+use lib.Dec.{eqb}
 use lib.ListN.{length, drop, length-append}
-use Rattle.ground.proofs.Tests.{none-some}
+use Rattle.ground.specs.Says.{Says}
+use Rattle.ground.proofs.Tests.{says-same, none-some}
 use Rattle.ground.specs.Ladder.{Answers}
 use Rattle.ground.proofs.Sides.{side}
 use Rattle.words.specs.Le.{le16}
@@ -15,8 +18,13 @@ use Rattle.page.specs.Page.{Slotted, count, rowAt}
 use Rattle.page.specs.Page as Page
 use Rattle.page.specs.declared.Place.{Place}
 use Rattle.page.specs.Places.{place}
-use Rattle.store.specs.Pages.{S1024, read, asRow, rowsOn}
-use Rattle.store.specs.Tables.{Out, refused, refusedAt, row, rowOf, PageKeeps, inspectTable}
+use Rattle.partition.specs.declared.Shape.{Shape}
+use Rattle.partition.specs.Partition.{S1024}
+use Rattle.partition.specs.Sizes.{S4096, S16384, either, shapeFor}
+use Rattle.partition.proofs.Sizes.{sized-for}
+use Rattle.store.specs.Pages.{size, read, asRow, rowsOn}
+use Rattle.page_check.specs.Shared.{Keeps}
+use Rattle.store.specs.Tables.{Out, PageSize, refused, refusedAt, row, rowOf, PageKeeps, inspectTable}
 use Rattle.store.proofs.Accepted.Reading.{row-slot, row-past, row-free}
 use Rattle.page_reader.specs.Read.{SoundBucket, Reads, whole, nothing, Readable, nthTable}
 
@@ -28,9 +36,30 @@ pub count-none : count [] ≡ 0
 unfolding le16
 count-none = refl
 
+-- the three lengths are those of which the length is the size
+pub three-lengths : (n : ℕ) → PageSize n → n ≡ size (shapeFor n)
+unfolding shapeFor
+three-lengths n (inl e) = subst (λ m. m ≡ size (shapeFor m)) (sym e) refl
+three-lengths n (inr (inl e)) = subst (λ m. m ≡ size (shapeFor m)) (sym e) refl
+three-lengths n (inr (inr e)) = subst (λ m. m ≡ size (shapeFor m)) (sym e) refl
+
+of-three : (n : ℕ) (a b : Bool) → n ≡ size (either a S4096 (either b S16384 S1024)) → PageSize n
+of-three n true b e = inr (inl e)
+of-three n false true e = inr (inr e)
+of-three n false false e = inl e
+
+pub no-other : (n : ℕ) → n ≡ size (shapeFor n) → PageSize n
+unfolding shapeFor
+no-other n e = of-three n (eqb n 4096) (eqb n 16384) e
+
+-- a page of such a length is a sound bucket where it keeps the rules up to its size's depth
+pub sound-by : (g : List ℕ) (z : Shape) (r : Bool) → z ≡ shapeFor (length g) → PageSize (length g) → Says r (Keeps (z .deepest) g) → Says r (SoundBucket g)
+sound-by g z r e p s =
+    says-same r (subst (λ S. Says r (Keeps (S .deepest) g)) e s) (λ k. record { long = three-lengths (length g) p; keeps = k }) (λ x. x .keeps)
+
 -- nothing is no page
 pub unsound : (q : List ℕ) → length q ≡ 0 → SoundBucket q → ⊥
-unsound q e s = omega (arith, s .long)
+unsound q e s = omega (arith, s .long, sized-for (length q) .least)
 
 -- where a row is read there is a page
 pub at-row : (q : List ℕ) (k : ℕ) → Readable q → k < count q → SoundBucket q
@@ -102,12 +131,15 @@ reads-nth {g} {q} (nothing u e) n out r (inr x) = absurd (unsound q (ap length e
 -- ---- inspection
 
 module _ (g : List ℕ) (n : ℕ) (out : List ℕ) where
-  pub inspect-length : (length g ≡ 1024 → ⊥) → Answers (inspectTable S1024 fnv g n out) (refused 1, out)
+  abbrev S : Shape
+  S = shapeFor (length g)
+
+  pub inspect-length : (length g ≡ size S → ⊥) → Answers (inspectTable S fnv g n out) (refused 1, out)
   unfolding inspectTable
   inspect-length h = inl (tt, (h, refl))
 
   -- the code that is given fits the output
-  pub inspect-fits : (m : ℕ) (p : Place) (out′ : List ℕ) → Answers (inspectTable S1024 fnv g n out) (row m p, out′) → m ≤ length out′
+  pub inspect-fits : (m : ℕ) (p : Place) (out′ : List ℕ) → Answers (inspectTable S fnv g n out) (row m p, out′) → m ≤ length out′
   unfolding inspectTable
   inspect-fits m p out′ (inl x) = absurd (unanswered (ap (λ r. r .0) (x .1 .1)))
   inspect-fits m p out′ (inr (_, inl x)) = absurd (unanswered (ap (λ r. r .0) (x .1 .1)))
@@ -119,22 +151,22 @@ module _ (g : List ℕ) (n : ℕ) (out : List ℕ) where
       let c : length out′ ≡ length (r .code) + length (drop (length (r .code)) out) = ap (λ r. length (r .1)) e ∙ length-append (r .code) (drop (length (r .code)) out) in
       omega arith
 
-  module _ (long : length g ≡ 1024) where
-    pub inspect-short : length out < 64 → Answers (inspectTable S1024 fnv g n out) (refused 8, out)
+  module _ (long : length g ≡ size S) where
+    pub inspect-short : length out < 64 → Answers (inspectTable S fnv g n out) (refused 8, out)
     unfolding inspectTable
     inspect-short h = inr ((λ _ f. f long), inl (tt, (h, refl)))
 
     module _ (room : 64 ≤ length out) where
       -- a free page has no rows
-      pub inspect-free : Zero g → Answers (inspectTable S1024 fnv g n out) (refused 9, out)
+      pub inspect-free : Zero g → Answers (inspectTable S fnv g n out) (refused 9, out)
       unfolding inspectTable
       inspect-free z = inr ((λ _ f. f long), inr ((λ _ l. omega arith), inr ((λ _ f. f (inl z)), (inl z, inr ((λ r e. none-some (row-free g z n) e), refl)))))
 
       -- another is read
-      pub inspect-read : (Zero g → ⊥) → (r : Out × List ℕ) → Answers (nthTable g n out) r → Answers (inspectTable S1024 fnv g n out) r
+      pub inspect-read : (Zero g → ⊥) → (r : Out × List ℕ) → Answers (nthTable g n out) r → Answers (inspectTable S fnv g n out) r
       unfolding nthTable inspectTable
       inspect-read u r (inl x) = inr ((λ _ f. f long), inr ((λ _ l. omega arith), inl (tt, (⊎-elim u (λ b. x .1 .0 (record { long = long; keeps = record { rules = b .0 .rules; deep = b .1; share = b .0 .share } })), x .1 .1))))
       inspect-read u r (inr x) =
           let s = x .1 .0 .keeps in
-          let k : PageKeeps S1024 fnv g = inr (record { rules = s .rules; share = s .share }, s .deep) in
+          let k : PageKeeps S fnv g = inr (record { rules = s .rules; share = s .share }, s .deep) in
           inr ((λ _ f. f long), inr ((λ _ l. omega arith), inr ((λ _ f. f k), (k, x .1 .1))))

@@ -6,21 +6,56 @@ ghost use Rattle.ground.specs.Says.{Says};
 ghost use Rattle.ground.specs.Ladder.{Answers};
 ghost use Rattle.page.specs.Page.{code, place, count};
 ghost use Rattle.page.specs.Places as Places;
+ghost use Rattle.page_check.specs.Shared.{Keeps};
 ghost use Rattle.store.specs.Tables.{meaning};
 ghost use Rattle.page_reader.specs.Read.{SoundBucket, Reads, Readable, nthTable};
 use page::Place;
 use store::Answer;
 use store::Refusal;
 
-// Whether a page is a bucket page that keeps every rule.
+// Whether a page of 1,024 bytes keeps a bucket page's rules up to a depth.
+fn keeps_1024(page: &[u8], deepest: u8) -> bool
+    requires { ⌜ (length (now page) ≡ 1024) × (deepest ≤ 32) ⌝ }
+    ensures { λ r. ⌜ Says r (Keeps deepest (now (page .entry))) ⌝ }
+{
+    let mut tab = [0u8; 1024];
+    page_check::bucket_ok(page, &mut tab, deepest)
+}
+
+// Whether a page of 4,096 bytes keeps a bucket page's rules up to a depth.
+fn keeps_4096(page: &[u8], deepest: u8) -> bool
+    requires { ⌜ (length (now page) ≡ 4096) × (deepest ≤ 32) ⌝ }
+    ensures { λ r. ⌜ Says r (Keeps deepest (now (page .entry))) ⌝ }
+{
+    let mut tab = [0u8; 4096];
+    page_check::bucket_ok(page, &mut tab, deepest)
+}
+
+// Whether a page of 16,384 bytes keeps a bucket page's rules up to a depth.
+fn keeps_16384(page: &[u8], deepest: u8) -> bool
+    requires { ⌜ (length (now page) ≡ 16384) × (deepest ≤ 32) ⌝ }
+    ensures { λ r. ⌜ Says r (Keeps deepest (now (page .entry))) ⌝ }
+{
+    let mut tab = [0u8; 16384];
+    page_check::bucket_ok(page, &mut tab, deepest)
+}
+
+// Whether a page of one of the three lengths is a bucket page that keeps every rule.
 fn sound(page: &[u8]) -> bool
     ensures { λ r. ⌜ Says r (SoundBucket (now (page .entry))) ⌝ }
 {
-    if page.len() != 1024 {
-        return false;
+    let n = page.len();
+    let deepest = partition::shape_for(n).deepest as u8;
+    if n == 1024 {
+        return keeps_1024(page, deepest);
     }
-    let mut tab = [0u8; 1024];
-    page_check::bucket_ok(page, &mut tab, 8)
+    if n == 4096 {
+        return keeps_4096(page, deepest);
+    }
+    if n == 16384 {
+        return keeps_16384(page, deepest);
+    }
+    false
 }
 
 // The page, if it is sound; else none of it.

@@ -19,11 +19,14 @@ use Rattle.words.proofs.Bytes.{small-zeros}
 use Rattle.partition.specs.Cases.{chosen}
 use Rattle.partition.specs.Listing.{placeOf}
 use Rattle.partition.specs.Partition.{Row, Fine, IsBucket, Grade, fits, over, fitting, need, needs, rowsOf, grade, walk, buckets, depthOf}
+use Rattle.partition.specs.declared.Shape.{Shape}
+use Rattle.partition.specs.Sizes.{Sized, shapeOf}
 use Rattle.partition.proofs.Bits.{top-lt}
 use Rattle.partition.proofs.Directory.{depth-bound}
 use Rattle.partition.proofs.Laws.{share-fewer}
 use Rattle.partition.proofs.Maps.{missing}
 use Rattle.partition.proofs.Rows.{rows-all, rows-on, rows-off, listed}
+use Rattle.partition.proofs.Sizes.{sized-of}
 use Rattle.partition.proofs.Store.{fine-reordered, every-row}
 use Rattle.partition.proofs.Tree.{pfx}
 use Rattle.store.specs.Pages.{S1024, dirDepth}
@@ -31,29 +34,34 @@ use Rattle.store.specs.Demands.{Hash, History, sized-1024}
 use Rattle.store.proofs.Showing.Showing.{accepted-shows}
 use Rattle.store.proofs.Result.Fitted.{prefix-needs}
 use Rattle.store.proofs.Demands.Whole.{demand-3}
+use Rattle.any_size.specs.OwnSizes.{SizedHistory}
+use Rattle.any_size.proofs.Histories.{own-history}
 use Rattle.promises.specs.Programs.{Program, Bytes, Meets, OneBucket, Parting}
 use Rattle.promises.proofs.Runs.{rowOf, at, in-range, natural, room, At, begun, at-first, at-next}
 
 module _ (h : List ℕ → ℕ) (hash : Hash h) where
   -- a row's bucket at depth 0 holds all rows
-  all-in-one : (rs : List Row) (x k : ℕ) → x < 2 ^ 32 → k ≡ 0 → IsBucket S1024 h rs k (top k x) → needs rs ≤ 1016
-  all-in-one rs x k l e b =
+  all-in-one : (S : Shape) (rs : List Row) (x k : ℕ) → x < 2 ^ 32 → k ≡ 0 → IsBucket S h rs k (top k x) → needs rs ≤ S .capacity
+  all-in-one S rs x k l e b =
       let z : top k x ≡ 0 = rw e (let m = top-lt x 0 l in omega arith) in
       let f : rowsOf h rs k (top k x) ≡ rs = ap (λ n. rowsOf h rs n (top n x)) e ∙ ap (λ v. rowsOf h rs 0 v) (sym (ap (λ n. top n x) e) ∙ z) ∙ rows-all h hash rs in
       omega (arith, b .fit, ap needs f)
 
-  pub more-than-one : (rs : List Row) (t : List ℕ) → History S1024 h rs t → 1016 < needs rs → 0 < dirDepth t
+  more-than-one : (S : Shape) → Sized S → (rs : List Row) (t : List ℕ) → History S h rs t → S .capacity < needs rs → 0 < dirDepth t
   unfolding needs
-  more-than-one [] t H l = absurd (omega arith)
-  more-than-one (r ∷ rs) t H l =
-      let A = demand-3 S1024 h sized-1024 hash .0 (r ∷ rs) t H in
-      let f : Fine S1024 h (r ∷ rs) = fine-reordered S1024 h (A .same) (accepted-shows S1024 h sized-1024 hash t (A .keeps) .fine) in
-      let b = every-row S1024 h (r ∷ rs) f r (List·Memᴰ·head refl) in
-      let d : b .0 ≤ depthOf (buckets S1024 h (r ∷ rs)) = depth-bound (buckets S1024 h (r ∷ rs)) (pfx (b .0) (top (b .0) (h (r .code)))) (listed S1024 h hash (r ∷ rs) (b .0) (top (b .0) (h (r .code))) .1 (b .2, b .1)) in
+  more-than-one S sized [] t H l = absurd (omega arith)
+  more-than-one S sized (r ∷ rs) t H l =
+      let A = demand-3 S h sized hash .0 (r ∷ rs) t H in
+      let f : Fine S h (r ∷ rs) = fine-reordered S h (A .same) (accepted-shows S h sized hash t (A .keeps) .fine) in
+      let b = every-row S h (r ∷ rs) f r (List·Memᴰ·head refl) in
+      let d : b .0 ≤ depthOf (buckets S h (r ∷ rs)) = depth-bound (buckets S h (r ∷ rs)) (pfx (b .0) (top (b .0) (h (r .code)))) (listed S h hash (r ∷ rs) (b .0) (top (b .0) (h (r .code))) .1 (b .2, b .1)) in
       ⊎-elim
-      (λ z. absurd (let m = all-in-one (r ∷ rs) (h (r .code)) (b .0) (hash (r .code)) (omega (arith, A .depth)) (b .2) in omega arith))
+      (λ z. absurd (let m = all-in-one S (r ∷ rs) (h (r .code)) (b .0) (hash (r .code)) (omega (arith, A .depth)) (b .2) in omega arith))
       (λ z. z)
       (side (dirDepth t) 1)
+
+  pub more-than-one-bucket : (rs : List Row) (t : List ℕ) → SizedHistory h rs t → shapeOf t .capacity < needs rs → 0 < dirDepth t
+  more-than-one-bucket rs t H = more-than-one (shapeOf t) (sized-of t) rs t (own-history h hash rs t H)
 
   -- ---- rows of the codes that the hash parts, each put after those before it
 
@@ -164,7 +172,7 @@ module _ (h : List ℕ → ℕ) (hash : Hash h) where
       pub comes-to-two : ⊥
       comes-to-two =
           let w = put-all 14 (omega arith) in
-          omega (arith, w .2, more-than-one (rows-of 14) (w .0) (w .1 .past) (omega (arith, needs-of 14 (omega arith))))
+          omega (arith, w .2, more-than-one S1024 sized-1024 (rows-of 14) (w .0) (w .1 .past) (omega (arith, needs-of 14 (omega arith))))
 
 -- ONE BUCKET FOR EVERYTHING
 pub one-bucket : (h : List ℕ → ℕ) → Hash h → (P : Program) → Meets h P → Parting h → OneBucket P → ⊥

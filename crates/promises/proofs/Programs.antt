@@ -17,6 +17,8 @@ use Rattle.words.proofs.Bytes.{small-zeros}
 use Rattle.partition.specs.Bits.{top}
 use Rattle.partition.specs.Partition.{Row, need, needs}
 use Rattle.partition.specs.Listing.{placeOf, listing, Once}
+use Rattle.partition.specs.Sizes.{shapeOf}
+use Rattle.partition.proofs.Sizes.{sized-of}
 use Rattle.partition.proofs.Maps.{absent}
 use Rattle.partition.proofs.Reorders.{length-same}
 use Rattle.page.specs.declared.Place.{Place}
@@ -30,7 +32,7 @@ use Rattle.store.proofs.Demands.Kept.{unrefused}
 use Rattle.store.proofs.Result.Fitted.{prefix-needs}
 use Rattle.store.proofs.Demands.Whole.{demand-2}
 use Rattle.promises.specs.Programs.{Program, Bytes, Meets, RefusesEveryPut, ReplacesSilently, OneFixedPlace, RepeatsOneRow, OnlyAnswers, StoresOnlyTheFirst, Miscounts}
-use Rattle.promises.proofs.Runs.{rowOf, at, in-range, natural, room, At, accepted-at, same-at, map-at, begun, at-first, says-new, at-next}
+use Rattle.promises.proofs.Runs.{rowOf, at, in-range, natural, room, At, accepted-at, same-at, map-at, looks-at, puts-at, removes-at, rows-at, held-at, begun, at-first, says-new, at-next}
 
 -- ---- what is put: the codes "a" and "b", at the places (n, 0, 0)
 
@@ -132,7 +134,7 @@ module _ (h : List ℕ → ℕ) (hash : Hash h) where
     again m =
         let w = with-a 0 (omega arith) in
         demand-2 S1024 h sized-1024 hash .4 (one 0) a (at 1) m (P .put (one 0) a (at 1) m .0) (P .put (one 0) a (at 1) m .1) (accepted-at h hash P meets w)
-        (meets .puts (one 0) a (at 1) m (w .small) (one-small 97 (omega arith)) (in-range 1 (omega arith)))
+        (puts-at h hash P meets w a (at 1) m (one-small 97 (omega arith)) (in-range 1 (omega arith)))
 
     pub replaces-silently : ReplacesSilently P → ⊥
     replaces-silently f = replaces (again 0 .0 (ap (λ x. ok (x .0)) (sym (f (one 0) a (at 1))) ∙ again 1 .1 (known refl (stored (at 0)) (holds-a 0 (omega arith)))))
@@ -145,7 +147,7 @@ module _ (h : List ℕ → ℕ) (hash : Hash h) where
     looks-up n l =
         let w = with-a n l in
         let d = demand-2 S1024 h sized-1024 hash in
-        d .1 (one n) a (P .lookup (one n) a) (one n) (accepted-at h hash P meets w) (meets .looks (one n) a (w .small) (one-small 97 (omega arith)), refl) (one-good 97)
+        d .1 (one n) a (P .lookup (one n) a) (one n) (accepted-at h hash P meets w) (looks-at h hash P meets w a (one-small 97 (omega arith)), refl) (one-good 97)
         ∙ ap answerOf (holds-a n l) ∙ ap found (d .9 .0 (at n) (in-range n l) (natural n))
 
     pub one-fixed-place : OneFixedPlace P → ⊥
@@ -160,12 +162,12 @@ module _ (h : List ℕ → ℕ) (hash : Hash h) where
     only-answers f =
         let w = with-a 0 (omega arith) in
         let t : List ℕ = one 0 in
-        let m = demand-2 S1024 h sized-1024 hash .3 t a (P .remove t a .0) (P .remove t a .1) (accepted-at h hash P meets w) (meets .removes t a (w .small) (one-small 97 (omega arith))) (one-good 97) .1 a in
+        let m = demand-2 S1024 h sized-1024 hash .3 t a (P .remove t a .0) (P .remove t a .1) (accepted-at h hash P meets w) (removes-at h hash P meets w a (one-small 97 (omega arith))) (one-good 97) .1 a in
         none-some (ap (λ s. map-of S1024 s a) (sym (f t a)) ∙ m) (holds-a 0 (omega arith))
 
     -- A COUNT THAT IS NOT THE MAP'S SIZE
     pub miscounts : Miscounts h P → ⊥
-    miscounts f = f .3 (demand-2 S1024 h sized-1024 hash .6 (f .0) (P .count (f .0)) (f .0) (f .2) (meets .counts (f .0) (f .1), refl))
+    miscounts f = f .3 (demand-2 (shapeOf (f .0)) h (sized-of (f .0)) hash .6 (f .0) (P .count (f .0)) (f .0) (f .2) (meets .counts (f .0) (f .1), refl))
 
     -- then "b" is put
     abbrev two : List ℕ
@@ -192,7 +194,7 @@ module _ (h : List ℕ → ℕ) (hash : Hash h) where
     pub stores-only-the-first : StoresOnlyTheFirst P → ⊥
     unfolding placeOf order
     stores-only-the-first f =
-        let some-row : rowsHeld S1024 (one 0) ≡ [] → ⊥ = λ e. none-some (ap (λ rs. placeOf rs a) e) (holds-a 0 (omega arith)) in
+        let some-row : rowsHeld (shapeOf (one 0)) (one 0) ≡ [] → ⊥ = λ e. none-some (ap (λ rs. placeOf rs a) (sym (held-at h hash P meets (with-a 0 (omega arith))) ∙ e)) (holds-a 0 (omega arith)) in
         let e : two ≡ one 0 = f (one 0) b (at 1) 0 some-row said-b in
         none-some (map-at h hash P meets (with-a 0 (omega arith)) b) (ap (λ s. map-of S1024 s b) (sym e) ∙ map-at h hash P meets with-b b)
 
@@ -206,7 +208,7 @@ module _ (h : List ℕ → ℕ) (hash : Hash h) where
         omega arith
       where
         asks : (n : ℕ) → Answers (rowTable S1024 h two n (replicate 64 0)) (P .row two n (replicate 64 0))
-        asks n = meets .rows two n (replicate 64 0) (with-b .small) (small-zeros 64 .at)
+        asks n = rows-at h hash P meets with-b n (replicate 64 0) (small-zeros 64 .at)
 
         gives : (n : ℕ) → n < 2 → ok (P .row two n (replicate 64 0) .0) ≡ true
         gives n l =

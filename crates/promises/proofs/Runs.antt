@@ -1,9 +1,9 @@
--- A program that keeps the tables, run from a format of four pages: what it has stored so far, and that a put that need not be refused is not. Assumes nothing.
+-- A program that keeps the tables, run from a format of four pages of 1,024 bytes: what it has stored so far, and that a put that need not be refused is not. Assumes nothing.
 use borrow.Author.Tests.{le-leb}
 use mathlib.Core.Path.{_≡_, refl, sym, ap, subst, _∙_}
 use mathlib.Core.Bool.{Bool, true, false}
 use mathlib.Core.List.{List, [], _∷_}
-use mathlib.Core.Logic.{inl, ⊎-elim}
+use mathlib.Core.Logic.{inl, inr, ⊎-elim}
 use mathlib.Core.Option.{none}
 use Prim.Native.Nat.{ℕ, _-_, _/_, _≤_, _<_}
 use native.Mathlib.Omega.{arith}
@@ -14,7 +14,7 @@ use Rattle.ground.proofs.Ladders.{each}
 use Rattle.words.proofs.Bytes.{small-append, small-bytes, small-zeros}
 use Rattle.partition.specs.Bits.{top}
 use Rattle.partition.specs.Partition.{Row, Reordered, front, needs, rowsOf, grade, fitting, walk, buckets}
-use Rattle.partition.specs.Sizes.{sizeNumber}
+use Rattle.partition.specs.Sizes.{shapeAt, shapeFor, sizeNumber, shapeOf}
 use Rattle.partition.specs.Listing.{placeOf}
 use Rattle.partition.proofs.Laws.{load-reordered, reordered}
 use Rattle.partition.proofs.Maps.{cut-none}
@@ -28,8 +28,9 @@ use Rattle.page.proofs.Signs.{positive}
 use Rattle.store.specs.Pages.{S1024, pages, rowsHeld}
 use Rattle.store.specs.Accepted.{GoodLength, Accepted}
 use Rattle.store.specs.Moves.{pick}
-use Rattle.store.specs.Tables.{Out, formatted, new, blank, formatTable, putTable}
+use Rattle.store.specs.Tables.{Out, formatted, new, blank, formatTable, formatSized, lookupTable, putTable, removeTable, rowTable}
 use Rattle.store.specs.Demands.{Hash, format, put, Made, ok, GoodCode, map-of, putAnswer, Refuses, History, begin, next, after, sized-1024}
+use Rattle.store.proofs.Accepted.OwnSize.{size-is-said}
 use Rattle.store.proofs.Demands.Kept.{unrefused}
 use Rattle.store.proofs.Demands.Modes.{put-each}
 use Rattle.store.proofs.Demands.Whole.{demand-2, demand-3}
@@ -92,15 +93,36 @@ module _ (h : List ℕ → ℕ) (hash : Hash h) (P : Program) (meets : Meets h P
   pub map-at : {rs : List Row} {t : List ℕ} → At rs t → (c : List ℕ) → map-of S1024 t c ≡ placeOf rs c
   map-at {rs} {t} w c = sym (same-map (turned (same-at w)) (demand-3 S1024 h sized-1024 hash .0 rs t (w .past) .once) .1 c)
 
+  -- its store says 1,024, so each of its answers is one at that size
+  own-at : {rs : List Row} {t : List ℕ} → At rs t → shapeOf t ≡ S1024
+  unfolding shapeAt
+  own-at {rs} {t} w = size-is-said 0 (omega arith) h t (accepted-at w)
+
+  module _ {rs : List Row} {t : List ℕ} (w : At rs t) where
+    pub looks-at : (c : List ℕ) → Bytes c → Answers (lookupTable S1024 h t c) (P .lookup t c)
+    looks-at c b = subst (λ S. Answers (lookupTable S h t c) (P .lookup t c)) (own-at w) (meets .looks t c (w .small) b)
+
+    pub puts-at : (c : List ℕ) (p : Place) (m : ℕ) → Bytes c → InRange p → Answers (putTable S1024 h t c p m) (P .put t c p m)
+    puts-at c p m b r = subst (λ S. Answers (putTable S h t c p m) (P .put t c p m)) (own-at w) (meets .puts t c p m (w .small) b r)
+
+    pub removes-at : (c : List ℕ) → Bytes c → Answers (removeTable S1024 h t c) (P .remove t c)
+    removes-at c b = subst (λ S. Answers (removeTable S h t c) (P .remove t c)) (own-at w) (meets .removes t c (w .small) b)
+
+    pub rows-at : (n : ℕ) (out : List ℕ) → Bytes out → Answers (rowTable S1024 h t n out) (P .row t n out)
+    rows-at n out b = subst (λ S. Answers (rowTable S h t n out) (P .row t n out)) (own-at w) (meets .rows t n out (w .small) b)
+
+    pub held-at : rowsHeld (shapeOf t) t ≡ rowsHeld S1024 t
+    held-at = ap (λ S. rowsHeld S t) (own-at w)
+
   zeros-good : GoodLength S1024 zeros
   zeros-good = record { whole = rw zeros-long refl; least = rw zeros-long (omega arith); most = rw zeros-long (omega arith) }
 
   abbrev pub begun : List ℕ
-  begun = P .format zeros .1
+  begun = P .format 1024 zeros .1
 
-  formats-it : (x : Out × List ℕ) → Answers (formatTable S1024 zeros) x → x ≡ (formatted, blank S1024 zeros)
-  unfolding formatTable
-  formats-it x m = each (λ x. x ≡ (formatted, blank S1024 zeros)) (formatTable S1024 zeros) ((λ _ r. absurd (r zeros-good)), (λ _ x e. e)) x m
+  formats-it : (x : Out × List ℕ) → Answers (formatSized 1024 zeros) x → x ≡ (formatted, blank S1024 zeros)
+  unfolding formatSized formatTable shapeFor
+  formats-it x m = each (λ x. x ≡ (formatted, blank S1024 zeros)) (formatSized 1024 zeros) ((λ _ b. absurd (b (inl refl))), (λ _. ((λ _ r. absurd (r zeros-good)), (λ _ x e. e)))) x m
 
   blank-small : Bytes (blank S1024 zeros)
   unfolding blank
@@ -108,10 +130,10 @@ module _ (h : List ℕ → ℕ) (hash : Hash h) (P : Program) (meets : Meets h P
 
   -- a format, and no rows
   pub at-first : At [] begun
+  unfolding formatTable
   at-first =
-      let m : Answers (formatTable S1024 zeros) (P .format zeros) = meets .formats zeros zeros-small in
-      let e : P .format zeros ≡ (formatted, blank S1024 zeros) = formats-it (P .format zeros) m in
-      let f : Made S1024 h format zeros formatted begun = subst (λ (o : Out). Answers (formatTable S1024 zeros) (o, begun)) (ap (λ q. q .0) e) m in
+      let e : P .format 1024 zeros ≡ (formatted, blank S1024 zeros) = formats-it (P .format 1024 zeros) (meets .formats 1024 zeros zeros-small) in
+      let f : Made S1024 h format zeros formatted begun = inr ((λ _ r. r zeros-good), ap (λ (q : Out × List ℕ). (formatted, q .1)) e) in
       record {
         past = begin zeros f;
         long = demand-2 S1024 h sized-1024 hash .11 zeros begun f .2 ∙ zeros-long;
@@ -128,7 +150,7 @@ module _ (h : List ℕ → ℕ) (hash : Hash h) (P : Program) (meets : Meets h P
     then = P .put t c p 0 .1
 
     made : Made S1024 h (put c p 0) t o then
-    made = meets .puts t c p 0 (w .small) small range
+    made = puts-at w c p 0 small range
 
     refuses : Refuses S1024 h t c p 0 → ⊥
     refuses = unrefused S1024 h t c p 0 good natural (inl refl) (λ x _ _. omega (arith, x)) (λ _. (

@@ -5,7 +5,7 @@ use Rattle.hash.specs.Fnv.{fnv, fnv-lt}
 use Rattle.store.specs.Demands.{Hash}
 use Rattle.promises.specs.Programs.{Program, Meets, TurnedAway}
 use Rattle.promises.proofs.Programs.{refuses-every-put, replaces-silently, one-fixed-place, repeats-one-row, only-answers, stores-only-the-first, miscounts}
-use Rattle.promises.proofs.OneBucket.{more-than-one, one-bucket}
+use Rattle.promises.proofs.OneBucket.{more-than-one-bucket, one-bucket}
 
 pub turned-away : (h : List ℕ → ℕ) → Hash h → (P : Program) → Meets h P → TurnedAway h P
 turned-away h hash P meets = record {
@@ -17,7 +17,7 @@ turned-away h hash P meets = record {
   stores-only-the-first = stores-only-the-first h hash P meets;
   miscounts = miscounts h hash P meets;
   one-bucket = one-bucket h hash P meets;
-  more-than-one-bucket = more-than-one h hash;
+  more-than-one-bucket = more-than-one-bucket h hash;
 }
 
 pub turned-away-fnv : (P : Program) → Meets fnv P → TurnedAway fnv P

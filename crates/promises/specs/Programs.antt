@@ -1,4 +1,4 @@
--- Programs, and the wrong ones that the documents want turned away. Pages of 1,024 bytes, any hash. Assumes nothing.
+-- Programs, and the wrong ones that the documents want turned away. Each store says its page size; any hash. Assumes nothing.
 use mathlib.Core.Path.{_≡_}
 use mathlib.Core.Bool.{true, false}
 use mathlib.Core.List.{List, []}
@@ -11,14 +11,16 @@ use Rattle.partition.specs.Partition.{Row, needs}
 use Rattle.partition.specs.Listing.{listing}
 use Rattle.page.specs.declared.Place.{Place}
 use Rattle.page.specs.Places.{InRange}
-use Rattle.store.specs.Pages.{S1024, dirDepth, rowsHeld}
+use Rattle.partition.specs.Sizes.{shapeOf}
+use Rattle.store.specs.Pages.{dirDepth, rowsHeld}
 use Rattle.store.specs.Accepted.{Accepted}
-use Rattle.store.specs.Tables.{Out, new, found, counted, formatTable, checkTable, countTable, lookupTable, putTable, removeTable, rowTable}
-use Rattle.store.specs.Demands.{ok, History}
+use Rattle.store.specs.Tables.{Out, new, found, counted, formatSized, checkTable, countTable, lookupTable, putTable, removeTable, rowTable}
+use Rattle.store.specs.Demands.{ok}
+use Rattle.any_size.specs.OwnSizes.{SizedHistory}
 
 -- what a program answers to each call, with the store or output it leaves
 pub record Program : Type 0 where
-  pub format : List ℕ → Out × List ℕ
+  pub format : ℕ → List ℕ → Out × List ℕ
   pub check : List ℕ → Out
   pub count : List ℕ → Out
   pub lookup : List ℕ → List ℕ → Out
@@ -32,13 +34,13 @@ Bytes l = (k : ℕ) → byte l k < 256
 
 -- a program whose calls keep the promises of the tables
 pub record Meets (h : List ℕ → ℕ) (P : Program) : Type 0 where
-  pub formats : (s : List ℕ) → Bytes s → Answers (formatTable S1024 s) (P .format s)
-  pub checks : (s : List ℕ) → Bytes s → Answers (checkTable S1024 h s) (P .check s)
-  pub counts : (s : List ℕ) → Bytes s → Answers (countTable S1024 h s) (P .count s)
-  pub looks : (s c : List ℕ) → Bytes s → Bytes c → Answers (lookupTable S1024 h s c) (P .lookup s c)
-  pub puts : (s c : List ℕ) (p : Place) (m : ℕ) → Bytes s → Bytes c → InRange p → Answers (putTable S1024 h s c p m) (P .put s c p m)
-  pub removes : (s c : List ℕ) → Bytes s → Bytes c → Answers (removeTable S1024 h s c) (P .remove s c)
-  pub rows : (s : List ℕ) (n : ℕ) (out : List ℕ) → Bytes s → Bytes out → Answers (rowTable S1024 h s n out) (P .row s n out)
+  pub formats : (n : ℕ) (s : List ℕ) → Bytes s → Answers (formatSized n s) (P .format n s)
+  pub checks : (s : List ℕ) → Bytes s → Answers (checkTable (shapeOf s) h s) (P .check s)
+  pub counts : (s : List ℕ) → Bytes s → Answers (countTable (shapeOf s) h s) (P .count s)
+  pub looks : (s c : List ℕ) → Bytes s → Bytes c → Answers (lookupTable (shapeOf s) h s c) (P .lookup s c)
+  pub puts : (s c : List ℕ) (p : Place) (m : ℕ) → Bytes s → Bytes c → InRange p → Answers (putTable (shapeOf s) h s c p m) (P .put s c p m)
+  pub removes : (s c : List ℕ) → Bytes s → Bytes c → Answers (removeTable (shapeOf s) h s c) (P .remove s c)
+  pub rows : (s : List ℕ) (n : ℕ) (out : List ℕ) → Bytes s → Bytes out → Answers (rowTable (shapeOf s) h s n out) (P .row s n out)
 
 -- one that refuses every put
 abbrev pub RefusesEveryPut : Program → Type 0
@@ -62,17 +64,17 @@ OnlyAnswers P = (s c : List ℕ) → P .remove s c .1 ≡ s
 
 -- a put that stores the first row and then only says "new"
 abbrev pub StoresOnlyTheFirst : Program → Type 0
-StoresOnlyTheFirst P = (s c : List ℕ) (p : Place) (m : ℕ) → (rowsHeld S1024 s ≡ [] → ⊥) → P .put s c p m .0 ≡ new → P .put s c p m .1 ≡ s
+StoresOnlyTheFirst P = (s c : List ℕ) (p : Place) (m : ℕ) → (rowsHeld (shapeOf s) s ≡ [] → ⊥) → P .put s c p m .0 ≡ new → P .put s c p m .1 ≡ s
 
 -- a count of rows that is not the map's size, on some accepted store
 abbrev pub Miscounts : (List ℕ → ℕ) → Program → Type 0
-Miscounts h P = (s : List ℕ) × Bytes s × Accepted S1024 h s × (P .count s ≡ counted (length (listing S1024 h (rowsHeld S1024 s))) → ⊥)
+Miscounts h P = (s : List ℕ) × Bytes s × Accepted (shapeOf s) h s × (P .count s ≡ counted (length (listing (shapeOf s) h (rowsHeld (shapeOf s) s))) → ⊥)
 
 -- one bucket for everything: a put never gives a store a second directory entry
 abbrev pub OneBucket : Program → Type 0
 OneBucket P = (s c : List ℕ) (p : Place) (m : ℕ) → dirDepth s ≡ 0 → dirDepth (P .put s c p m .1) ≡ 0
 
--- fourteen codes of 64 bytes, whose rows do not fit together: the hashes of thirteen begin with 0, that of the last with 1
+-- fourteen codes of 64 bytes, whose rows do not fit together on 1,024 bytes: the hashes of thirteen begin with 0, that of the last with 1
 pub record Parting (h : List ℕ → ℕ) : Type 0 where
   pub code : ℕ → List ℕ
   pub long : (i : ℕ) → i < 14 → length (code i) ≡ 64
@@ -93,4 +95,4 @@ pub record TurnedAway (h : List ℕ → ℕ) (P : Program) : Type 0 where
   -- under a hash that has such codes
   pub one-bucket : Parting h → OneBucket P → ⊥
   -- and under any hash rows that do not fit together have a second directory entry
-  pub more-than-one-bucket : (rs : List Row) (t : List ℕ) → History S1024 h rs t → 1016 < needs rs → 0 < dirDepth t
+  pub more-than-one-bucket : (rs : List Row) (t : List ℕ) → SizedHistory h rs t → shapeOf t .capacity < needs rs → 0 < dirDepth t

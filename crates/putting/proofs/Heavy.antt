@@ -2,9 +2,9 @@
 -- Assumes nothing.
 use mathlib.Core.Path.{_≡_, refl, sym, ap, subst, _∙_}
 use mathlib.Core.List.{List, [], _∷_, map, List·Memᴰ, List·Memᴰ·cases-cons}
-use mathlib.Core.Logic.{inl, inr, ⊎-elim, _↔_}
+use mathlib.Core.Logic.{_⊎_, inl, inr, ⊎-elim, _↔_}
 use mathlib.Core.Option.{none}
-use Prim.Native.Nat.{ℕ, suc, _+_, _-_, _≤_, _<_}
+use Prim.Native.Nat.{ℕ, suc, _+_, _-_, _/_, _≤_, _<_}
 use native.Mathlib.Omega.{arith}
 use lib.ListN.{length, take, length-map}
 use Rattle.ground.proofs.Tests.{none-some}
@@ -18,29 +18,33 @@ use Rattle.partition.specs.declared.Shape.{Shape}
 use Rattle.partition.specs.Partition.{Row, need, needs, rowsOf, buckets}
 use Rattle.partition.specs.Listing.{placeOf}
 use Rattle.partition.proofs.Bits.{top-lt}
+use Rattle.partition.proofs.Reorders.{needs-same}
 use Rattle.partition.proofs.Rows.{same-load}
-use Rattle.store.specs.Pages.{pages, page, dirDepth, Page, contents, asRow, rowsHeld, deepestIn}
-use Rattle.store.specs.Accepted.{Accepted}
+use Rattle.store.specs.Pages.{size, pages, page, dirDepth, entryAt, Page, contents, asRow, rowsIn, rowsHeld, deepestIn}
+use Rattle.store.specs.Accepted.{Calls, Accepted}
 use Rattle.store.specs.Moves.{packed, written, putNew, frees}
 use Rattle.store.specs.Tables.{new, refused, Refusal6, Refusal7, putAccepted}
 use Rattle.store.specs.Demands.{Sized, Hash}
 use Rattle.store.proofs.Showing.Shows.{prefixOn, Shows}
 use Rattle.store.proofs.Accepted.Rules.{opened}
 use Rattle.store.proofs.Showing.Shown.{page-row}
-use Rattle.store.proofs.Showing.Showing.{accepted-shows, pages-held}
+use Rattle.store.proofs.Showing.Showing.{first-code, accepted-shows, pages-held}
 use Rattle.store.proofs.Accepted.Unique.{page-long}
 use Rattle.store.proofs.Accepted.Reading.{Naming, place-on}
 use Rattle.store.proofs.Paging.PageTies.{found-not, fits-needs}
 use Rattle.store.proofs.Put.PutCases.{here-six, splits-seven, put-splits-is}
 use Rattle.store.proofs.Put.PutRows.{put-shown}
 use Rattle.store.proofs.Put.EveryStep.{Roomy}
-use Rattle.directory.specs.Directory.{Directed}
+use Rattle.directory.specs.Directory.{CallsFor, EntryFor, none as unnamed, names, PrefixNamed, Directed, Rewritten}
+use Rattle.directory.proofs.Directories.{calls-same}
+use Rattle.directory.proofs.Laying.{directable}
+use Rattle.directory.proofs.Renews.{prefix-pages, prefix-holds, prefix-kept, one-calls, renewed}
 use Rattle.putting.specs.Put.{newRow, Puttable, Crowded}
-use Rattle.putting.specs.Split.{keyed, withNew, below, Source, pagesBelow, Writable, BucketsWritten}
+use Rattle.putting.specs.Split.{keyed, withNew, below, Source, takenNext, Room, NewPage, pagesBelow, Writable, BucketsWritten}
 use Rattle.putting.proofs.Puts.{home-page, begins}
 use Rattle.putting.proofs.Weighs.{load-any, below-shared, below-all}
-use Rattle.directory.proofs.Settles.{unwritten, settled}
-use Rattle.putting.proofs.Splits.{first-given}
+use Rattle.directory.proofs.Settles.{unwritten, settling, settled}
+use Rattle.putting.proofs.Splits.{first-given, rewritten-then, rewritten-self, long-then}
 
 module _ (S : Shape) (h : List ℕ → ℕ) (hash : Hash h) (s : List ℕ) (p i : ℕ) (c pl : List ℕ) (C : Crowded S h s p i c pl) where
   abbrev P : Puttable S h s c pl
@@ -170,22 +174,119 @@ module _ (S : Shape) (h : List ℕ → ℕ) (hash : Hash h) (s : List ℕ) (p i 
         room = λ m l f. subst (λ j. 0 < frees (written gs j (take m ns))) (sym (first-given gs p (home .from))) (room .step m (f (omega (arith, home .from))) l);
       }
 
-      module _ (t : List ℕ) (n : ℕ) (W : BucketsWritten S h (withNew (page S s p) (newRow c pl)) (depth (page S s p)) (top (depth (page S s p)) (h c)) s p t n) where
-        holds : contents S t ≡ putNew S h gs r
-        holds =
-            W .held ∙ (λ x. written gs (first-given gs p (home .from) x) (news x))
-            ∙ sym (put-splits-is S h hash (rowsHeld S s) gs shows r (p - 2) (depth g) (rows g) (home .holding) starts heavy)
+      -- the entries that the page called for name none
+      module _ (s₁ : List ℕ) (N : PrefixNamed S s (dirDepth s) (depth (page S s p)) (top (depth (page S s p)) (h c)) 0 s₁) where
+        abbrev d : ℕ
+        d = dirDepth s
 
-        pub heavy-new : (u : List ℕ) → Directed S h t (deepestIn (contents S t)) (pages S s) u → ((k : ℕ) → byte u k < 256)
-            → Answers (putAccepted S h s (newRow c pl)) (new, u)
-        heavy-new u D b =
-            inr (
-              (λ _. none-some absent),
+        abbrev v : ℕ
+        v = top (depth g) (h c)
+
+        same-held : contents S s₁ ≡ gs
+        same-held = prefix-holds S s s₁ d (depth g) v 0 N
+
+        same-pages : pages S s₁ ≡ pages S s
+        same-pages = ap (λ m. m / size S) (N .old .len)
+
+        kept : Rewritten S s s₁
+        kept = prefix-kept S s s₁ d (depth g) v 0 N (unwritten S sized h hash s A)
+
+        pub writable-then : Writable S h (withNew (page S s p) (newRow c pl)) (depth (page S s p)) (top (depth (page S s p)) (h c)) s₁ p
+        writable-then =
+            let W = writable in
+            record {
+              prefix = W .prefix;
+              long = long-then S s s₁ (N .old .len) (W .long);
+              sound = rewritten-self S s s₁ kept;
+              from = W .from;
+              to = omega (arith, W .to, same-pages);
+              room = subst (λ x. Room x p ns) (sym same-held) (W .room);
+            }
+
+        module _ (t : List ℕ) (n : ℕ) (W : BucketsWritten S h (dirDepth s) (withNew (page S s p) (newRow c pl)) (depth (page S s p)) (top (depth (page S s p)) (h c)) s₁ p t n) where
+          holds : contents S t ≡ putNew S h gs r
+          holds =
+              W .held ∙ (λ x. written (same-held x) (takenNext (same-held x) p) ns) ∙ (λ x. written gs (first-given gs p (home .from) x) (news x))
+              ∙ sym (put-splits-is S h hash (rowsHeld S s) gs shows r (p - 2) (depth g) (rows g) (home .holding) starts heavy)
+
+          shown : Shows S h (r ∷ rowsHeld S s) (contents S t)
+          shown = rw holds (put-shown S h sized hash s r A absent six seven)
+
+          pub split-kept : Rewritten S s t
+          split-kept = rewritten-then S s s₁ t kept (W .pages)
+
+          -- page p is taken, since there is a row more
+          all-taken : n ≡ 0
+          unfolding needs need
+          all-taken = ⊎-elim
+              (λ l. let e : contents S t ≡ gs = ap (contents S) (W .named .left l .0) ∙ same-held in absurd (omega (arith, needs-same (shown .same), ap (λ x. needs (rowsIn x)) e)))
+              (λ l. omega arith)
+              (side 0 n)
+
+          -- the page called for what its prefix calls for
+          old-calls : (i : ℕ) → CallsFor S h s d i p → Calls d (depth g) v i
+          old-calls i x = subst (λ y. Calls d (depth g) y i) (sym (first-code h g (home .bytes .rules)) ∙ starts) (x .calls)
+
+          calls-old : (i : ℕ) → Calls d (depth g) v i → CallsFor S h s d i p
+          calls-old i x = record { used = home .bytes .rules .rules .one; calls = subst (λ y. Calls d (depth g) y i) (sym (sym (first-code h g (home .bytes .rules)) ∙ starts)) x }
+
+          before : (q : ℕ) → 2 ≤ q → q < pages S s → page S s₁ q ≡ page S s q
+          before q a b = prefix-pages S s s₁ d (depth g) v 0 N q a b
+
+          each : (q : ℕ) → 2 ≤ q → q < pages S s → (page S t q ≡ page S s₁ q) ⊎ NewPage S h s₁ d (depth g) v p t q
+          each q a b = W .named .each q a (omega (arith, b, same-pages))
+
+          module _ (same : deepestIn (contents S t) ≡ dirDepth s) where
+            low : (q : ℕ) → 2 ≤ q → q < pages S s → byte (page S t q) 0 ≡ 1 → depth (page S t q) ≤ d
+            low q a b u = omega (arith, same, directable S t (pages S s) (settling S sized h hash s A t split-kept) .pages q a b .depths u)
+
+            its-pages : (q : ℕ) → 2 ≤ q → q < pages S s
+                → (page S t q ≡ page S s q) ⊎ (((i : ℕ) → CallsFor S h s d i q → Calls d (depth g) v i) × ((i : ℕ) → CallsFor S h t d i q → Calls d (depth g) v i))
+            its-pages q a b = ⊎-elim
+                (λ e. inl (e ∙ before q a b))
+                (λ M. inr (
+                  (λ i x. let e : q ≡ p = M .was (ap (λ y. byte y 0) (before q a b) ∙ x .used) in old-calls i (subst (CallsFor S h s d i) e x)),
+                  (λ i x. M .calls (low q a b (x .used)) i x),
+                ))
+                (each q a b)
+
+            others : (i : ℕ) → i < S .entries → (Calls d (depth g) v i → ⊥) → entryAt S t i ≡ entryAt S s i
+            others i l f = ⊎-elim
+                (λ e. ⊎-elim (λ y. absurd (f (y .0))) (λ y. e ∙ y .1) (N .entry i l))
+                (λ E. absurd (f (E .under)))
+                (W .named .entries i l)
+
+            -- an entry that is left names none, and no page calls for it
+            uncalled : (i : ℕ) → i < S .entries → Calls d (depth g) v i → entryAt S t i ≡ 0 → (q : ℕ) → 2 ≤ q → q < pages S s → CallsFor S h t d i q → ⊥
+            uncalled i l x z q a b y = ⊎-elim
+                (λ e.
+                let o : entryAt S s i ≡ q = one-calls S sized h s A i q l a b (calls-same S h s t d i q (e ∙ before q a b) y) in
+                let m : entryAt S s i ≡ p = one-calls S sized h s A i p l (home .from) (home .to) (calls-old i x) in
+                let w : q ≡ p = sym o ∙ m in
+                let u = subst (CallsFor S h t d i) w y in
+                omega (arith, z, home .from, W .named .first (omega (arith, home .from)) all-taken .named (low p (home .from) (home .to) (u .used)) i u))
+                (λ M. omega (arith, z, a, M .named (low q a b (y .used)) i y))
+                (each q a b)
+
+            own : (i : ℕ) → i < S .entries → Calls d (depth g) v i → EntryFor S h t d (pages S s) i (entryAt S t i)
+            own i l x = ⊎-elim
+                (λ e. let z : entryAt S t i ≡ 0 = e ∙ ⊎-elim (λ y. y .1) (λ y. absurd (y .0 x)) (N .entry i l) in unnamed z (uncalled i l x z))
+                (λ E. names (E .from) (omega (arith, E .to, same-pages)) (E .calls))
+                (W .named .entries i l)
+
+            pub split-directed : Directed S h t (dirDepth s) (pages S s) t
+            split-directed = renewed S sized h s A (depth g) v t split-kept (record { pages = its-pages; others = others; own = own })
+
+          pub heavy-new : (u : List ℕ) → Directed S h t (deepestIn (contents S t)) (pages S s) u → ((k : ℕ) → byte u k < 256)
+              → Answers (putAccepted S h s (newRow c pl)) (new, u)
+          heavy-new u D b =
               inr (
-                (λ _. six),
+                (λ _. none-some absent),
                 inr (
-                  (λ _. seven),
-                  (refl, rw (← holds) (settled S sized h hash s A t (W .pages) u D (r ∷ rowsHeld S s) (rw holds (put-shown S h sized hash s r A absent six seven)) b)),
+                  (λ _. six),
+                  inr (
+                    (λ _. seven),
+                    (refl, rw (← holds) (settled S sized h hash s A t split-kept u D (r ∷ rowsHeld S s) shown b)),
+                  ),
                 ),
-              ),
-            )
+              )

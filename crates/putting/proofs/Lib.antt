@@ -2,5 +2,6 @@ pub mod Puts
 pub mod NewBuckets
 pub mod Weighs
 pub mod Appends
+pub mod Renames
 pub mod Splits
 pub mod Heavy

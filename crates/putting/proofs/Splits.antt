@@ -1,18 +1,28 @@
 -- Buckets written one after another down the prefixes: what each step of the recursion asks and leaves. Over any page size and hash. Assumes nothing.
 use Rattle.directory.specs.Directory.{Rewritten}
 use mathlib.Core.Path.{_≡_, refl, sym, ap, subst, _∙_}
+use mathlib.Core.Bool.{true≢false}
 use mathlib.Core.List.{List, [], _∷_, _++_, map, map-append}
-use Prim.Native.Nat.{ℕ, zero, suc, _+_, _-_, _*_, _/_, _%_, _≤_, _<_}
+use mathlib.Core.Logic.{⊎-elim}
+use Prim.Native.Nat.{ℕ, zero, suc, _+_, _-_, _*_, _/_, _%_, _^_, _≤_, _<_}
 use native.Mathlib.Omega.{arith}
-use lib.ListN.{length, set}
+use lib.ListN.{length, getD, set}
+use lib.Pow.{pow-mono}
+use Rattle.ground.specs.Lists.{byte}
+use Rattle.ground.proofs.Sides.{side}
 use Rattle.partition.specs.declared.Shape.{Shape}
 use Rattle.partition.specs.Partition.{Row, needs, rowsOf}
 use Rattle.partition.proofs.Tree.{pfx}
-use Rattle.store.specs.Pages.{size, pages, page, Page, bucket, contents, setPage}
+use Rattle.store.specs.Pages.{size, pages, page, Page, free, bucket, contents, setPage}
 use Rattle.store.specs.Accepted.{GoodLength}
 use Rattle.store.specs.Moves.{find, isFree, packed, written, frees}
-use Rattle.putting.specs.Split.{below, Bucketed, takenNext, untaken, Room, pagesBelow, Writable, BucketsWritten}
+use Rattle.putting.specs.Split.{below, Bucketed, takenNext, untaken, Room, pagesBelow, Writable, NamedIf, BucketsWritten}
 use Rattle.store.proofs.Accepted.Unique.{page-long}
+use Rattle.store.proofs.Showing.Rooms.{find-free}
+use Rattle.store.proofs.Paging.Depths.{kind-byte}
+use Rattle.directory.proofs.Frees.{used-page}
+use Rattle.directory.proofs.Renews.{prefix-holds, prefix-kept}
+use Rattle.putting.proofs.Renames.{none-named, one-named, both-named}
 use Rattle.directory.proofs.Settles.{rewritten-set, set-holds}
 use Rattle.putting.proofs.Weighs.{below-none, below-one, below-deep, below-two, double}
 
@@ -72,14 +82,24 @@ rewritten-then S s t u A B = record {
 pub rewritten-self : (S : Shape) (s t : List ℕ) → Rewritten S s t → Rewritten S t t
 rewritten-self S s t A = record { long = refl; low = λ k l. refl; sound = λ p a b. A .sound p a (subst (λ n. p < n / size S) (A .long) b) }
 
-long-then : (S : Shape) (s t : List ℕ) → length t ≡ length s → GoodLength S s → GoodLength S t
+module _ (S : Shape) (s : List ℕ) (d k v p : ℕ) (t : List ℕ) where
+  named-kept : Rewritten S s s → NamedIf S s d k v p t → Rewritten S s t
+  named-kept W F = ⊎-elim (λ l. subst (Rewritten S s) (sym (F .over l)) W) (λ l. prefix-kept S s t d k v p (F .low l) W) (side d k)
+
+  named-holds : NamedIf S s d k v p t → contents S t ≡ contents S s
+  named-holds F = ⊎-elim (λ l. ap (contents S) (F .over l)) (λ l. prefix-holds S s t d k v p (F .low l)) (side d k)
+
+pub long-then : (S : Shape) (s t : List ℕ) → length t ≡ length s → GoodLength S s → GoodLength S t
 long-then S s t e g = record {
   whole = ap (λ n. n % size S) e ∙ g .whole;
   least = subst (λ n. 3 ≤ n / size S) (sym e) (g .least);
   most = subst (λ n. n / size S ≤ S .entries + 2) (sym e) (g .most);
 }
 
-module _ (S : Shape) (h : List ℕ → ℕ) (rs : List Row) (k v : ℕ) (s : List ℕ) (at : ℕ) (W : Writable S h rs k v s at) where
+module _ (S : Shape) (h : List ℕ → ℕ) (d : ℕ) (rs : List Row) (k v : ℕ) (s : List ℕ) (at : ℕ) (low-d : d ≤ S .deepest) (W : Writable S h rs k v s at) where
+  fits : 2 ^ d ≤ S .entries
+  fits = let m : 2 ^ d ≤ 2 ^ S .deepest = pow-mono low-d in omega (arith, W .prefix .sized .deep)
+
   abbrev gs : List Page
   gs = contents S s
 
@@ -87,18 +107,19 @@ module _ (S : Shape) (h : List ℕ → ℕ) (rs : List Row) (k v : ℕ) (s : Lis
   load = needs (rowsOf h rs k v)
 
   -- no bucket
-  none-wrote : below S h rs k v ≡ [] → BucketsWritten S h rs k v s at s at
+  none-wrote : below S h rs k v ≡ [] → BucketsWritten S h d rs k v s at s at
   unfolding written
   none-wrote e = record {
     pages = W .sound;
     held = sym (ap (λ l. written gs (takenNext gs at) (map (packed h rs) l)) e);
     then = sym (ap (λ l. untaken at (map (packed h rs) l)) e);
+    named = none-named S h s d k v at;
   }
 
-  pub bare-wrote : load ≡ 0 → BucketsWritten S h rs k v s at s at
+  pub bare-wrote : load ≡ 0 → BucketsWritten S h d rs k v s at s at
   bare-wrote e = none-wrote (below-none S h rs k v e)
 
-  pub deep-wrote : S .capacity < load → k ≡ S .deepest → BucketsWritten S h rs k v s at s at
+  pub deep-wrote : S .capacity < load → k ≡ S .deepest → BucketsWritten S h d rs k v s at s at
   deep-wrote o e = none-wrote (below-deep S h rs k v (omega arith) o)
 
   -- one
@@ -123,13 +144,35 @@ module _ (S : Shape) (h : List ℕ → ℕ) (rs : List Row) (k v : ℕ) (s : Lis
           set-holds S s s (W .sound) n (omega arith) to q (Q .page) long (omega (arith, Q .deep, W .prefix .deep))
           ∙ (λ x. set gs (i x) (bucket (Q .deep x) (Q .rowsOf x)))
 
-      pub one-wrote : BucketsWritten S h rs k v s at (setPage S s n q) 0
-      unfolding written
-      one-wrote = record {
-        pages = rewritten-set S s s (W .sound) n (omega arith) to q (Q .page) long (omega (arith, Q .deep, W .prefix .deep));
-        held = holds ∙ sym (ap (λ x. written gs (takenNext gs at) (map (packed h rs) x)) one);
-        then = sym (ap (λ x. untaken at (map (packed h rs) x)) one);
-      }
+      rewritten : Rewritten S s (setPage S s n q)
+      rewritten = rewritten-set S s s (W .sound) n (omega arith) to q (Q .page) long (omega (arith, Q .deep, W .prefix .deep))
+
+      -- page at, where one is given
+      given-page : 0 < at → n ≡ at
+      given-page a = let w = first-given gs at (W .from a) in omega (arith, w, W .from a)
+
+      -- else one that is free
+      not-used : byte (page S s n) 0 ≡ 1 → n ≡ at
+      not-used b = ⊎-elim given-page
+          (λ l.
+          let z : at ≡ 0 = omega arith in
+          let f : n - 2 ≡ find isFree gs = omega (arith, e, ap (takenNext gs) z) in
+          absurd (true≢false (sym (ap isFree (find-free gs (one-free z) .1)) ∙ ap (λ i. isFree (getD gs i free)) (sym f) ∙ used-page S s n (omega arith) to (λ y. omega (arith, y, b, kind-byte S s n)))))
+          (side 0 at)
+
+      -- and its entries named
+      module _ (t : List ℕ) (F : NamedIf S (setPage S s n q) d k v n t) where
+        kept : Rewritten S (setPage S s n q) t
+        kept = named-kept S (setPage S s n q) d k v n t (rewritten-self S s (setPage S s n q) rewritten) F
+
+        pub one-wrote : BucketsWritten S h d rs k v s at t 0
+        unfolding written
+        one-wrote = record {
+          pages = rewritten-then S s (setPage S s n q) t rewritten kept;
+          held = named-holds S (setPage S s n q) d k v n t F ∙ holds ∙ sym (ap (λ x. written gs (takenNext gs at) (map (packed h rs) x)) one);
+          then = sym (ap (λ x. untaken at (map (packed h rs) x)) one);
+          named = one-named S (W .prefix .sized) h rs s d k v at n fits (omega arith) to (page S s n) q Q long not-used given-page t F;
+        }
 
   -- two halves
   module _ (shallow : k < S .deepest) (o : S .capacity < load) where
@@ -152,7 +195,7 @@ module _ (S : Shape) (h : List ℕ → ℕ) (rs : List Row) (k v : ℕ) (s : Lis
       room = room-left gs at ls us (subst (Room gs at) both (W .room));
     }
 
-    module _ (t : List ℕ) (p : ℕ) (A : BucketsWritten S h rs (k + 1) (2 * v) s at t p) where
+    module _ (t : List ℕ) (p : ℕ) (A : BucketsWritten S h d rs (k + 1) (2 * v) s at t p) where
       given : (0 < p → 2 ≤ p) × (p < pages S t)
       given =
           let e : pages S t ≡ pages S s = ap (λ n. n / size S) (A .pages .long) in
@@ -169,9 +212,10 @@ module _ (S : Shape) (h : List ℕ → ℕ) (rs : List Row) (k v : ℕ) (s : Lis
         room = subst (λ g. Room g p us) (sym (A .held)) (subst (λ j. Room (written gs (takenNext gs at) ls) j us) (sym (A .then)) (room-right gs at ls us (subst (Room gs at) both (W .room))));
       }
 
-      pub both-wrote : (u : List ℕ) (n : ℕ) → BucketsWritten S h rs (k + 1) (2 * v + 1) t p u n → BucketsWritten S h rs k v s at u n
+      pub both-wrote : (u : List ℕ) (n : ℕ) → BucketsWritten S h d rs (k + 1) (2 * v + 1) t p u n → BucketsWritten S h d rs k v s at u n
       both-wrote u n B = record {
         pages = rewritten-then S s t u (A .pages) (B .pages);
         held = B .held ∙ (λ x. written (A .held x) (takenNext (A .held x) (A .then x)) us) ∙ sym (written-append gs at ls us) ∙ sym (ap (written gs (takenNext gs at)) both);
         then = B .then ∙ ap (λ j. untaken j us) (A .then) ∙ sym (left-append at ls us) ∙ sym (ap (untaken at) both);
+        named = both-named S h d k v fits (A .pages .long) (W .from) (W .to) (A .named) (B .named);
       }

@@ -13,7 +13,7 @@ use Rattle.partition.specs.declared.Shape.{Shape}
 use Rattle.partition.specs.Partition.{Row}
 use Rattle.store.specs.Pages.{size, page, dirDepth, entryAt}
 use Rattle.store.specs.Accepted.{Calls, Accepted}
-use Rattle.store.specs.Demands.{Sized}
+use Rattle.store.specs.Demands.{Sized, Mode}
 
 -- the row of a code and a place
 abbrev pub newRow : List ℕ → List ℕ → Row
@@ -28,9 +28,16 @@ pub record Puttable (S : Shape) (h : List ℕ → ℕ) (s c pl : List ℕ) : Typ
 
 -- such a row, its place not yet in bytes
 pub record Allowed (S : Shape) (h : List ℕ → ℕ) (s c : List ℕ) (p : Place) : Type 0 where
+  pub sized : Sized S
   pub accepted : Accepted S h s
   pub good : GoodCode c
   pub natural : Negative p → ⊥
+
+-- an accepted store, and a mode that a put can have
+pub record Ready (S : Shape) (h : List ℕ → ℕ) (s : List ℕ) (m : ℕ) : Type 0 where
+  pub sized : Sized S
+  pub accepted : Accepted S h s
+  pub mode : Mode m
 
 -- the directory entry of the hash x names page p
 pub record HomeOf (S : Shape) (s : List ℕ) (x p : ℕ) : Type 0 where

@@ -1,18 +1,20 @@
 -- What the steps of a split ask and answer. Over any page size and hash. Assumes nothing.
 use mathlib.Core.Path.{_≡_}
 use mathlib.Core.List.{List, [], _∷_, _++_, map}
+use mathlib.Core.Logic.{_⊎_}
 use Prim.Native.Nat.{ℕ, zero, suc, _+_, _-_, _^_, _≤_, _<_}
 use lib.ListN.{length, getD, take, drop}
+use Rattle.ground.specs.Lists.{byte}
 use Rattle.words.specs.Codes.{GoodCode}
 use Rattle.page.specs.Page.{Slotted, BucketPage, Belongs, Natural, depth, count, code, rows, rowAt}
 use Rattle.partition.specs.declared.Shape.{Shape}
 use Rattle.partition.specs.Partition.{Row, Prefix, needs, rowsOf, grade, walk}
 use Rattle.partition.specs.Listing.{inOrder, Rising}
-use Rattle.store.specs.Pages.{pages, Page, contents, asRow}
-use Rattle.store.specs.Accepted.{GoodLength}
+use Rattle.store.specs.Pages.{pages, page, entryAt, Page, contents, asRow}
+use Rattle.store.specs.Accepted.{GoodLength, Calls}
 use Rattle.store.specs.Demands.{Sized}
 use Rattle.store.specs.Moves.{find, isFree, frees, packFrom, packed, written}
-use Rattle.directory.specs.Directory.{Rewritten}
+use Rattle.directory.specs.Directory.{CallsFor, PrefixNamed, Rewritten}
 use Rattle.putting.specs.Put.{newRow}
 
 -- a row of the code, its place left aside
@@ -159,6 +161,33 @@ Room gs at ns = (m : ℕ) → m < length ns → (0 < at → 0 < m) → 0 < frees
 abbrev pub pagesBelow : Shape → (List ℕ → ℕ) → List Row → ℕ → ℕ → List Page
 pagesBelow S h rs k v = map (packed h rs) (below S h rs k v)
 
+-- page q of t is new, of a prefix that begins with the k bits of v: in s no bucket, but for page at; what it calls for in a directory of depth d names it
+pub record NewPage (S : Shape) (h : List ℕ → ℕ) (s : List ℕ) (d k v at : ℕ) (t : List ℕ) (q : ℕ) : Type 0 where
+  pub was : byte (page S s q) 0 ≡ 1 → q ≡ at
+  pub deep : k ≤ depth (page S t q)
+  pub calls : depth (page S t q) ≤ d → (i : ℕ) → CallsFor S h t d i q → Calls d k v i
+  pub named : depth (page S t q) ≤ d → (i : ℕ) → CallsFor S h t d i q → entryAt S t i ≡ q
+
+-- entry i of t names one
+pub record NewEntry (S : Shape) (h : List ℕ → ℕ) (d k v n : ℕ) (t : List ℕ) (i : ℕ) : Type 0 where
+  pub low : k ≤ d
+  pub under : Calls d k v i
+  pub from : 2 ≤ entryAt S t i
+  pub to : entryAt S t i < n
+  pub calls : CallsFor S h t d i (entryAt S t i)
+
+-- each page and each entry of t is as in s or new; p is what is left of page at, and where that is left, t is s
+pub record EntriesWritten (S : Shape) (h : List ℕ → ℕ) (s : List ℕ) (d k v at : ℕ) (t : List ℕ) (p : ℕ) : Type 0 where
+  pub each : (q : ℕ) → 2 ≤ q → q < pages S s → (page S t q ≡ page S s q) ⊎ NewPage S h s d k v at t q
+  pub entries : (i : ℕ) → i < S .entries → (entryAt S t i ≡ entryAt S s i) ⊎ NewEntry S h d k v (pages S s) t i
+  pub first : 0 < at → p ≡ 0 → NewPage S h s d k v at t at
+  pub left : 0 < p → (t ≡ s) × (p ≡ at)
+
+-- the entries that the prefix v of k bits calls for are p, if the directory, of depth d, has entries for it
+pub record NamedIf (S : Shape) (s : List ℕ) (d k v p : ℕ) (t : List ℕ) : Type 0 where
+  pub low : k ≤ d → PrefixNamed S s d k v p t
+  pub over : d < k → t ≡ s
+
 -- there is room for them in the store s, the first in page at unless that is 0
 pub record Writable (S : Shape) (h : List ℕ → ℕ) (rs : List Row) (k v : ℕ) (s : List ℕ) (at : ℕ) : Type 0 where
   pub prefix : PrefixIn S k v
@@ -169,13 +198,16 @@ pub record Writable (S : Shape) (h : List ℕ → ℕ) (rs : List Row) (k v : �
   pub room : Room (contents S s) at (pagesBelow S h rs k v)
 
 -- and the rows are those of the page g, whose hashes and needs are in hs and ns, and the new row, which belongs at slot i
-pub record Spread (S : Shape) (h : List ℕ → ℕ) (s g : List ℕ) (i : ℕ) (c pl hs ns : List ℕ) (k v at : ℕ) : Type 0 where
+-- and d is a depth that there is
+pub record Spread (S : Shape) (h : List ℕ → ℕ) (d : ℕ) (s g : List ℕ) (i : ℕ) (c pl hs ns : List ℕ) (k v at : ℕ) : Type 0 where
+  pub depth : d ≤ S .deepest
   pub source : Source g i c pl
   pub weighed : Weighed h g c hs ns
   pub writable : Writable S h (withNew g (newRow c pl)) k v s at
 
--- and t is s with them, the first in page at unless that is 0, each next in the lowest free page; p is what is left of page at
-pub record BucketsWritten (S : Shape) (h : List ℕ → ℕ) (rs : List Row) (k v : ℕ) (s : List ℕ) (at : ℕ) (t : List ℕ) (p : ℕ) : Type 0 where
+-- and t is s with them, the first in page at unless that is 0, each next in the lowest free page; p is what is left of page at; d is the directory's depth
+pub record BucketsWritten (S : Shape) (h : List ℕ → ℕ) (d : ℕ) (rs : List Row) (k v : ℕ) (s : List ℕ) (at : ℕ) (t : List ℕ) (p : ℕ) : Type 0 where
   pub pages : Rewritten S s t
   pub held : contents S t ≡ written (contents S s) (takenNext (contents S s) at) (pagesBelow S h rs k v)
   pub then : p ≡ untaken at (pagesBelow S h rs k v)
+  pub named : EntriesWritten S h s d k v at t p

@@ -1,10 +1,11 @@
-// A row put on an accepted store.
+// A row put on a store.
 ghost use mathlib.Core.Path.{_≡_};
 ghost use lib.ListN.{length};
 ghost use Rattle.ground.specs.Ladder.{Answers};
 ghost use Rattle.hash.specs.Fnv.{fnv};
 ghost use Rattle.page.specs.Page.{code};
-ghost use Rattle.store.specs.Pages.{S1024, size, page};
+ghost use Rattle.partition.specs.Sizes.{shapeOf};
+ghost use Rattle.store.specs.Pages.{size, page};
 ghost use Rattle.store.specs.Tables.{putAccepted, putByMode, putTable, meaning};
 ghost use Rattle.putting.specs.Put.{newRow, Puttable, Homeless, Homed, KnownAt, Insertion};
 use super::checked::put_allowed;
@@ -14,6 +15,7 @@ use directory::free_pages;
 use directory::lowest_free;
 use directory::settle;
 use partition::Shape;
+use store_check::Length;
 
 // The code in slot i of page p gets another place.
 fn replace(s: &mut [u8], z: Shape, p: usize, i: usize, place: &[u8]) -> store::Answer
@@ -136,11 +138,11 @@ pub fn put_row(s: &mut [u8], z: Shape, key: &[u8], place: &[u8], mode: u64) -> s
 
 // A code gets a place, if it is what the mode expects.
 pub fn put(s: &mut [u8], key: &[u8], place: page::Place, mode: u64) -> store::Answer
-    ensures { λ r. ⌜ Answers (putTable S1024 fnv (now (s .entry)) (now (key .entry)) place mode) (meaning r, now (s .exit)) ⌝ }
+    ensures { λ r. ⌜ Answers (putTable (shapeOf (now (s .entry))) fnv (now (s .entry)) (now (key .entry)) place mode) (meaning r, now (s .exit)) ⌝ }
 {
-    if !store_check::good_length(s, partition::S1024) {
+    let Length::Of(z) = store_check::said_shape(s) else {
         return store::Answer::Refused(store::Refusal::BadLength);
-    }
+    };
     if !store::good_code(key) {
         return store::Answer::Refused(store::Refusal::BadCode);
     }
@@ -150,9 +152,9 @@ pub fn put(s: &mut [u8], key: &[u8], place: page::Place, mode: u64) -> store::An
     if 2 < mode {
         return store::Answer::Refused(store::Refusal::BadMode);
     }
-    let p = store_check::first_bad(s);
-    if p < s.len() / 1024 {
+    let p = store_check::first_bad(s, z);
+    if p < s.len() / (8 + z.capacity) {
         return store::Answer::Refused(store::Refusal::BadPage(p));
     }
-    put_allowed(s, key, place, mode)
+    put_allowed(s, z, key, place, mode)
 }

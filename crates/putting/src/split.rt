@@ -1,19 +1,21 @@
 // A page that is split.
 ghost use mathlib.Core.Path.{_≡_};
-ghost use Prim.Native.Nat.{_+_, _<_};
+ghost use Prim.Native.Nat.{_+_, _^_, _≤_, _<_};
 ghost use Rattle.ground.specs.Ladder.{Answers};
 ghost use Rattle.hash.specs.Fnv.{fnv};
+ghost use Rattle.partition.specs.Bits.{top};
 ghost use Rattle.store.specs.Pages.{pages, contents};
 ghost use Rattle.store.specs.Tables.{putAccepted, meaning};
-ghost use Rattle.putting.specs.Put.{newRow, Crowded, Lent};
-ghost use Rattle.putting.specs.Split.{withNew, takenNext, PageComing, Spread, BucketsWritten};
+ghost use Rattle.putting.specs.Put.{newRow, Crowded, Lent, DirectoryOf};
+ghost use Rattle.putting.specs.Split.{withNew, takenNext, PageComing, PrefixIn, NamedIf, Spread, BucketsWritten};
 use super::bucket::write_bucket;
 use super::weigh::count_below;
 use super::weigh::gather;
 use super::weigh::load;
 use directory::free_pages;
 use directory::lowest_free;
-use directory::settle;
+use directory::name_prefix;
+use directory::settle_depth;
 use partition::Shape;
 
 // The page that the next bucket takes: page at, or the lowest free page where at is 0.
@@ -27,10 +29,29 @@ fn next_page(s: &[u8], z: Shape, at: usize) -> usize
     at
 }
 
-// The buckets at the prefix v of k bits and below it are written packed, the first to page at unless that is 0, each next to the lowest free page. Page at where none is written, else 0.
+// A hash that begins with the k bits of v.
+fn hash_under(v: u64, k: u32) -> u32
+    requires { ⌜ (k ≤ 12) × (v < 2 ^ k) ⌝ }
+    ensures { λ r. ⌜ top k r ≡ v ⌝ }
+{
+    (v << (32 - k)) as u32
+}
+
+// The entries that the prefix v of k bits calls for name page p, if the directory, of depth d, has entries for it.
+fn name_bucket(s: &mut [u8], z: Shape, k: u32, v: u64, d: u32, p: usize)
+    requires { ⌜ PrefixIn z k v × DirectoryOf z (now s) d × (p < 4294967296) ⌝ }
+    ensures { λ _. ⌜ NamedIf z (now (s .entry)) d k v p (now (s .exit)) ⌝ }
+{
+    if k <= d {
+        name_prefix(s, z, hash_under(v, k), k, d, p);
+    }
+}
+
+// The buckets at the prefix v of k bits and below it are written packed, the first to page at unless that is 0, each next to the lowest free page, and their entries in the directory, of depth d, name them. Page at where none is written, else 0.
 fn write_below(
     s: &mut [u8],
     z: Shape,
+    d: u32,
     from: &[u8],
     i: usize,
     key: &[u8],
@@ -41,8 +62,8 @@ fn write_below(
     v: u64,
     at: usize,
 ) -> usize
-    requires { ⌜ Spread z fnv (now s) (now from) i (now key) (now place) (now hs) (now ns) k v at ⌝ }
-    ensures { λ r. ⌜ BucketsWritten z fnv (withNew (now (from .entry)) (newRow (now (key .entry)) (now (place .entry)))) k v (now (s .entry)) at (now (s .exit)) r ⌝ }
+    requires { ⌜ Spread z fnv d (now s) (now from) i (now key) (now place) (now hs) (now ns) k v at ⌝ }
+    ensures { λ r. ⌜ BucketsWritten z fnv d (withNew (now (from .entry)) (newRow (now (key .entry)) (now (place .entry)))) k v (now (s .entry)) at (now (s .exit)) r ⌝ }
 {
     let need = load(from, key, hs, ns, k, v);
     if need == 0 {
@@ -54,13 +75,14 @@ fn write_below(
         let a = p * size;
         let e = a + size;
         write_bucket(&mut s[a..e], from, i, key, place, hs, k, v);
+        name_bucket(s, z, k, v, d, p);
         return 0;
     }
     if k as usize == z.deepest {
         return at;
     }
-    let next = write_below(s, z, from, i, key, place, hs, ns, k + 1, 2 * v, at);
-    write_below(s, z, from, i, key, place, hs, ns, k + 1, 2 * v + 1, next)
+    let next = write_below(s, z, d, from, i, key, place, hs, ns, k + 1, 2 * v, at);
+    write_below(s, z, d, from, i, key, place, hs, ns, k + 1, 2 * v + 1, next)
 }
 
 // The new code, which belongs at slot i of page p, does not fit there: the page is split into the buckets of its rows and the new one. What it works in is lent.
@@ -95,8 +117,10 @@ fn split(
     if free_pages(s, z, n, m) + 1 < m {
         return store::Answer::Refused(store::Refusal::PagesFull);
     }
-    write_below(s, z, from, i, key, place, hs, ns, k, v, p);
-    settle(s, z, n);
+    let d = words::get32(s, 16);
+    name_prefix(s, z, x, k, d as u32, 0);
+    write_below(s, z, d as u32, from, i, key, place, hs, ns, k, v, p);
+    settle_depth(s, z, n, d);
     store::Answer::New
 }
 

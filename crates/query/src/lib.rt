@@ -4,9 +4,10 @@ ghost use Prim.Native.Nat.{_≤_};
 ghost use lib.ListN.{length};
 ghost use Rattle.hash.specs.Fnv.{fnv};
 ghost use Rattle.partition.specs.Listing.{listing};
+ghost use Rattle.partition.specs.Sizes.{shapeOf};
 ghost use mathlib.Core.Path.{_≡_};
 ghost use Rattle.page.specs.Page.{rowAt};
-ghost use Rattle.store.specs.Pages.{S1024, page, asRow, rowsHeld};
+ghost use Rattle.store.specs.Pages.{page, asRow, rowsHeld};
 ghost use Rattle.store.specs.Accepted.{Accepted};
 ghost use Rattle.store.specs.Demands.{Sized};
 ghost use Rattle.store.specs.Tables.{checkTable, countTable, lookedUp, lookupTable, rowOf, rowTable, giving, meaning};
@@ -14,6 +15,7 @@ ghost use Rattle.query.specs.Spots.{OnPage};
 use partition::Shape;
 use store::Answer;
 use store::Refusal;
+use store_check::Length;
 
 mod spots;
 
@@ -44,13 +46,13 @@ pub enum Step {
 
 // Whether the store keeps every rule, and the first page that does not.
 pub fn check(s: &[u8]) -> Answer
-    ensures { λ r. ⌜ Answers (checkTable S1024 fnv (now (s .entry))) (meaning r) ⌝ }
+    ensures { λ r. ⌜ Answers (checkTable (shapeOf (now (s .entry))) fnv (now (s .entry))) (meaning r) ⌝ }
 {
-    if !store_check::good_length(s, partition::S1024) {
+    let Length::Of(z) = store_check::said_shape(s) else {
         return Answer::Refused(Refusal::BadLength);
-    }
-    let p = store_check::first_bad(s);
-    if p < s.len() / 1024 {
+    };
+    let p = store_check::first_bad(s, z);
+    if p < s.len() / (8 + z.capacity) {
         return Answer::Refused(Refusal::BadPage(p));
     }
     Answer::Accepted
@@ -58,17 +60,17 @@ pub fn check(s: &[u8]) -> Answer
 
 // The number of rows.
 pub fn count(s: &[u8]) -> Answer
-    ensures { λ r. ⌜ Answers (countTable S1024 fnv (now (s .entry))) (meaning r) ⌝ }
+    ensures { λ r. ⌜ Answers (countTable (shapeOf (now (s .entry))) fnv (now (s .entry))) (meaning r) ⌝ }
 {
-    if !store_check::good_length(s, partition::S1024) {
+    let Length::Of(z) = store_check::said_shape(s) else {
         return Answer::Refused(Refusal::BadLength);
-    }
-    let n = s.len() / 1024;
-    let p = store_check::first_bad(s);
+    };
+    let n = s.len() / (8 + z.capacity);
+    let p = store_check::first_bad(s, z);
     if p < n {
         return Answer::Refused(Refusal::BadPage(p));
     }
-    Answer::Rows(spots::count_rows(s, partition::S1024, n))
+    Answer::Rows(spots::count_rows(s, z, n))
 }
 
 // The place of a code, on an accepted store.
@@ -89,19 +91,19 @@ pub fn place_of(s: &[u8], z: Shape, key: &[u8]) -> Answer
 
 // The place of a code.
 pub fn lookup(s: &[u8], key: &[u8]) -> Answer
-    ensures { λ r. ⌜ Answers (lookupTable S1024 fnv (now (s .entry)) (now (key .entry))) (meaning r) ⌝ }
+    ensures { λ r. ⌜ Answers (lookupTable (shapeOf (now (s .entry))) fnv (now (s .entry)) (now (key .entry))) (meaning r) ⌝ }
 {
-    if !store_check::good_length(s, partition::S1024) {
+    let Length::Of(z) = store_check::said_shape(s) else {
         return Answer::Refused(Refusal::BadLength);
-    }
+    };
     if !store::good_code(key) {
         return Answer::Refused(Refusal::BadCode);
     }
-    let p = store_check::first_bad(s);
-    if p < s.len() / 1024 {
+    let p = store_check::first_bad(s, z);
+    if p < s.len() / (8 + z.capacity) {
         return Answer::Refused(Refusal::BadPage(p));
     }
-    place_of(s, partition::S1024, key)
+    place_of(s, z, key)
 }
 
 // The row in slot i of the bucket page p, its code to the start of the output.
@@ -129,17 +131,17 @@ pub fn give_row(s: &[u8], z: Shape, n: usize, out: &mut [u8]) -> Answer
 
 // The row at place n of the listing, its code to the start of the output.
 pub fn row_at(s: &[u8], n: usize, out: &mut [u8]) -> Answer
-    ensures { λ r. ⌜ Answers (rowTable S1024 fnv (now (s .entry)) n (now (out .entry))) (meaning r, now (out .exit)) ⌝ }
+    ensures { λ r. ⌜ Answers (rowTable (shapeOf (now (s .entry))) fnv (now (s .entry)) n (now (out .entry))) (meaning r, now (out .exit)) ⌝ }
 {
-    if !store_check::good_length(s, partition::S1024) {
+    let Length::Of(z) = store_check::said_shape(s) else {
         return Answer::Refused(Refusal::BadLength);
-    }
+    };
     if out.len() < 64 {
         return Answer::Refused(Refusal::ShortOutput);
     }
-    let p = store_check::first_bad(s);
-    if p < s.len() / 1024 {
+    let p = store_check::first_bad(s, z);
+    if p < s.len() / (8 + z.capacity) {
         return Answer::Refused(Refusal::BadPage(p));
     }
-    give_row(s, partition::S1024, n, out)
+    give_row(s, z, n, out)
 }

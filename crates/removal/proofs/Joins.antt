@@ -1,12 +1,12 @@
 -- The gathered rows, packed into the lowest-numbered page of the prefix. Over any page size. Assumes nothing.
-use mathlib.Core.Path.{_≡_, sym, ap, subst, subst₂, _∙_}
+use mathlib.Core.Path.{_≡_, refl, sym, ap, subst, subst₂, _∙_}
 use mathlib.Core.Logic.{⊎-elim}
-use mathlib.Core.List.{List, [], _++_, map}
-use Prim.Native.Nat.{ℕ, _+_, _-_, _*_, _/_, _≤_, _<_}
+use mathlib.Core.List.{List, [], _∷_, _++_, map}
+use Prim.Native.Nat.{ℕ, zero, suc, _+_, _-_, _*_, _/_, _≤_, _<_}
 use native.Mathlib.Omega.{arith}
 use native.Mathlib.Nat.{mul-le-mul-right}
 use native.Mathlib.Decide.{ℕ-discrete}
-use lib.ListN.{length, set}
+use lib.ListN.{length, set, take, drop, replicate}
 use Rattle.ground.specs.Lists.{tab}
 use Rattle.ground.proofs.Sides.{side}
 use Rattle.page.specs.Page.{BucketPage, count, depth, rowAt}
@@ -25,6 +25,15 @@ use Rattle.removal.specs.Join.{Housed, Taking, Gathered, rowsAt, othersI
 use Rattle.removal.proofs.Prefixes.{many, listed}
 use Rattle.removal.proofs.Empties.{emptied-sound, emptied-holds}
 
+-- the first n of the zeros that are lent are n zeros
+pub lent-blank : (m n : ℕ) → n ≤ m → take {A = ℕ} (n - 0) (drop 0 (replicate m 0)) ≡ replicate n 0
+lent-blank m n b = let e : n - 0 ≡ n = omega arith in ap (λ k. take {A = ℕ} k (replicate m 0)) e ∙ go m n b
+  where
+    go : (m n : ℕ) → n ≤ m → take {A = ℕ} n (replicate m 0) ≡ replicate n 0
+    go m zero b = refl
+    go zero (suc n) b = absurd (omega arith)
+    go (suc m) (suc n) b = ap {B = List ℕ} (λ l. 0 ∷ l) (go m n (omega arith))
+
 no-rows : (g : List ℕ) → count g ≡ 0 → rowsAt g ≡ []
 unfolding tab
 no-rows g e = ap (λ n. map asRow (tab (rowAt g) n)) e
@@ -40,7 +49,7 @@ fresh-taking {p} {d} {q} rs F h = record {
   all = subst₂ (λ m x. Housed m (x ++ rs)) (sym (F .long)) (sym (no-rows q (F .none))) h;
 }
 
-module _ (S : Shape) (h : List ℕ → ℕ) (s : List ℕ) (n j v : ℕ) (c : List ℕ) (J : Joinable S h s n j v c) where
+module _ (S : Shape) (h : List ℕ → ℕ) (s : List ℕ) (n j v a b : ℕ) (c : List ℕ) (J : Joinable S h s n j v a b c) where
   abbrev gs : List Page
   gs = contents S s
 
@@ -48,7 +57,7 @@ module _ (S : Shape) (h : List ℕ → ℕ) (s : List ℕ) (n j v : ℕ) (c : Li
   low = 2 + find (within h j v) gs
 
   pub low-within : low < n
-  low-within = omega (arith, J .there, listed S s n (J .sound))
+  low-within = omega (arith, J .there, listed S s n (J .prefix .sound))
 
   module _ {p q g u k : List ℕ} (l : length p ≡ size S) (F : Fresh p j q) (G : Gathered q (othersIn h j v c gs) g) (E : Emptied S h s n j v 2 u) (K : Packed g k) where
     all : Reordered (rowsAt g) (othersIn h j v c gs)
@@ -77,19 +86,21 @@ module _ (S : Shape) (h : List ℕ → ℕ) (s : List ℕ) (n j v : ℕ) (c : Li
     long = K .long ∙ G .long ∙ F .long ∙ l
 
     there : low < pages S u
-    there = subst (λ m. low < m) (sym (ap (λ m. m / size S) (E .long) ∙ many S s n (J .sound))) low-within
+    there = subst (λ m. low < m) (sym (ap (λ m. m / size S) (E .long) ∙ many S s n (J .prefix .sound))) low-within
 
-    pub rejoined : Rejoined S h s n j v c (setPage S u low k)
+    pub rejoined : Rejoined S h s n j v c low (setPage S u low k)
     rejoined = record {
       long = set-long S u low k there long ∙ E .long;
-      low = λ i b. let m : 2 * size S ≤ low * size S = mul-le-mul-right (size S) (omega arith) in set-below S u low k there long i (omega (arith, m)) ∙ E .low i b;
-      sound = λ x a b. go x a b (ℕ-discrete x low);
-      holds = set-contents S u low k there long (omega arith) ∙ (λ i. set (emptied-holds S h s n j v (J .sound) u E i) (at i) (now-reads i));
+      start = λ i l. let m : 2 * size S ≤ low * size S = mul-le-mul-right (size S) (omega arith) in set-below S u low k there long i (omega (arith, m)) ∙ E .low i l;
+      sound = λ x f t. go x f t (ℕ-discrete x low);
+      holds = set-contents S u low k there long (omega arith) ∙ (λ i. set (emptied-holds S h s n j v (J .prefix .sound) u E i) (at i) (now-reads i));
+      lowest = refl;
+      rest = λ x f t ne. set-other S u low k there long x ne ∙ E .from x f t;
     }
       where
         go : (x : ℕ) → 2 ≤ x → x < n → Dec (x ≡ low) → SoundPage S (page S (setPage S u low k) x)
-        go x a b (yes e) = subst (SoundPage S) (sym (ap (page S (setPage S u low k)) e ∙ set-same S u low k there long)) (used its (omega (arith, deep, J .bits)))
-        go x a b (no ne) = subst (SoundPage S) (sym (set-other S u low k there long x ne)) (emptied-sound S h s n j v (J .sound) u E x a b)
+        go x f t (yes e) = subst (SoundPage S) (sym (ap (page S (setPage S u low k)) e ∙ set-same S u low k there long)) (used its (omega (arith, deep, J .prefix .bits)))
+        go x f t (no ne) = subst (SoundPage S) (sym (set-other S u low k there long x ne)) (emptied-sound S h s n j v (J .prefix .sound) u E x f t)
 
         at : low - 2 ≡ find (within h j v) gs
         at = omega arith

@@ -1,5 +1,5 @@
 -- The pages of a prefix, as their bytes show them. Over any page size. Assumes nothing.
-use mathlib.Core.Path.{_≡_, refl, sym, ap, _∙_}
+use mathlib.Core.Path.{_≡_, refl, sym, ap, subst, _∙_}
 use mathlib.Core.Bool.{true}
 use mathlib.Core.List.{List}
 use Prim.Native.Nat.{ℕ, zero, suc, _+_, _-_, _*_, _/_, _≤_, _<_}
@@ -21,7 +21,9 @@ use Rattle.store.proofs.Accepted.Unique.{read-used, held}
 use Rattle.store.proofs.Paging.Views.{apart}
 use Rattle.store.proofs.Showing.Showing.{pages-held}
 use Rattle.directory.specs.Directory.{SoundPage, free as unused, used, Settling}
-use Rattle.removal.specs.Prefix.{Testable}
+use Rattle.removal.specs.Prefix.{Testable, PageTested}
+use Rattle.removal.specs.Join.{Prefixed}
+use Rattle.words.proofs.Bytes.{le32-same}
 
 pub read-free : (g : List ℕ) → byte g 0 ≡ 0 → read g ≡ free
 unfolding read
@@ -73,3 +75,15 @@ module _ (S : Shape) (s : List ℕ) (n : ℕ) (P : Settling S s n) where
 
   pub page-testable : Sized S → (j : ℕ) → j ≤ S .deepest → (p : ℕ) → 2 ≤ p → p < n → Testable (page S s p) j
   page-testable sized j l p a b = testable S sized (page S s p) j (P .pages p a b) (page-whole S s p (page-there p b)) l
+
+-- a page of a store that has a run for the prefix, in the store and in one with the same directory and the same page
+pub page-tested : (S : Shape) (h : List ℕ → ℕ) (s : List ℕ) (n j v a b : ℕ) → Prefixed S h s n j v a b → (t : List ℕ) → length t ≡ length s → ((k : ℕ) → k < 2 * size S → byte t k ≡ byte s k)
+    → (p : ℕ) → 2 ≤ p → p < n → page S t p ≡ page S s p → PageTested S h t p j v a b
+page-tested S h s n j v a b P t long same p two to e = record {
+  entries = record { sized = P .sized; long = omega (arith, long, page-there S s n (P .sound) 1 (omega (arith, P .sound .least))); most = P .entries };
+  there = omega (arith, long, page-there S s n (P .sound) p to);
+  page = subst (λ g. Testable g j) (sym e) (page-testable S s n (P .sound) (P .sized) j (P .bits) p two to);
+  named = λ w.
+      let N = P .named p two to (ap (λ g. within h j v (read g)) (sym e) ∙ w) in
+      record { entry = N .entry; from = N .from; to = N .to; names = le32-same s t (size S + 4 * N .entry) (λ i l. same (size S + 4 * N .entry + i) (omega (arith, P .sized .whole, P .entries, N .to))) ∙ N .names };
+}

@@ -1,13 +1,18 @@
 -- REMOVE on an accepted store: where the code's row stands, what is left of its prefix, and the three writes. Over any page size and hash. Assumes nothing.
 use mathlib.Core.Path.{_≡_, refl, sym, ap, subst, subst₂, _∙_}
 use mathlib.Core.List.{List, [], _∷_, _++_, map, List·Memᴰ}
-use mathlib.Core.Logic.{⊎-elim}
+use mathlib.Core.Bool.{Bool, true, false}
+use mathlib.Core.Logic.{_⊎_, inl, inr, ⊎-elim}
 use mathlib.Core.Option.{some}
-use Prim.Native.Nat.{ℕ, suc, _+_, _-_, _*_, _≤_, _<_}
+use Prim.Native.Nat.{ℕ, suc, _+_, _-_, _*_, _/_, _^_, _≤_, _<_}
 use native.Mathlib.Omega.{arith}
 use native.Mathlib.Nat.{mul-le-mul-right}
 use native.Mathlib.Decide.{ℕ-discrete}
 use lib.ListN.{length, getD, set, replicate, length-replicate, length-map}
+use lib.Pow.{pow-mono}
+use lib.Seq.{getD-set-same}
+use borrow.Author.Tests.{eqb-true}
+use Rattle.ground.proofs.Tests.{untrue}
 use Rattle.ground.specs.Lists.{byte}
 use Rattle.ground.proofs.Sides.{side}
 use Rattle.ground.proofs.Tables.{length-tab}
@@ -15,27 +20,34 @@ use Rattle.page.specs.Page.{Slotted, BucketPage, depth, count, code, place, row
 use Rattle.page.specs.Steps.{Removed}
 use Rattle.page.proofs.Sums.{len-of-code}
 use Rattle.partition.specs.Bits.{top}
-use Rattle.partition.specs.Partition.{Row, need, needs, rowsOf, IsBucket, Reordered}
-use Rattle.partition.specs.Listing.{without, placeOf, Once}
-use Rattle.partition.proofs.Bits.{top-step}
+use Rattle.partition.specs.Partition.{Row, need, needs, rowsOf, IsBucket, first, after as after-last, Reordered}
+use Rattle.partition.proofs.Directory.{holds-range, entry-hash, entries-size, run-within}
+use Rattle.partition.proofs.Sizes.{twelve}
+use Rattle.partition.proofs.Sum.{prefix-row}
+use Rattle.partition.proofs.Tree.{pfx}
+use Rattle.partition.specs.Listing.{without, inOrder, placeOf, Once}
+use Rattle.partition.proofs.Bits.{top-step, top-lt}
 use Rattle.partition.proofs.Laws.{Shallowest, share-fewer, bucket-shallowest}
 use Rattle.partition.proofs.Maps.{cut, cut-none, cut-front, cut-length, cut-same, cut-gone, once-remove}
 use Rattle.partition.proofs.Path.{fit-above}
-use Rattle.partition.proofs.Reorders.{needs-same, rows-same}
+use Rattle.partition.proofs.Reorders.{needs-same, rows-same, mem-reordered}
 use Rattle.partition.proofs.Rising.{tab-in, tab-member, without-member, without-map}
 use Rattle.partition.proofs.Rows.{load, load-mono, rows-on, some-need}
-use Rattle.partition.proofs.Sorted.{by-code, order-same, some-none, some-once}
+use Rattle.partition.proofs.Sorted.{by-code, order-same, in-order-reordered, some-none, some-once}
 use Rattle.partition.specs.declared.Shape.{Shape}
-use Rattle.store.specs.Pages.{size, pages, Page, free, bucket, page, contents, asRow, rowsHeld, deepestIn, setPage}
-use Rattle.store.specs.Accepted.{Bucket, Stands, unused, used}
+use Rattle.store.specs.Pages.{size, pages, Page, free, bucket, page, read, entryAt, dirDepth, contents, asRow, rowsHeld, deepestIn, setPage}
+use Rattle.store.specs.Accepted.{Bucket, Stands, unused, used, Calls}
+use Rattle.words.proofs.Bytes.{le32-same}
 use Rattle.store.specs.Moves.{pick, find, holds, within, packFrom, packed, clearedOn, removed}
 use Rattle.store.specs.Tables.{Becomes}
 use Rattle.store.specs.Demands.{Sized, Hash}
 use Rattle.store.proofs.Accepted.Rules.{opened}
 use Rattle.store.proofs.Showing.Shows.{firstCode, prefixOn, Holding, Shows}
-use Rattle.store.proofs.Showing.Shown.{within-on, within-pages, find-least}
-use Rattle.store.proofs.Accepted.Unique.{read-used, held, page-long}
-use Rattle.store.proofs.Showing.Showing.{first-of, first-code, accepted-shows}
+use Rattle.store.proofs.Showing.Shown.{within-on, within-pages, find-least, find-passes}
+use Rattle.store.proofs.Accepted.Named.{calls-hash}
+use Rattle.store.proofs.Accepted.Unique.{read-zero, read-used, held, page-long}
+use Rattle.store.proofs.Accepted.Owner.{entry-within}
+use Rattle.store.proofs.Showing.Showing.{first-of, first-code, calls-top, accepted-shows, pages-held}
 use Rattle.store.proofs.Showing.Known.{Known, only-page}
 use Rattle.store.proofs.Showing.Holder as Holder
 use Rattle.store.proofs.Showing.Rooms.{bucket-one}
@@ -45,12 +57,16 @@ use Rattle.store.proofs.Showing.Within.{one-depth, rows-within}
 use Rattle.store.proofs.Accepted.Accepting.{Laid, accepted-laid, laid-becomes}
 use Rattle.store.proofs.Paging.PageTies.{row-in, zeros, read-cleared, page-once, found-at, removed-rows}
 use Rattle.store.proofs.Paging.Views.{set-long, set-same, set-other, set-below, set-contents}
-use Rattle.directory.specs.Directory.{Directed, SoundPage, free as vacant, used as occupied, Rewritten}
-use Rattle.removal.specs.Prefix.{Climbed}
-use Rattle.removal.specs.Join.{othersIn, Joinable, Rejoined}
+use Rattle.directory.specs.Directory.{CallsFor, names, PrefixNamed, Directed, SoundPage, free as vacant, used as occupied, Rewritten}
+use Rattle.directory.proofs.Directories.{calls-same}
+use Rattle.directory.proofs.Laying.{on-page}
+use Rattle.directory.proofs.Renews.{packed-bits, prefix-pages, prefix-holds, prefix-kept, renewed}
+use Rattle.removal.specs.Prefix.{NamedIn, Climbed}
+use Rattle.removal.specs.Join.{othersIn, RunNames, Joinable, joinedPages, Rejoined}
 use Rattle.removal.specs.Remove.{Leaving, rowsLeft, Fits}
 use Rattle.directory.proofs.OnePage.{laid-set}
 use Rattle.directory.proofs.Settles.{unwritten, settling, settled}
+use Rattle.removal.proofs.Prefixes.{within-used}
 use Rattle.removal.proofs.Gathers.{cut-append, cut-same as cut-key}
 
 module _ (S : Shape) (sized : Sized S) (h : List ℕ → ℕ) (hash : Hash h) (s : List ℕ) (p i : ℕ) (c : List ℕ) (L : Leaving S h s p i c) where
@@ -98,6 +114,14 @@ module _ (S : Shape) (sized : Sized S) (h : List ℕ → ℕ) (hash : Hash h) (s
 
   begins : prefixOn h k (rows g) ≡ top k x
   begins = subst₂ (λ d r. prefixOn h d r ≡ top d x) (same .0) (same .1) (its .begins)
+
+  -- it is not deeper than the directory
+  pub page-low : depth (page S s p) ≤ dirDepth s
+  page-low = go (opened S h s (L .accepted) .stands p (L .from) (L .to))
+    where
+      go : Stands S h s p → k ≤ dirDepth s
+      go (unused z _) = absurd (omega (arith, z 0, slotted .one))
+      go (used _ l _) = l
 
   -- a bucket page is not deeper than there can be
   pub page-shallow : SoundPage S (page S s p) → depth (page S s p) ≤ S .deepest
@@ -270,10 +294,35 @@ module _ (S : Shape) (sized : Sized S) (h : List ℕ → ℕ) (hash : Hash h) (s
         slotted .long i (L .slot),
       )
 
-      pub joinable : Joinable S h s (pages S s) j v c
-      joinable = record {
-        sound = settling S sized h hash s (L .accepted) s before;
-        bits = omega (arith, less, page-shallow (before .sound p (L .from) (L .to)));
+      -- a page of the prefix is named by an entry of the prefix's run
+      run-names : RunNames S h s (pages S s) j v (first (dirDepth s) (pfx j v)) (after-last (dirDepth s) (pfx j v))
+      run-names q from to e = go (opened S h s (L .accepted) .stands q from to)
+        where
+          go : Stands S h s q → NamedIn S s (first (dirDepth s) (pfx j v)) (after-last (dirDepth s) (pfx j v)) q
+          go (unused z _) = absurd (untrue (sym (ap (within h j v) (read-zero (page S s q) z)) ∙ e))
+          go (used b low f) =
+              let y : ℕ = h (code (page S s q) 0) in
+              let d : ℕ = dirDepth s in
+              let m = depth (page S s q) in
+              let t : top j y ≡ v = eqb-true (top j y) v (sym (within-used h j v (page S s q) (b .rules)) ∙ e) in
+              let r = holds-range d (top d y) (pfx j v) .0 (calls-top d j v y (omega (arith, less, page-low)) (top-lt x j (hash c)) t .bits) in
+              record {
+                entry = top d y;
+                from = r .0;
+                to = r .1;
+                names = f (top d y) (entry-within S h sized hash s (opened S h s (L .accepted) .page0 .depth) y (hash (code (page S s q) 0))) .1
+                    (calls-top d m (top m y) y low (top-lt y m (hash (code (page S s q) 0))) refl);
+              }
+
+      pub joinable : (from to : ℕ) → from ≡ first (dirDepth s) (pfx j v) → to ≡ after-last (dirDepth s) (pfx j v) → to ≤ 2 ^ dirDepth s → Joinable S h s (pages S s) j v from to c
+      joinable from to e f l = record {
+        prefix = record {
+          sized = sized;
+          sound = settling S sized h hash s (L .accepted) s before;
+          bits = omega (arith, less, page-shallow (before .sound p (L .from) (L .to)));
+          entries = let m : 2 ^ dirDepth s ≤ 2 ^ S .deepest = pow-mono (opened S h s (L .accepted) .page0 .depth) in omega (arith, l, sized .deep);
+          named = subst₂ (RunNames S h s (pages S s) j v) (sym e) (sym f) run-names;
+        };
         housed = record { once = once; fit = omega (arith, needs-same others-left, F .fit) };
         some = omega (arith, needs-same others-left, positive);
         there = omega (arith, find-least (within h j v) gs (p - 2) inside (ap (within h j v) holding ∙ within-on h j v k (rows g) (shows .page (p - 2) k (rows g) holding .some) .1 (share-fewer (h (firstCode (rows g))) x j k (omega arith) begins)), inside);
@@ -285,12 +334,139 @@ module _ (S : Shape) (sized : Sized S) (h : List ℕ → ℕ) (hash : Hash h) (s
           before : Rewritten S s s
           before = unwritten S sized h hash s (L .accepted)
 
-      module _ {t : List ℕ} (R : Rejoined S h s (pages S s) j v c t) where
+      -- a page of the prefix is no shallower, and what it calls for the prefix calls for
+      module _ (q : ℕ) (from : 2 ≤ q) (to : q < pages S s) (is : within h j v (read (page S s q)) ≡ true) where
+        abbrev d : ℕ
+        d = dirDepth s
+
+        abbrev y : ℕ
+        y = h (code (page S s q) 0)
+
+        abbrev m : ℕ
+        m = depth (page S s q)
+
+        bucket-of : Bucket h (page S s q) × (m ≤ d)
+        bucket-of = go (opened S h s (L .accepted) .stands q from to)
+          where
+            go : Stands S h s q → Bucket h (page S s q) × (m ≤ d)
+            go (unused z _) = absurd (untrue (sym (ap (within h j v) (read-zero (page S s q) z)) ∙ is))
+            go (used b low _) = (b, low)
+
+        its-bits : top j y ≡ v
+        its-bits = eqb-true (top j y) v (sym (within-used h j v (page S s q) (bucket-of .0 .rules)) ∙ is)
+
+        its-deep : j ≤ m
+        its-deep = ⊎-elim
+            (λ l. one-depth S h rs x j k its-bucket (omega arith) m
+            (subst (IsBucket S h rs m) (first-code h (page S s q) (bucket-of .0 .rules) ∙ share-fewer y x m j (omega arith) its-bits)
+            (shows .page (q - 2) m (rows (page S s q)) (held S s q from to ∙ read-used (page S s q) (bucket-of .0 .rules)) .is)))
+            (λ l. l)
+            (side m j)
+
+        calls-prefix : (i : ℕ) → CallsFor S h s d i q → Calls d j v i
+        calls-prefix i w =
+            let e : ℕ = i * 2 ^ (32 - d) in
+            let small : d ≤ 32 = omega (arith, opened S h s (L .accepted) .page0 .depth, twelve S sized) in
+            let t : top m e ≡ top m y = calls-hash d m (top m y) i small (bucket-of .1) (w .calls) in
+            subst (Calls d j v) (entry-hash d i small) (calls-top d j v e (omega (arith, less, page-low)) (top-lt x j (hash c)) (share-fewer e y j m its-deep t ∙ its-bits))
+
+      module _ {t : List ℕ} {low : ℕ} (R : Rejoined S h s (pages S s) j v c low t) where
         pub join-written : Rewritten S s t
-        join-written = record { long = R .long; low = R .low; sound = R .sound }
+        join-written = record { long = R .long; low = λ i l. R .start i (omega arith); sound = R .sound }
 
         pub join-holds : contents S t ≡ removed S h gs c
         unfolding packed
         join-holds =
             R .holds ∙ ap (λ l. set (map (λ y. pick (within h j v y) free y) gs) (find (within h j v) gs) (bucket j (packFrom 8 l))) (order-same others-left once)
             ∙ sym (Cases.removed-joins S h rs gs c old shows (L .known) hash j shallow positive (λ e. omega (arith, e, same .0)))
+
+        run-end : after-last (dirDepth s) (pfx j v) ≤ 2 ^ dirDepth s
+        unfolding first
+        run-end = omega (arith, entries-size (dirDepth s) (pfx j v), run-within x j (dirDepth s) (hash c) (omega (arith, less, page-low)))
+
+        -- the page that the rows are on: of the prefix before, and its bucket then
+        inside-low : find (within h j v) gs < length gs
+        inside-low = joinable (first (dirDepth s) (pfx j v)) (after-last (dirDepth s) (pfx j v)) refl refl run-end .there
+
+        pub low-from : 2 ≤ low
+        low-from = omega (arith, R .lowest)
+
+        pub low-to : low < pages S s
+        low-to = omega (arith, R .lowest, inside-low, pages-held S s)
+
+        low-of : within h j v (read (page S s low)) ≡ true
+        low-of =
+            let e : low - 2 ≡ find (within h j v) gs = omega (arith, R .lowest) in
+            ap (within h j v) (sym (held S s low low-from low-to) ∙ ap (λ n. getD gs n free) e) ∙ find-passes (within h j v) gs inside-low
+
+        now-low : BucketPage (page S t low) × (depth (page S t low) ≡ j) × (rows (page S t low) ≡ packFrom 8 (inOrder (othersIn h j v c gs))) × (j ≤ S .deepest)
+        now-low =
+            let e : low - 2 + 2 ≡ low = omega (arith, low-from) in
+            let i : low - 2 ≡ find (within h j v) gs = omega (arith, R .lowest) in
+            subst (λ q. BucketPage (page S t q) × (depth (page S t q) ≡ j) × (rows (page S t q) ≡ packFrom 8 (inOrder (othersIn h j v c gs))) × (j ≤ S .deepest)) e
+            (on-page S t (pages S s) (settling S sized h hash s (L .accepted) t join-written) (low - 2) j (packFrom 8 (inOrder (othersIn h j v c gs)))
+            (ap (λ l. getD l (low - 2) free) (R .holds) ∙ ap (λ n. getD (joinedPages h j v c gs) n free) i
+            ∙ getD-set-same (map (λ y. pick (within h j v y) free y) gs) (find (within h j v) gs) (bucket j (packFrom 8 (inOrder (othersIn h j v c gs)))) free (omega (arith, inside-low, length-map gs (λ y. pick (within h j v y) free y))))
+            (omega (arith, low-to, e)))
+
+        low-bits : top j (h (code (page S t low) 0)) ≡ v
+        low-bits =
+            let l : List Row = inOrder (othersIn h j v c gs) in
+            let some : 0 < length (packFrom 8 l) = omega (arith, ap length (now-low .2), length-tab (rowAt (page S t low)) (count (page S t low)), now-low .0 .some) in
+            sym (subst (λ n. top n (h (firstCode (rows (page S t low)))) ≡ top n (h (code (page S t low) 0))) (now-low .1) (first-code h (page S t low) (now-low .0)))
+            ∙ ap (λ z. top j (h (firstCode z))) (now-low .2)
+            ∙ packed-bits h j v l (λ r w. prefix-row h (rowsLeft S s c) j v r (mem-reordered others-left (mem-reordered (in-order-reordered (othersIn h j v c gs)) w)) .1) some
+
+        -- and its entries named
+        module _ {u : List ℕ} (N : PrefixNamed S t (dirDepth s) j v low u) where
+          pub join-kept : Rewritten S s u
+          join-kept =
+              let K = prefix-kept S t u (dirDepth s) j v low N (record { long = refl; low = λ i l. refl; sound = λ q a b. R .sound q a (omega (arith, b, same-pages)) }) in
+              record { long = K .long ∙ R .long; low = λ i l. K .low i l ∙ R .start i (omega arith); sound = λ q a b. K .sound q a (omega (arith, b, same-pages)) }
+            where
+              same-pages : pages S t ≡ pages S s
+              same-pages = ap (λ n. n / size S) (R .long)
+
+          pub join-then : contents S u ≡ removed S h gs c
+          join-then = prefix-holds S t u (dirDepth s) j v low N ∙ join-holds
+
+          unmoved : (q : ℕ) → 2 ≤ q → q < pages S s → page S u q ≡ page S t q
+          unmoved q a b = prefix-pages S t u (dirDepth s) j v low N q a (subst (λ n. q < n / size S) (sym (R .long)) b)
+
+          low-calls : (i : ℕ) → CallsFor S h u (dirDepth s) i low → Calls (dirDepth s) j v i
+          low-calls i w =
+              let w₁ = calls-same S h t u (dirDepth s) i low (unmoved low low-from low-to) w in
+              subst (λ z. Calls (dirDepth s) j z i) low-bits (subst (λ n. Calls (dirDepth s) n (top n (h (code (page S t low) 0))) i) (now-low .1) (w₁ .calls))
+
+          calls-low : (i : ℕ) → Calls (dirDepth s) j v i → CallsFor S h u (dirDepth s) i low
+          calls-low i w = calls-same S h u t (dirDepth s) i low (sym (unmoved low low-from low-to)) (record {
+            used = now-low .0 .rules .one;
+            calls = subst (λ n. Calls (dirDepth s) n (top n (h (code (page S t low) 0))) i) (sym (now-low .1)) (subst (λ z. Calls (dirDepth s) j z i) (sym low-bits) w);
+          })
+
+          renewed-pages : (q : ℕ) → 2 ≤ q → q < pages S s
+              → (page S u q ≡ page S s q) ⊎ (((i : ℕ) → CallsFor S h s (dirDepth s) i q → Calls (dirDepth s) j v i) × ((i : ℕ) → CallsFor S h u (dirDepth s) i q → Calls (dirDepth s) j v i))
+          renewed-pages q a b = go (ℕ-discrete q low) (within h j v (read (page S s q))) refl
+            where
+              go : Dec (q ≡ low) → (z : Bool) → within h j v (read (page S s q)) ≡ z
+                  → (page S u q ≡ page S s q) ⊎ (((i : ℕ) → CallsFor S h s (dirDepth s) i q → Calls (dirDepth s) j v i) × ((i : ℕ) → CallsFor S h u (dirDepth s) i q → Calls (dirDepth s) j v i))
+              go (yes e) z f = inr (
+                (λ i w. calls-prefix low low-from low-to low-of i (subst (CallsFor S h s (dirDepth s) i) e w)),
+                (λ i w. low-calls i (subst (CallsFor S h u (dirDepth s) i) e w)),
+              )
+              go (no n) true f = inr (
+                (λ i w. calls-prefix q a b f i w),
+                (λ i w. let g : page S u q ≡ replicate (size S) 0 = unmoved q a b ∙ R .rest q a b n ∙ ap (λ z. pick z (replicate (size S) 0) (page S s q)) f in
+                    absurd (omega (arith, w .used, ap (λ l. byte l 0) g, zeros (size S) 0))),
+              )
+              go (no n) false f = inl (unmoved q a b ∙ R .rest q a b n ∙ ap (λ z. pick z (replicate (size S) 0) (page S s q)) f)
+
+          entry-before : (i : ℕ) → i < S .entries → entryAt S t i ≡ entryAt S s i
+          entry-before i l = le32-same s t (size S + 4 * i) (λ n b. R .start (size S + 4 * i + n) (omega (arith, sized .whole)))
+
+          pub join-directed : Directed S h u (dirDepth s) (pages S s) u
+          join-directed = renewed S sized h s (L .accepted) j v u join-kept (record {
+            pages = renewed-pages;
+            others = λ i l n. ⊎-elim (λ w. absurd (n (w .0))) (λ w. w .1 ∙ entry-before i l) (N .entry i l);
+            own = λ i l w. ⊎-elim (λ o. rw (o .1) (names low-from low-to (calls-low i w))) (λ o. absurd (o .0 w)) (N .entry i l);
+          })

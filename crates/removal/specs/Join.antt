@@ -1,6 +1,6 @@
 -- Rows gathered on a page of their own, and the pages of a prefix joined. Over any page size. Assumes nothing.
 use mathlib.Core.Path.{_≡_}
-use mathlib.Core.Bool.{Bool}
+use mathlib.Core.Bool.{Bool, true}
 use mathlib.Core.List.{List, [], _∷_, _++_, map}
 use Prim.Native.Nat.{ℕ, _+_, _*_, _≤_, _<_}
 use lib.ListN.{length, set, replicate}
@@ -14,6 +14,7 @@ use Rattle.store.specs.Pages.{size, Page, free, bucket, page, read, contents, a
 use Rattle.store.specs.Moves.{pick, find, within, packFrom}
 use Rattle.store.specs.Demands.{Sized}
 use Rattle.directory.specs.Directory.{SoundPage, Settling}
+use Rattle.removal.specs.Prefix.{NamedIn}
 
 -- ---- rows on a page
 
@@ -76,11 +77,17 @@ othersIn h j v c gs = others c (rowsIn (map (λ g. pick (within h j v g) g free)
 
 -- ---- the pages of a prefix
 
--- a store of n sound pages, and a prefix of as many bits as a bucket can have
-pub record Prefixed (S : Shape) (s : List ℕ) (n j : ℕ) : Type 0 where
+-- each of n pages that is of the prefix v of j bits is named by an entry from a up to b
+abbrev pub RunNames : Shape → (List ℕ → ℕ) → List ℕ → ℕ → ℕ → ℕ → ℕ → ℕ → Type 0
+RunNames S h s n j v a b = (p : ℕ) → 2 ≤ p → p < n → within h j v (read (page S s p)) ≡ true → NamedIn S s a b p
+
+-- a store of n sound pages, and a prefix of as many bits as a bucket can have, with its run of entries
+pub record Prefixed (S : Shape) (h : List ℕ → ℕ) (s : List ℕ) (n j v a b : ℕ) : Type 0 where
   pub sized : Sized S
   pub sound : Settling S s n
   pub bits : j ≤ S .deepest
+  pub entries : b ≤ S .entries
+  pub named : RunNames S h s n j v a b
 
 -- page p of the store is of the prefix
 abbrev pub isOf : Shape → (List ℕ → ℕ) → ℕ → ℕ → List ℕ → ℕ → Bool
@@ -103,9 +110,8 @@ pub record Scratch (S : Shape) (p : List ℕ) : Type 0 where
   pub blank : p ≡ replicate (size S) 0
 
 -- rows of another code than c to join, and a page of the prefix to hold them
-pub record Joinable (S : Shape) (h : List ℕ → ℕ) (s : List ℕ) (n j v : ℕ) (c : List ℕ) : Type 0 where
-  pub sound : Settling S s n
-  pub bits : j ≤ S .deepest
+pub record Joinable (S : Shape) (h : List ℕ → ℕ) (s : List ℕ) (n j v a b : ℕ) (c : List ℕ) : Type 0 where
+  pub prefix : Prefixed S h s n j v a b
   pub housed : Housed (size S) (othersIn h j v c (contents S s))
   pub some : 0 < needs (othersIn h j v c (contents S s))
   pub there : find (within h j v) (contents S s) < length (contents S s)
@@ -114,9 +120,11 @@ pub record Joinable (S : Shape) (h : List ℕ → ℕ) (s : List ℕ) (n j v : �
 abbrev pub joinedPages : (List ℕ → ℕ) → ℕ → ℕ → List ℕ → List Page → List Page
 joinedPages h j v c gs = set (map (λ g. pick (within h j v g) free g) gs) (find (within h j v) gs) (bucket j (packFrom 8 (inOrder (othersIn h j v c gs))))
 
--- t is s with its pages so
-pub record Rejoined (S : Shape) (h : List ℕ → ℕ) (s : List ℕ) (n j v : ℕ) (c t : List ℕ) : Type 0 where
+-- t is s with its pages so, and low is the lowest-numbered page of the prefix
+pub record Rejoined (S : Shape) (h : List ℕ → ℕ) (s : List ℕ) (n j v : ℕ) (c : List ℕ) (low : ℕ) (t : List ℕ) : Type 0 where
   pub long : length t ≡ length s
-  pub low : (k : ℕ) → k < 2 * size S → byte t k ≡ byte s k
+  pub start : (k : ℕ) → k < 2 * size S → byte t k ≡ byte s k
   pub sound : (p : ℕ) → 2 ≤ p → p < n → SoundPage S (page S t p)
   pub holds : contents S t ≡ joinedPages h j v c (contents S s)
+  pub lowest : low ≡ 2 + find (within h j v) (contents S s)
+  pub rest : (q : ℕ) → 2 ≤ q → q < n → (q ≡ low → ⊥) → page S t q ≡ pick (isOf S h j v s q) (replicate (size S) 0) (page S s q)

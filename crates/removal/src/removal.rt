@@ -1,18 +1,23 @@
-// A row taken out of an accepted store. Over any page shape; the public call takes pages of 1,024 bytes.
+// A row taken out of a store.
 ghost use mathlib.Core.Path.{_≡_};
 ghost use Rattle.ground.specs.Ladder.{Answers};
 ghost use Rattle.hash.specs.Fnv.{fnv};
-ghost use Rattle.store.specs.Pages.{S1024, contents};
+ghost use Rattle.partition.specs.Sizes.{shapeOf};
+ghost use Rattle.store.specs.Pages.{contents};
 ghost use Rattle.store.specs.Accepted.{Accepted};
+ghost use Rattle.store.specs.Demands.{Sized};
 ghost use Rattle.store.specs.Moves.{removed};
 ghost use Rattle.store.specs.Tables.{Becomes, removeAccepted, removeTable, meaning};
 ghost use Rattle.removal.specs.Join.{Scratch};
 ghost use Rattle.removal.specs.Remove.{Leaving};
 use super::join::join;
 use super::prefix::climb;
+use directory::name_prefix;
 use directory::settle;
+use directory::settle_depth;
 use partition::Shape;
 use query::Spot;
+use store_check::Length;
 
 // The row of the code, which is that of slot i of page p, goes: its page loses the record, is cleared, or is joined with others.
 fn take_out(s: &mut [u8], z: Shape, p: usize, i: usize, key: &[u8], scratch: &mut [u8])
@@ -28,8 +33,21 @@ fn take_out(s: &mut [u8], z: Shape, p: usize, i: usize, key: &[u8], scratch: &mu
     let x = hash::hash(key);
     let j = climb(s, z, x, k, 12 + key.len());
     if j < k {
-        join(s, z, n, j, partition::top_bits(x, j), key, scratch);
-        settle(s, z, n);
+        let d = words::get32(s, 16);
+        let run = partition::run_of(x, j, d as u32);
+        let low = join(
+            s,
+            z,
+            n,
+            j,
+            partition::top_bits(x, j),
+            run.from,
+            run.to,
+            key,
+            scratch,
+        );
+        name_prefix(s, z, x, j, d as u32, low);
+        settle_depth(s, z, n, d);
         return;
     }
     if words::get16(&s[a..e], 2) == 1 {
@@ -59,20 +77,33 @@ pub fn remove_row(s: &mut [u8], z: Shape, key: &[u8], scratch: &mut [u8]) -> sto
     }
 }
 
-// The row of a code goes; its place. Pages of 1,024 bytes.
-pub fn remove(s: &mut [u8], key: &[u8]) -> store::Answer
-    ensures { λ r. ⌜ Answers (removeTable S1024 fnv (now (s .entry)) (now (key .entry))) (meaning r, now (s .exit)) ⌝ }
+// The same with a page lent: of 1,024 bytes where the pages are no longer, so that these pay for no more, else of the largest size.
+pub fn remove_lent(s: &mut [u8], z: Shape, key: &[u8]) -> store::Answer
+    requires { ⌜ Sized z × Accepted z fnv (now s) ⌝ }
+    ensures { λ r. ⌜ Answers (removeAccepted z fnv (now (s .entry)) (now (key .entry))) (meaning r, now (s .exit)) ⌝ }
 {
-    if !store_check::good_length(s, partition::S1024) {
-        return store::Answer::Refused(store::Refusal::BadLength);
+    let size = 8 + z.capacity;
+    if size <= 1024 {
+        let mut scratch = [0u8; 1024];
+        return remove_row(s, z, key, &mut scratch[0..size]);
     }
+    let mut scratch = [0u8; 16384];
+    remove_row(s, z, key, &mut scratch[0..size])
+}
+
+// The row of a code goes; its place.
+pub fn remove(s: &mut [u8], key: &[u8]) -> store::Answer
+    ensures { λ r. ⌜ Answers (removeTable (shapeOf (now (s .entry))) fnv (now (s .entry)) (now (key .entry))) (meaning r, now (s .exit)) ⌝ }
+{
+    let Length::Of(z) = store_check::said_shape(s) else {
+        return store::Answer::Refused(store::Refusal::BadLength);
+    };
     if !store::good_code(key) {
         return store::Answer::Refused(store::Refusal::BadCode);
     }
-    let p = store_check::first_bad(s);
-    if p < s.len() / 1024 {
+    let p = store_check::first_bad(s, z);
+    if p < s.len() / (8 + z.capacity) {
         return store::Answer::Refused(store::Refusal::BadPage(p));
     }
-    let mut scratch = [0u8; 1024];
-    remove_row(s, partition::S1024, key, &mut scratch)
+    remove_lent(s, z, key)
 }

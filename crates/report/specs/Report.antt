@@ -23,9 +23,9 @@ use Rattle.report.specs.declared.Outcome.the-variants.{Refused, BadSheet
 
 -- ---- the sheet
 
--- at most 20,000 rows
+-- The report's sheet may have 200,000 rows.
 abbrev pub limit : ℕ
-limit = 20000
+limit = 200000
 
 -- amounts from -1,000,000,000,000 to 1,000,000,000,000
 abbrev pub highest : ℤ

@@ -5,9 +5,10 @@ ghost use lib.ListN.{length, replicate};
 ghost use Rattle.ground.specs.Ladder.{Answers};
 ghost use Rattle.hash.specs.Fnv.{fnv};
 ghost use Rattle.partition.specs.Listing.{listing};
+ghost use Rattle.partition.specs.Sizes.{shapeOf};
 ghost use Rattle.store.specs.Accepted.{Accepted};
 ghost use Rattle.store.specs.Demands.{Sized};
-ghost use Rattle.store.specs.Pages.{S1024, rowsHeld};
+ghost use Rattle.store.specs.Pages.{rowsHeld};
 ghost use Rattle.report.specs.Report.{limit, reported};
 ghost use Rattle.report.specs.Numbers.{SoundSheet, Lowered, ToldBy, numbersTable};
 use super::tally::close;
@@ -19,6 +20,7 @@ use crate::Outcome;
 use crate::Sums;
 use partition::Shape;
 use store::Refusal;
+use store_check::Length;
 
 // The sum of k amounts, from their raised sum.
 fn lower(sum: u64, k: usize) -> i64
@@ -67,11 +69,11 @@ fn told_fresh(s: &[u8], z: Shape, ranks: &[u64], raised: &[u64]) -> Outcome
 // The report over a sheet's numbers: ranks from 0, raised amounts from the limit on, n rows.
 pub fn judge(s: &[u8], flat: &[u64], n: usize) -> Outcome
     requires { ⌜ length (now flat) ≡ 2 * limit ⌝ }
-    ensures { λ r. ⌜ Answers (numbersTable S1024 fnv (now (s .entry)) (now (flat .entry)) n) (reported r) ⌝ }
+    ensures { λ r. ⌜ Answers (numbersTable (shapeOf (now (s .entry))) fnv (now (s .entry)) (now (flat .entry)) n) (reported r) ⌝ }
 {
-    if !store_check::good_length(s, partition::S1024) {
+    let Length::Of(z) = store_check::said_shape(s) else {
         return Outcome::Refused(Refusal::BadLength);
-    }
+    };
     if LIMIT < n {
         return Outcome::BadSheet;
     }
@@ -80,9 +82,9 @@ pub fn judge(s: &[u8], flat: &[u64], n: usize) -> Outcome
     if !sound(ranks, raised) {
         return Outcome::BadSheet;
     }
-    let p = store_check::first_bad(s);
-    if p < s.len() / 1024 {
+    let p = store_check::first_bad(s, z);
+    if p < s.len() / (8 + z.capacity) {
         return Outcome::Refused(Refusal::BadPage(p));
     }
-    told_fresh(s, partition::S1024, ranks, raised)
+    told_fresh(s, z, ranks, raised)
 }

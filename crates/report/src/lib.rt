@@ -3,7 +3,7 @@ ghost use mathlib.Core.Path.{_≡_};
 ghost use lib.ListN.{length};
 ghost use Rattle.ground.specs.Ladder.{Answers};
 ghost use Rattle.hash.specs.Fnv.{fnv};
-ghost use Rattle.store.specs.Pages.{S1024};
+ghost use Rattle.partition.specs.Sizes.{shapeOf};
 ghost use Rattle.report.specs.Report.{reported, reportTable};
 ghost use Rattle.report.specs.Numbers.{spreadFrom};
 use page::Place;
@@ -15,7 +15,7 @@ mod rows;
 mod tally;
 
 // The most rows of a sheet.
-pub const LIMIT: usize = 20000;
+pub const LIMIT: usize = 200000;
 
 // A row of the sheet: the parts of a row place, and an amount in cents.
 #[repr(C)]
@@ -76,7 +76,7 @@ pub fn spread(sheet: &[SheetRow], flat: &mut [u64]) -> usize
 
 // The one call: the sums over the store's listing and the sheet.
 pub fn report(store: &[u8], sheet: &[SheetRow]) -> Outcome
-    ensures { λ r. ⌜ Answers (reportTable S1024 fnv (now (store .entry)) (now (sheet .entry))) (reported r) ⌝ }
+    ensures { λ r. ⌜ Answers (reportTable (shapeOf (now (store .entry))) fnv (now (store .entry)) (now (sheet .entry))) (reported r) ⌝ }
 {
     let mut flat = [0u64; 2 * LIMIT];
     let n = spread(sheet, &mut flat);

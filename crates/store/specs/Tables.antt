@@ -11,7 +11,7 @@ use Rattle.page.specs.Page.{depth}
 use Rattle.partition.specs.Bits.{top}
 use Rattle.partition.specs.declared.Shape.{Shape}
 use Rattle.partition.specs.Partition.{Row, needs, rowsOf, buckets}
-use Rattle.partition.specs.Sizes.{sizeNumber}
+use Rattle.partition.specs.Sizes.{sizeNumber, shapeFor}
 use Rattle.page.specs.declared.Place.{Place}
 use Rattle.page.specs.Places.{place, stored, Negative}
 use Rattle.store.specs.declared.Refusal.{Refusal}
@@ -118,6 +118,14 @@ unfoldable pub formatTable : Shape → List ℕ → Ladder (Out × List ℕ)
 formatTable S s =
     refuse (Refusal1 S s) (refused 1, s)
     (answer (formatted, blank S s))
+
+-- Allow page sizes 1,024, 4,096 and 16,384.
+abbrev pub PageSize : ℕ → Type 0
+PageSize n = (n ≡ 1024) ⊎ ((n ≡ 4096) ⊎ (n ≡ 16384))
+
+-- Format goes by the size it is given, 1 for another.
+unfoldable pub formatSized : ℕ → List ℕ → Ladder (Out × List ℕ)
+formatSized n s = refuse (PageSize n → ⊥) (refused 1, s) (formatTable (shapeFor n) s)
 
 -- answer; the store is lent for reading
 unfoldable pub checkTable : Shape → (List ℕ → ℕ) → List ℕ → Ladder Out

@@ -8,3 +8,4 @@ pub mod Heads
 pub mod Heaps
 pub mod Standing
 pub mod Parting
+pub mod Said

@@ -3,3 +3,4 @@ pub mod Heaps
 pub mod Directory
 pub mod Digest
 pub mod Begun
+pub mod Said

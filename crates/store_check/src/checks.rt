@@ -1,6 +1,8 @@
 // The check's passes, in document order.
+ghost use mathlib.Core.Path.{_≡_};
 ghost use Rattle.hash.specs.Fnv.{fnv};
-ghost use Rattle.store.specs.Pages.{S1024};
+ghost use Rattle.partition.specs.Partition.{S1024};
+ghost use Rattle.partition.specs.Sizes.{S4096, S16384, shapeOf};
 ghost use Rattle.store.specs.Accepted.{GoodLength};
 ghost use Rattle.store.specs.Demands.{Sized};
 ghost use Rattle.store_check.specs.First.{Judged};
@@ -51,10 +53,10 @@ fn judge(
     n
 }
 
-// The page at which the check of a store of 1,024-byte pages stops, or the number of pages.
-pub fn first_bad(s: &[u8]) -> usize
-    requires { ⌜ GoodLength S1024 (now s) ⌝ }
-    ensures { λ r. ⌜ Judged S1024 fnv (now (s .entry)) r ⌝ }
+// judge with tables for pages of 1,024 bytes.
+fn judge_1024(s: &[u8], z: Shape) -> usize
+    requires { ⌜ (z ≡ S1024) × GoodLength z (now s) ⌝ }
+    ensures { λ r. ⌜ Judged z fnv (now (s .entry)) r ⌝ }
 {
     let mut dir = [0u32; 256];
     let mut counts = [0u32; 258];
@@ -63,11 +65,67 @@ pub fn first_bad(s: &[u8]) -> usize
     let mut tab = [0u8; 1024];
     judge(
         s,
-        partition::S1024,
+        z,
         &mut dir,
         &mut counts,
         &mut hashes,
         &mut sums,
         &mut tab,
     )
+}
+
+// judge with tables for pages of 4,096 bytes.
+fn judge_4096(s: &[u8], z: Shape) -> usize
+    requires { ⌜ (z ≡ S4096) × GoodLength z (now s) ⌝ }
+    ensures { λ r. ⌜ Judged z fnv (now (s .entry)) r ⌝ }
+{
+    let mut dir = [0u32; 1024];
+    let mut counts = [0u32; 1026];
+    let mut hashes = [0u32; 1026];
+    let mut sums = [0u32; 1025];
+    let mut tab = [0u8; 4096];
+    judge(
+        s,
+        z,
+        &mut dir,
+        &mut counts,
+        &mut hashes,
+        &mut sums,
+        &mut tab,
+    )
+}
+
+// judge with tables for pages of 16,384 bytes.
+fn judge_16384(s: &[u8], z: Shape) -> usize
+    requires { ⌜ (z ≡ S16384) × GoodLength z (now s) ⌝ }
+    ensures { λ r. ⌜ Judged z fnv (now (s .entry)) r ⌝ }
+{
+    let mut dir = [0u32; 4096];
+    let mut counts = [0u32; 4098];
+    let mut hashes = [0u32; 4098];
+    let mut sums = [0u32; 4097];
+    let mut tab = [0u8; 16384];
+    judge(
+        s,
+        z,
+        &mut dir,
+        &mut counts,
+        &mut hashes,
+        &mut sums,
+        &mut tab,
+    )
+}
+
+// The page at which the check of a store stops, or its number of pages. A small store clears no table of a larger size.
+pub fn first_bad(s: &[u8], z: Shape) -> usize
+    requires { ⌜ (z ≡ shapeOf (now s)) × GoodLength z (now s) ⌝ }
+    ensures { λ r. ⌜ Judged z fnv (now (s .entry)) r ⌝ }
+{
+    if z.deepest == 8 {
+        return judge_1024(s, z);
+    }
+    if z.deepest == 10 {
+        return judge_4096(s, z);
+    }
+    judge_16384(s, z)
 }

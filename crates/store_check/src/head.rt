@@ -1,4 +1,4 @@
-// A store's length and its page 0.
+// A store's page size and length, and its page 0.
 ghost use mathlib.Core.Path.{_≡_};
 ghost use Prim.Native.Nat.{_≤_};
 ghost use lib.ListN.{length};
@@ -6,9 +6,12 @@ ghost use Rattle.ground.specs.Says.{Says};
 ghost use Rattle.store.specs.Pages.{size, pages};
 ghost use Rattle.store.specs.Accepted.{GoodLength, Page0};
 ghost use Rattle.store.specs.Demands.{Sized};
+ghost use Rattle.store_check.specs.Said.{SaidShape};
+use super::Length;
 use partition::Shape;
 
-pub fn good_length(s: &[u8], z: Shape) -> bool
+// Whether a store's length is right for a page size.
+fn good_length(s: &[u8], z: Shape) -> bool
     requires { ⌜ Sized z ⌝ }
     ensures { λ r. ⌜ Says r (GoodLength z (now (s .entry))) ⌝ }
 {
@@ -24,6 +27,20 @@ pub fn good_length(s: &[u8], z: Shape) -> bool
         return false;
     }
     true
+}
+
+// The page size that a store says, or its length is not right for it.
+pub fn said_shape(s: &[u8]) -> Length
+    ensures { λ r. ⌜ SaidShape (now (s .entry)) r ⌝ }
+{
+    if s.len() < 24 {
+        return Length::Bad;
+    }
+    let z = partition::shape_of(s);
+    if !good_length(s, z) {
+        return Length::Bad;
+    }
+    Length::Of(z)
 }
 
 pub fn page0_ok(s: &[u8], z: Shape, n: usize) -> bool

@@ -6,4 +6,11 @@ mod pages;
 mod parted;
 
 pub use checks::first_bad;
-pub use head::good_length;
+pub use head::said_shape;
+use partition::Shape;
+
+// A store's length: not right for the page size that the store says, or right for it.
+pub enum Length {
+    Bad,
+    Of(Shape),
+}

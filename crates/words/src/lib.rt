@@ -6,7 +6,7 @@ ghost use Rattle.ground.specs.Says.{Says};
 ghost use Rattle.words.specs.Le.{le16, le32};
 ghost use Rattle.words.specs.Codes.{Ordered};
 ghost use Rattle.words.specs.Moves.{Put16, Put32, Copied, MovedDown, Cleared, MovedUp};
-ghost use Rattle.words.specs.Zeros.{Zero};
+ghost use Rattle.words.specs.Zeros.{Zero, ZeroFrom};
 
 // A byte as a number of the width that the others have.
 pub fn wide(x: u8) -> usize
@@ -105,17 +105,46 @@ pub fn move_up(s: &mut [u8], a: usize, b: usize)
     }
 }
 
-// Whether every byte is zero. No way out before the end, so that it vectorises.
-pub fn all_zero(s: &[u8]) -> bool
-    ensures { λ r. ⌜ Says r (Zero (now (s .entry))) ⌝ }
+// Whether the 1,024 bytes from a on are zero. No way out before the end and a fixed number of turns, so that it vectorises without a rest.
+fn zero_block(s: &[u8], a: usize) -> bool
+    requires { ⌜ a + 1024 ≤ length (now s) ⌝ }
+    ensures { λ r. ⌜ Says r (ZeroFrom (now (s .entry)) a (a + 1024)) ⌝ }
 {
     let mut acc: u8 = 0;
     let mut i = 0;
+    while i < 1024 {
+        acc = acc | s[a + i];
+        i += 1;
+    }
+    acc == 0
+}
+
+// Whether the bytes from a on are zero.
+fn zero_rest(s: &[u8], a: usize) -> bool
+    requires { ⌜ a ≤ length (now s) ⌝ }
+    ensures { λ r. ⌜ Says r (ZeroFrom (now (s .entry)) a (length (now (s .entry)))) ⌝ }
+{
+    let mut acc: u8 = 0;
+    let mut i = a;
     while i < s.len() {
         acc = acc | s[i];
         i += 1;
     }
     acc == 0
+}
+
+// Whether every byte is zero: block by block, then the rest.
+pub fn all_zero(s: &[u8]) -> bool
+    ensures { λ r. ⌜ Says r (Zero (now (s .entry))) ⌝ }
+{
+    let mut a = 0;
+    while 1024 <= s.len() - a {
+        if !zero_block(s, a) {
+            return false;
+        }
+        a += 1024;
+    }
+    zero_rest(s, a)
 }
 
 pub enum Order {

@@ -7,7 +7,7 @@ use mir.Facts.{toZ-ofZ}
 use Rattle.ground.specs.Ladder.{Answers}
 use Rattle.hash.specs.Fnv.{fnv}
 use Rattle.page.specs.declared.Place.{Place}
-use Rattle.store.specs.Pages.{S1024}
+use Rattle.partition.specs.Sizes.{shapeOf}
 use Rattle.store.specs.Tables.{putTable, meaning}
 use Rattle.lots_c.proofs.lots_put.Statement.{statement}
 use Rattle.lots_c.proofs.lots_put.Tie as tie
@@ -33,7 +33,7 @@ returns c =
     } in
     record {
       out = meaning (p .result);
-      allowed = subst (λ q. Answers (putTable S1024 fnv (now (z .args .store)) (now (z .args .code)) q (z .args .mode)) (meaning (p .result), p .last .0)) e (p .ensures);
+      allowed = subst (λ q. Answers (putTable (shapeOf (now (z .args .store))) fnv (now (z .args .store)) (now (z .args .code)) q (z .args .mode)) (meaning (p .result), p .last .0)) e (p .ensures);
       is = c .word-of .ensures;
     }
 

@@ -36,7 +36,7 @@ use denote.Triple.Walked.{says, Stays, stay-none-slice, walkOf, goes-none-slice,
 use denote.Exit.{yes}
 use Rattle.ground.specs.Ladder.{Answers}
 use Rattle.hash.specs.Fnv.{fnv}
-use Rattle.store.specs.Pages.{S1024}
+use Rattle.partition.specs.Sizes.{shapeOf}
 use Rattle.report.specs.declared.SheetRow.{SheetRow}
 use Rattle.report.specs.declared.Outcome.{Outcome}
 use Rattle.report.specs.Report.{reported, reportTable}
@@ -104,12 +104,12 @@ module _ {M : Type 1} (𝓤 : URA M) (H : Heap 𝓤) (A : Atoms 𝓤) (W : Given
 
   -- what the callees say
   abbrev Settled : Outcome → Type 0
-  Settled o = Answers (reportTable S1024 fnv (st .now) (sh .now)) (reported o)
+  Settled o = Answers (reportTable (shapeOf (st .now)) fnv (st .now) (sh .now)) (reported o)
 
   abbrev Worded : Outcome → ReportAnswer → Type 0
   Worded o r = r ≡ reportWords (reported o)
 
-  exits : (r : ReportAnswer) (u : Val) → TellsReport (reportTable S1024 fnv (st .now) (sh .now)) r → ent 𝓤 (⋆ 𝓤 H A (‵ (A′ .own r (u ∷ [])) ∷ ‵ (flft κ₁ q₁) ∷ ‵ (flft κ₂ q₂) ∷ ‵ Store ∷ ‵ Sheet ∷ [])) (Post u)
+  exits : (r : ReportAnswer) (u : Val) → TellsReport (reportTable (shapeOf (st .now)) fnv (st .now) (sh .now)) r → ent 𝓤 (⋆ 𝓤 H A (‵ (A′ .own r (u ∷ [])) ∷ ‵ (flft κ₁ q₁) ∷ ‵ (flft κ₂ q₂) ∷ ‵ Store ∷ ‵ Sheet ∷ [])) (Post u)
   exits r u e =
       qed W (‵ (A′ .own r (u ∷ [])) ∷ ‵ (flft κ₁ q₁) ∷ ‵ (flft κ₂ q₂) ∷ ‵ Store ∷ ‵ Sheet ∷ []) ∵
       suffices ! _ (ends-at 𝓤 H A f.ended stayed (f.clauses 𝓤 H A mem run) W bound u r (tt, (tt, tt)) (tt, (tt, tt))) $ says ! e $

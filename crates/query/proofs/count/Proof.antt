@@ -1,49 +1,96 @@
 -- `query::count` meets its contract. Assumes nothing.
-use borrow.Author.Tests.{not-true, not-false}
+use borrow.Author.Needs.{needs}
+use denote.Ref.{now}
+use mathlib.Core.List.{List}
 use mathlib.Core.Logic.{inl, inr}
-use mathlib.Core.Path.{refl, ap}
+use mathlib.Core.Path.{_≡_, refl, ap, subst}
+use native.Mathlib.Nat.{div-add-mod'}
 use native.Mathlib.Omega.{arith}
-use Rattle.ground.proofs.Tests.{says-true, says-false}
+use lib.ListN.{length}
+use Prim.Native.Nat.{ℕ}
+use Rattle.ground.specs.Ladder.{Answers}
 use Rattle.hash.specs.Fnv.{fnv}
+use Rattle.partition.specs.declared.Shape.{Shape}
+use Rattle.partition.specs.Sizes.{size, shapeOf}
 use Rattle.store.proofs.Accepted.Rules.{accepted-whole}
-use Rattle.store.specs.Tables.{countTable, counted}
+use Rattle.store.specs.Tables.{countTable, counted, refusedAt}
 use Rattle.store.specs.Accepted.{GoodLength}
-use Rattle.store.specs.Demands.{sized-1024}
-use Rattle.store.specs.Pages.{S1024}
+use Rattle.store.specs.Demands.{Sized}
+use Rattle.store_check.specs.Said.{SaidShape}
+use Rattle.store_check.proofs.Said.{said-sized}
 use Rattle.query.proofs.count.Statement.{statement}
 use Rattle.query.proofs.count.Tie as tie
 
 -- past the length
-good : (c : tie.Else1) → GoodLength S1024 (c .before .before .before .args .s .now)
-good c = says-true {P = GoodLength S1024 (c .before .before .before .args .s .now)} (c .before .good-length .result) (not-false _ (c .if1 .left)) (c .before .good-length .ensures)
+module _ (c : tie.After-struct-known) where
+  abbrev store : List ℕ
+  store = now (c .before .before .before .before .before .before .args .s)
 
-good-length-requires : tie.Need-good-length-requires
-good-length-requires c κs = sized-1024
+  abbrev z : Shape
+  z = c .before .before .z .given .0 .0
+
+  said : (z ≡ shapeOf store) × GoodLength z store
+  said = subst (SaidShape store) (c .before .before .z .given .1) (c .before .before .before .before .said-shape .ensures)
+
+  sized : Sized z
+  sized = said-sized store z (said .0)
+
+said-shape-requires : tie.Need-said-shape-requires
+said-shape-requires c κs = search needs
+
+enum-known-z : tie.Need-enum-known-z
+enum-known-z c = search needs
+
+enum-told : tie.Need-enum-told
+enum-told c = search needs
 
 returns : tie.Need-returns
 unfolding countTable
-returns c = inl (tt, (says-false {P = GoodLength S1024 (c .before .before .before .args .s .now)} (c .before .good-length .result) (not-true _ (c .if1 .taken)) (c .before .good-length .ensures), refl))
+returns c = let f = c .before .before in
+    inl (tt, (subst (SaidShape (now (f .before .before .args .s))) (c .enum-told .given .1) (f .said-shape .ensures), refl))
+
+add-n : tie.Need-add-n
+add-n c = omega (arith, sized c .most)
+
+div-n : tie.Need-div-n
+div-n c = search needs
 
 first-bad-requires : tie.Need-first-bad-requires
-first-bad-requires c κs = good c
+first-bad-requires c κs = said c
 
 returns-2 : tie.Need-returns-2
 unfolding countTable
-returns-2 c = inr ((λ _ n. n (good (c .before .before))), inl (c .before .first-bad .result, (c .before .first-bad .ensures .bad (c .if2 .taken), refl)))
+returns-2 c =
+    let f = c .before in
+    let k = f .before in
+    subst (λ S. Answers (countTable S fnv (store k)) (refusedAt 2 (f .first-bad .result))) (said k .0)
+    (inr ((λ _ n. n (said k .1)), inl (f .first-bad .result, (f .first-bad .ensures .bad (c .if1 .taken), refl))))
 
 count-rows-requires : tie.Need-count-rows-requires
-count-rows-requires c κs = let g = good (c .before .before) in (omega (arith, g .whole), omega (arith, g .least), omega (arith, g .most))
+count-rows-requires c κs =
+    let k = c .before .before in
+    let g = said k .1 in
+    (omega (arith, div-add-mod' (length (store k)) (size (z k)), g .whole), omega (arith, g .least), omega (arith, g .most, sized k .whole, sized k .most))
 
 returns-3 : tie.Need-returns-3
 unfolding countTable
-returns-3 c = inr ((λ _ n. n (good (c .before .before .before))), (let a = c .before .before .first-bad .ensures .sound (c .before .if2 .left) in inr (accepted-whole S1024 fnv _ a, (a, ap counted (c .count-rows .ensures)))))
+returns-3 c =
+    let f = c .before .before in
+    let k = f .before in
+    let a = f .first-bad .ensures .sound (c .before .if1 .left) in
+    subst (λ S. Answers (countTable S fnv (store k)) (counted (c .count-rows .result))) (said k .0)
+    (inr ((λ _ n. n (said k .1)), inr (accepted-whole _ fnv _ a, (a, ap counted (c .count-rows .ensures)))))
 
 pub count-spec : {M : Type 1} → statement M
 count-spec =
     tie.close
     (tie.spec
-    good-length-requires
+    said-shape-requires
+    enum-known-z
+    enum-told
     returns
+    add-n
+    div-n
     first-bad-requires
     returns-2
     count-rows-requires

@@ -49,7 +49,7 @@ use denote.Exit.{yes}
 use Rattle.report.specs.declared.SheetRow.{SheetRow}
 use Rattle.ground.specs.Ladder.{Answers}
 use Rattle.hash.specs.Fnv.{fnv}
-use Rattle.store.specs.Pages.{S1024}
+use Rattle.partition.specs.Sizes.{shapeOf}
 use Rattle.report.specs.declared.Outcome.{Outcome}
 use Rattle.report.specs.Numbers.{spreadFrom, numbersTable}
 use Rattle.report.specs.Report.{reported, reportTable}
@@ -145,9 +145,9 @@ module _ {M : Type 1} (𝓤 : URA M) (H : Heap 𝓤) (A : Atoms 𝓤) (W : Given
 
   -- what the callee promises of the words
   abbrev Numbered : List ℕ → ℕ → Outcome → Type 0
-  Numbered ws m r = Answers (numbersTable S1024 fnv (ls .now) ws m) (reported r)
+  Numbered ws m r = Answers (numbersTable (shapeOf (ls .now)) fnv (ls .now) ws m) (reported r)
 
-  exits : (r : Outcome) (u : Val) → Answers (reportTable S1024 fnv (ls .now) (sh .now)) (reported r) → ent 𝓤 (⋆ 𝓤 H A (‵ (Q .own r (u ∷ [])) ∷ ‵ (flft κ₁ q₁) ∷ ‵ (flft κ₂ q₂) ∷ ‵ Store ∷ ‵ Sheet ∷ [])) (Post u)
+  exits : (r : Outcome) (u : Val) → Answers (reportTable (shapeOf (ls .now)) fnv (ls .now) (sh .now)) (reported r) → ent 𝓤 (⋆ 𝓤 H A (‵ (Q .own r (u ∷ [])) ∷ ‵ (flft κ₁ q₁) ∷ ‵ (flft κ₂ q₂) ∷ ‵ Store ∷ ‵ Sheet ∷ [])) (Post u)
   exits r u e =
       qed W (‵ (Q .own r (u ∷ [])) ∷ ‵ (flft κ₁ q₁) ∷ ‵ (flft κ₂ q₂) ∷ ‵ Store ∷ ‵ Sheet ∷ []) ∵
       suffices ! _ (ends-at 𝓤 H A f.ended stayed (f.clauses 𝓤 H A at-mem run) W bound u r (tt, (tt, tt)) (tt, (tt, tt))) $ says ! e $
@@ -170,7 +170,7 @@ module _ {M : Type 1} (𝓤 : URA M) (H : Heap 𝓤) (A : Atoms 𝓤) (W : Given
     abbrev to-judge : ℕ → GName → List ℕ → ℕ → Val → Judge 𝓤 H A at-mem run .Ghost
     to-judge β δ ws m v = (((κ₁, (β ∷ [], tt)), (q₁, (fullShare, tt)), tt, (ls, (x δ ws, (m, tt))), (v₁ ∷ [], (s ws ∷ [], (v ∷ [], tt)))), tt)
 
-    asks-judge : (β : ℕ) (δ : GName) (ws : List ℕ) (m : ℕ) (v : Val) → length ws ≡ 40000
+    asks-judge : (β : ℕ) (δ : GName) (ws : List ℕ) (m : ℕ) (v : Val) → length ws ≡ 400000
         → ent 𝓤 (onEntry 𝓤 H A judge.signature (κ₁, (β ∷ [], tt)) (q₁, (fullShare, tt)) (ls, (x δ ws, (m, tt))) (v₁ ∷ [], (s ws ∷ [], (v ∷ [], tt)))) (Judge 𝓤 H A at-mem run .pre (to-judge β δ ws m v))
     asks-judge β δ ws m v long = qed W ((‵ (flft κ₁ q₁) ⊛ ‵ (flft (β ∷ []) fullShare) ⊛ ‵ ftrue) ∷ ‵ (owns (ShrSlice (named 0) κ₁ u8 ∷ ShrSlice (named 1) (β ∷ []) u64 ∷ usize ∷ []) (ls, (x δ ws, (m, tt))) (v₁ ∷ [], (s ws ∷ [], (v ∷ [], tt)))) ∷ []) ∵ says ! long $ done !
 
@@ -178,20 +178,20 @@ module _ {M : Type 1} (𝓤 : URA M) (H : Heap 𝓤) (A : Atoms 𝓤) (W : Given
     judged β δ ws m r = exE 𝓤 _ (λ us. snd∗ 𝓤 (sem 𝓤 H A (lasts judge.ended (κ₁, (β ∷ [], tt)) (ls, (x δ ws, (m, tt))) us)) (fact 𝓤 (Numbered ws m r)))
 
   module _ (C : Calls 𝓤 H) (Λ : Loops 𝓤 H) (fm : FmC 𝓤 H (W .laws) C) (known-spread : Triple 𝓤 (C #report·spread) (Spread 𝓤 H A at-mem run)) (known-judge : Triple 𝓤 (C #report·judge) (Judge 𝓤 H A at-mem run)) where
-    walk : zeros ≡ replicate 40000 0 → length zeros ≡ 40000 → Room u8 (length (ls .now)) → Room R (length (sh .now))
+    walk : zeros ≡ replicate 400000 0 → length zeros ≡ 400000 → Room u8 (length (ls .now)) → Room R (length (sh .now))
         → ent 𝓤 (onEntry 𝓤 H A f.signature (κ₁, (κ₂, tt)) (q₁, (q₂, tt)) (ls, (sh, tt)) at) (WpFn 𝓤 H C Λ code.function (v₁ ∷ v₂ ∷ []) Post)
     walk are len gl gs =
         qed W ((‵ (flft κ₁ q₁) ⊛ ‵ (flft κ₂ q₂) ⊛ ‵ ftrue) ∷ ‵ (owns (ShrSlice (named 0) κ₁ u8 ∷ ShrSlice (named 1) κ₂ R ∷ []) (ls, (sh, tt)) at) ∷ []) ∵ enter ! C Λ code.function (v₁ ∷ v₂ ∷ []) _ $
         alloc1 ! (λ l₀. alloc1 ! (λ l₁. alloc1 ! (λ l₂. alloc1 ! (λ l₃. alloc1 ! (λ l₄. alloc1 ! (λ l₅. alloc1 ! (λ l₆. alloc1 ! (λ l₇. alloc1 ! (λ l₈. alloc0 ! $ params1 ! $
         pass1 ! (init ! 14 refl (tt, (tt, (record { fits = gl .0 }, tt)))) $ pass1 ! (init ! 12 refl (tt, (tt, (record { fits = gs .0 }, tt)))) $ pass0 ! $
         -- [_8; …; _7; …; _6; …; _5; …; _4; …; _3; …; _2; …; _1; …; room for _0; …; the tokens; what the parameters own]
-        nothing ! $ use1 W (‵ (Array u64 40000 .own (replicate 40000 0) (zero-val 𝓤 H A W 40000 ∷ []))) (zeros-own 𝓤 H A W 40000) $
-        peeks ! (Array u64 40000) (Is (Array u64 40000)) (shows 𝓤 H A (Array u64 40000)) (replicate 40000 0) (zero-val 𝓤 H A W 40000 ∷ []) (λ is₀. drop ! $
-        assigns ! (rep ! 40000 (lit ! tt)) (from ! (stop !)) (init ! 10 refl (array-lawful 𝓤 H A W u64 (uint-lawful 𝓤 H A W w64) 40000 .typed (replicate 40000 0) _ is₀ .0)) $
+        nothing ! $ use1 W (‵ (Array u64 400000 .own (replicate 400000 0) (zero-val 𝓤 H A W 400000 ∷ []))) (zeros-own 𝓤 H A W 400000) $
+        peeks ! (Array u64 400000) (Is (Array u64 400000)) (shows 𝓤 H A (Array u64 400000)) (replicate 400000 0) (zero-val 𝓤 H A W 400000 ∷ []) (λ is₀. drop ! $
+        assigns ! (rep ! 400000 (lit ! tt)) (from ! (stop !)) (init ! 10 refl (array-lawful 𝓤 H A W u64 (uint-lawful 𝓤 H A W w64) 400000 .typed (replicate 400000 0) _ is₀ .0)) $
         assigns ! (addr ! (from ! (stop !))) (from ! (stop !)) (init ! 6 refl (tt, tt)) $
         assigns ! (agg ! (and-then ! (load ! (from ! (stop !)) (look ! 6 refl)) (and-then ! (big-lit ! (record { fits = lit< tt })) (no-more !)))) (from ! (stop !)) (init ! 4 refl (tt, (tt, (record { fits = lit< tt }, tt)))) $
         rewrite ! 4 (λ (m : ℕ). ‵ (fat fullShare lent-mut l₆ 0 (sliceVal (l₃, 0) m))) (sym len) refl $
-        move ! (10 ∷ []) $ use1 W (‵ (cells (mem u64) (replicate 40000 0) l₃ 0)) (in-memory 𝓤 H A W 40000 l₃) $ rewrite ! 0 (λ (ws : List ℕ). ‵ (cells (mem u64) ws l₃ 0)) (sym are) refl $
+        move ! (10 ∷ []) $ use1 W (‵ (cells (mem u64) (replicate 400000 0) l₃ 0)) (in-memory 𝓤 H A W 400000 l₃) $ rewrite ! 0 (λ (ws : List ℕ). ‵ (cells (mem u64) ws l₃ 0)) (sym are) refl $
         -- a copy of each lent run, and the tokens apart
         move ! (19 ∷ []) $ fsplit ! $ use1 W (‵ Store ⊛ ‵ Store) (shr-slice-copy 𝓤 H A W (named 0) κ₁ u8 .twice ls (v₁ ∷ [])) $ split ! $
         move ! (2 ∷ []) $ fsplit ! $ use1 W (‵ Sheet ⊛ ‵ Sheet) (shr-slice-copy 𝓤 H A W (named 1) κ₂ R .twice sh (v₂ ∷ [])) $ split ! $
@@ -228,24 +228,24 @@ module _ {M : Type 1} (𝓤 : URA M) (H : Heap 𝓤) (A : Atoms 𝓤) (W : Given
         land ! (from ! (stop !)) (init ! 23 refl (EL.lawful S.the-type S′.the-laws 𝓤 H A W tt .typed r′ _ is′ .0)) $
         -- the lifetime ends, and the array's slot is the function's own again
         move ! (1 ∷ []) $ split ! $ move ! (1 ∷ []) $ split ! $ lft-end ! tt $ move ! (0 ∷ 4 ∷ []) $ lent-back ! tt $
-        rewrite ! 0 (λ (m : ℕ). ‵ (arr-parts (shares u64) m .part fullShare (zs .1 .0) l₃ 0)) (same ∙ len) refl $ use1 W (‵ (froom (tyArray word 40000) l₃ 0)) (to-room 𝓤 H A W 40000 (zs .1 .0) l₃) $
+        rewrite ! 0 (λ (m : ℕ). ‵ (arr-parts (shares u64) m .part fullShare (zs .1 .0) l₃ 0)) (same ∙ len) refl $ use1 W (‵ (froom (tyArray word 400000) l₃ 0)) (to-room 𝓤 H A W 400000 (zs .1 .0) l₃) $
         -- [room for _3; true; κ₁'s token; the result; κ₂'s token; true; true; the sheet; the store; _8; …; _7; …; _6; …; _5; …; _4; …; that _3 dies; _2; …; _1; …; _0; …]
         returns ! (look ! 24 refl) $ forget ! 9 refl $ forget ! 11 refl $ forget ! 13 refl $ forget ! 15 refl $ forget ! 17 refl $ forget ! 20 refl $ forget ! 22 refl $ forget ! 24 refl $
         move ! (24 ∷ 25 ∷ []) $ free1 ! $ move ! (22 ∷ 23 ∷ []) $ free1 ! $ move ! (20 ∷ 21 ∷ []) $ free1 ! $ move ! (0 ∷ 19 ∷ []) $ free1 ! $ move ! (16 ∷ 17 ∷ []) $ free1 ! $ move ! (14 ∷ 15 ∷ []) $ free1 ! $ move ! (12 ∷ 13 ∷ []) $ free1 ! $ move ! (10 ∷ 11 ∷ []) $ free1 ! $ move ! (8 ∷ 9 ∷ []) $ free1 ! $ free0 ! $
         keep ! (2 ∷ 1 ∷ 3 ∷ 7 ∷ 6 ∷ []) $ by ! (exits r′ w (told r (zs .1 .0) r′ e e₂))))))))))))))))))))))))))
       where
-        room : (ws : List ℕ) → length ws ≡ 40000 → Room u64 (length ws)
+        room : (ws : List ℕ) → length ws ≡ 400000 → Room u64 (length ws)
         room ws e = subst (Room u64) (sym e) (lit< tt, lit< tt)
 
-        told : (r : ℕ) (ws : List ℕ) (r′ : Outcome) → (r ≡ length (sh .now)) × (ws ≡ spreadFrom 0 (sh .now) zeros) → Numbered ws r r′ → Answers (reportTable S1024 fnv (ls .now) (sh .now)) (reported r′)
-        told r ws r′ e a = refines S1024 fnv (ls .now) (sh .now) (reported r′)
+        told : (r : ℕ) (ws : List ℕ) (r′ : Outcome) → (r ≡ length (sh .now)) × (ws ≡ spreadFrom 0 (sh .now) zeros) → Numbered ws r r′ → Answers (reportTable (shapeOf (ls .now)) fnv (ls .now) (sh .now)) (reported r′)
+        told r ws r′ e a = refines (shapeOf (ls .now)) fnv (ls .now) (sh .now) (reported r′)
             (subst (λ (zs : List ℕ). Numbered (spreadFrom 0 (sh .now) zs) (length (sh .now)) r′) are (subst (λ (vs : List ℕ). Numbered vs (length (sh .now)) r′) (e .1) (subst (λ (m : ℕ). Numbered ws m r′) (e .0) a)))
 
 module _ {M : Type 1} (𝓤 : URA M) (H : Heap 𝓤) (A : Atoms 𝓤) (W : Given 𝓤 H A) (mem : Memory → SProp 𝓤) (run : Routine → Fun 𝓤) where
   report-walks : (C : Calls 𝓤 H) (Λ : Loops 𝓤 H) → FmC 𝓤 H (W .laws) C → Triple 𝓤 (C #report·spread) (Spread 𝓤 H A mem run) → Triple 𝓤 (C #report·judge) (Judge 𝓤 H A mem run)
       → Walks 𝓤 H A f.ended stayed (WpFn 𝓤 H C Λ code.function) (f.clauses 𝓤 H A mem run)
   report-walks C Λ fm known-spread known-judge = walked 𝓤 H A f.ended stayed (f.clauses 𝓤 H A mem run) (WpFn 𝓤 H C Λ code.function) (λ κs. (slice-vals, (slice-vals, tt))) (λ κs. (shr-slice-tells (named 0) (κs .0) u8, (shr-slice-tells (named 1) (κs .1 .0) R, tt)))
-      (λ κs qs bounds a g are. via 𝓤 _ (fst∗ 𝓤 _ (emp 𝓤)) (walk 𝓤 H A W mem run (κs .0) (κs .1 .0) (qs .0) (qs .1 .0) (a .0) (a .1 .0) (replicate 40000 0) C Λ fm known-spread known-judge refl (length-replicate {A = ℕ} 40000 0) (are .0 .0 .1) (are .1 .0 .0 .1)))
+      (λ κs qs bounds a g are. via 𝓤 _ (fst∗ 𝓤 _ (emp 𝓤)) (walk 𝓤 H A W mem run (κs .0) (κs .1 .0) (qs .0) (qs .1 .0) (a .0) (a .1 .0) (replicate 400000 0) C Λ fm known-spread known-judge refl (length-replicate {A = ℕ} 400000 0) (are .0 .0 .1) (are .1 .0 .0 .1)))
 
 report-meets : {M : Type 1} (𝓤 : URA M) (H : Heap 𝓤) (A : Atoms 𝓤) (W : Given 𝓤 H A) (mem : Memory → SProp 𝓤) (run : Routine → Fun 𝓤) (𝓣 : Tables 𝓤 H) → Triple 𝓤 (𝓣 .C #report·spread) (Spread 𝓤 H A mem run) → Triple 𝓤 (𝓣 .C #report·judge) (Judge 𝓤 H A mem run)
     → Meets 𝓤 H A f.signature (WpFn 𝓤 H (𝓣 .C) (𝓣 .Λ) code.function) (f.spec 𝓤 H A mem run)

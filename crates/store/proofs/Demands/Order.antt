@@ -56,7 +56,7 @@ module _ (w : Faults) (o : Out) where
   late : {A : Type 0} {x y : Out} → o ≡ x → early (number x) ≡ false → o ≡ y → early (number y) ≡ true → A
   late e n f y = absurd (true≢false (sym y ∙ ap (λ q. early (number q)) (sym f ∙ e) ∙ n))
 
-  says-one : w .bad-length → o ≡ refused 1 → ExactlyWhen w o
+  pub says-one : w .bad-length → o ≡ refused 1 → ExactlyWhen w o
   says-one b e = record {
     one = ((λ _. b), (λ _. e));
     three = ((λ f. other e f refl), (λ x. absurd (x .0 b)));
@@ -124,7 +124,7 @@ module _ (w : Faults) (o : Out) where
                 there : (q : ℕ) → refusedAt 2 p ≡ refusedAt 2 q → w .bad-page q
                 there q f = let g : p ≡ q = cc in subst (λ r. w .bad-page r) g b
 
-            says-late : {x : Out} → ((p : ℕ) → w .bad-page p → ⊥) → o ≡ x → early (number x) ≡ false → ExactlyWhen w o
+            pub says-late : {x : Out} → ((p : ℕ) → w .bad-page p → ⊥) → o ≡ x → early (number x) ≡ false → ExactlyWhen w o
             says-late n2 e l = record {
               one = ((λ f. late e l f refl), (λ x. absurd (n1 x)));
               three = ((λ f. late e l f refl), (λ x. absurd (n3 (x .1))));

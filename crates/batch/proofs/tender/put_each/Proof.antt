@@ -5,7 +5,6 @@ use native.Mathlib.Omega.{arith}
 use lib.ListN.{length, drop, getD, take, set, length-set}
 use denote.Ref.{now}
 use Rattle.hash.specs.Fnv.{fnv}
-use Rattle.store.specs.Pages.{S1024}
 use Rattle.store.specs.Accepted.{Accepted}
 use mathlib.Core.List.{List}
 use Rattle.batch.specs.PlaceWords.{wordPlace}
@@ -16,12 +15,12 @@ use Rattle.batch.proofs.tender.put_each.Statement.{statement}
 use Rattle.batch.proofs.tender.put_each.Tie as tie
 
 abbrev Inv-loop : tie.InvT-loop
-Inv-loop s₀ codes lengths places answers₀ mode at₀ i₀ s answers at i =
-    (i ≤ length lengths) × (at + sum (drop i lengths) ≡ length codes) × (length answers ≡ length answers₀) × (length s ≡ length s₀) × Accepted S1024 fnv s
-    × Made-to S1024 fnv mode (wanted codes lengths places) s₀ (left-from codes lengths places at i) i answers s
+Inv-loop s₀ z₀ codes lengths places answers₀ mode at₀ i₀ s answers at i =
+    (i ≤ length lengths) × (at + sum (drop i lengths) ≡ length codes) × (length answers ≡ length answers₀) × (length s ≡ length s₀) × Accepted z₀ fnv s
+    × Made-to z₀ fnv mode (wanted codes lengths places) s₀ (left-from codes lengths places at i) i answers s
 
 abbrev μ-loop : tie.MeasureT-loop
-μ-loop s₀ codes lengths places answers₀ mode at₀ i₀ s answers at i = length lengths - i
+μ-loop s₀ z₀ codes lengths places answers₀ mode at₀ i₀ s answers at i = length lengths - i
 
 -- the code bytes and the answers of put i
 module _ (l : tie.At-loop Inv-loop μ-loop) where
@@ -32,7 +31,7 @@ module _ (l : tie.At-loop Inv-loop μ-loop) where
   more b = omega (arith, sum-from (now (z .args .lengths)) (l .loop .i) b, l .loop .inv .1)
 
   runs-on : l .loop .i < length (now (z .args .lengths)) → l .loop .i < length (l .loop .answers)
-  runs-on b = omega (arith, z .pre .2 .answers, l .loop .inv .2)
+  runs-on b = omega (arith, z .pre .1 .answers, l .loop .inv .2)
 
 -- put i, which is made
 module _ (l : tie.At-loop Inv-loop μ-loop) (b : l .loop .i < length (now (z l .args .lengths))) where
@@ -51,27 +50,27 @@ module _ (l : tie.At-loop Inv-loop μ-loop) (b : l .loop .i < length (now (z l .
   abbrev i : ℕ
   i = l .loop .i
 
-  module _ (n : ℕ) (v : List ℕ) (given : OnePut S1024 fnv (z l .args .mode) (record { code = take (at + getD lengths i 0 - at) (drop at codes); place = wordPlace (getD places i 0) }) (l .loop .s) n v) where
-    one : OnePut S1024 fnv (z l .args .mode) (nth codes lengths places at i) (l .loop .s) n v
+  module _ (n : ℕ) (v : List ℕ) (given : OnePut (z l .args .z) fnv (z l .args .mode) (record { code = take (at + getD lengths i 0 - at) (drop at codes); place = wordPlace (getD places i 0) }) (l .loop .s) n v) where
+    one : OnePut (z l .args .z) fnv (z l .args .mode) (nth codes lengths places at i) (l .loop .s) n v
     one =
         let e : at + getD lengths i 0 - at ≡ getD lengths i 0 = omega arith in
-        subst (λ k. OnePut S1024 fnv (z l .args .mode) (record { code = take k (drop at codes); place = wordPlace (getD places i 0) }) (l .loop .s) n v) e given
+        subst (λ k. OnePut (z l .args .z) fnv (z l .args .mode) (record { code = take k (drop at codes); place = wordPlace (getD places i 0) }) (l .loop .s) n v) e given
 
-    made-one : Accepted S1024 fnv v × (length v ≡ length (l .loop .s))
-    made-one = one-again S1024 fnv (z l .args .mode) (wanted codes lengths places) (now (z l .args .s)) (nth codes lengths places at i) (l .loop .s) n v (l .loop .inv .4) one
+    made-one : Accepted (z l .args .z) fnv v × (length v ≡ length (l .loop .s))
+    made-one = one-again (z l .args .z) fnv (z l .args .mode) (wanted codes lengths places) (now (z l .args .s)) (nth codes lengths places at i) (l .loop .s) n v (l .loop .inv .4) one
 
-    made-next : Made-to S1024 fnv (z l .args .mode) (wanted codes lengths places) (now (z l .args .s)) (left-from codes lengths places (at + getD lengths i 0) (i + 1)) (i + 1) (set (l .loop .answers) i n) v
+    made-next : Made-to (z l .args .z) fnv (z l .args .mode) (wanted codes lengths places) (now (z l .args .s)) (left-from codes lengths places (at + getD lengths i 0) (i + 1)) (i + 1) (set (l .loop .answers) i n) v
     made-next =
-        let p : i < length places = omega (arith, z l .pre .2 .places) in
-        made-more S1024 fnv (z l .args .mode) (wanted codes lengths places) (now (z l .args .s)) (nth codes lengths places at i) (left-from codes lengths places (at + getD lengths i 0) (i + 1)) i
+        let p : i < length places = omega (arith, z l .pre .1 .places) in
+        made-more (z l .args .z) fnv (z l .args .mode) (wanted codes lengths places) (now (z l .args .s)) (nth codes lengths places at i) (left-from codes lengths places (at + getD lengths i 0) (i + 1)) i
         (l .loop .answers) (l .loop .s)
-        (subst (λ r. Made-to S1024 fnv (z l .args .mode) (wanted codes lengths places) (now (z l .args .s)) r i (l .loop .answers) (l .loop .s)) (first-left codes lengths places at i b p) (l .loop .inv .5))
+        (subst (λ r. Made-to (z l .args .z) fnv (z l .args .mode) (wanted codes lengths places) (now (z l .args .s)) r i (l .loop .answers) (l .loop .s)) (first-left codes lengths places at i b p) (l .loop .inv .5))
         (runs-on l b) n v one
 
 loop-holds : tie.Need-loop-holds Inv-loop μ-loop
 loop-holds c =
     let z = c .before .before .before .before .before in
-    (omega arith, omega (arith, z .pre .2 .codes), refl, refl, z .pre .0, λ ns u chain. chain)
+    (omega arith, omega (arith, z .pre .1 .codes), refl, refl, z .pre .0 .accepted, λ ns u chain. chain)
 
 mul-e : tie.Need-mul-e Inv-loop μ-loop
 mul-e c = omega arith
@@ -98,10 +97,10 @@ mul-put-word : tie.Need-mul-put-word Inv-loop μ-loop
 mul-put-word c = omega arith
 
 shared-slice-read-put-word : tie.Need-shared-slice-read-put-word Inv-loop μ-loop
-shared-slice-read-put-word c = omega (arith, z (c .before .before .before .before .before) .pre .2 .places)
+shared-slice-read-put-word c = omega (arith, z (c .before .before .before .before .before) .pre .1 .places)
 
 put-word-requires : tie.Need-put-word-requires Inv-loop μ-loop
-put-word-requires c κs = let l = c .before .before .before .before .before in (l .loop .inv .4, z l .pre .1)
+put-word-requires c κs = let l = c .before .before .before .before .before in record { sized = z l .pre .0 .sized; accepted = l .loop .inv .4; mode = z l .pre .0 .mode }
 
 mul-answers : tie.Need-mul-answers Inv-loop μ-loop
 mul-answers c = omega arith
@@ -140,9 +139,9 @@ returns c =
     let l = c .before in
     let a = z l .args in
     let e = c .loop-test .left in
-    made-all S1024 fnv (a .mode) (wanted (now (a .codes)) (now (a .lengths)) (now (a .places))) (now (a .s)) (left-from (now (a .codes)) (now (a .lengths)) (now (a .places)) (l .loop .at) (l .loop .i))
+    made-all (a .z) fnv (a .mode) (wanted (now (a .codes)) (now (a .lengths)) (now (a .places))) (now (a .s)) (left-from (now (a .codes)) (now (a .lengths)) (now (a .places)) (l .loop .at) (l .loop .i))
     (l .loop .i) (l .loop .answers) (l .loop .s) (l .loop .inv .5) (nothing-left (now (a .codes)) (now (a .lengths)) (now (a .places)) (l .loop .at) (l .loop .i) e)
-    (omega (arith, z l .pre .2 .answers, l .loop .inv .2, e))
+    (omega (arith, z l .pre .1 .answers, l .loop .inv .2, e))
 
 pub put-each-spec : {M : Type 1} → statement M
 put-each-spec =

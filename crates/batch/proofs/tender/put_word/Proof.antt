@@ -3,7 +3,6 @@ use mathlib.Core.Path.{subst}
 use denote.Ref.{now}
 use Rattle.ground.specs.Ladder.{Answers}
 use Rattle.hash.specs.Fnv.{fnv}
-use Rattle.store.specs.Pages.{S1024}
 use Rattle.store.specs.Tables.{meaning, putTable}
 use borrow.Author.Needs.{needs}
 use Rattle.batch.proofs.tender.put_word.Statement.{statement}
@@ -28,7 +27,7 @@ returns c =
     let z = c .before .before .before .before .before .before .before .before in
     record {
       out = meaning (w .result);
-      made = subst (λ x. Answers (putTable S1024 fnv (now (z .args .s)) (now (z .args .key)) x (z .args .mode)) (meaning (w .result), w .last .0)) (p .ensures) (w .ensures);
+      made = subst (λ x. Answers (putTable (z .args .z) fnv (now (z .args .s)) (now (z .args .key)) x (z .args .mode)) (meaning (w .result), w .last .0)) (p .ensures) (w .ensures);
       is = c .answer-number .ensures;
     }
 

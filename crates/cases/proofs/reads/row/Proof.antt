@@ -2,6 +2,7 @@
 use native.Mathlib.Omega.{arith}
 use Rattle.page_reader.proofs.Rows.{inspect-fits}
 use borrow.Author.Needs.{needs}
+use denote.Ref.{now}
 use Rattle.cases.proofs.reads.row.Statement.{statement}
 use Rattle.cases.proofs.reads.row.Tie as tie
 
@@ -31,7 +32,7 @@ part-digits-end c =
     let k = c .before .before .before .before in
     let i = k .before .before .before .before .inspect in
     let g = k .before .m .given in
-    omega (arith, inspect-fits _ _ _ (g .0 .0) (g .0 .1 .0) _ (rw (g .1) at (i .ensures)), i .kept)
+    omega (arith, inspect-fits (now (k .before .before .before .before .before .before .before .args .bucket)) _ _ (g .0 .0) (g .0 .1 .0) _ (rw (g .1) at (i .ensures)), i .kept)
 
 digits-requires : tie.Need-digits-requires
 digits-requires c κs = search needs

@@ -1,5 +1,4 @@
 -- `commands::add` meets its contract. Assumes nothing.
-use mathlib.Core.Path.{refl}
 use borrow.Author.Needs.{needs}
 use Rattle.commands.proofs.Adding.{added}
 use Rattle.commands.proofs.answers.add.Statement.{statement}
@@ -17,7 +16,7 @@ same-length c = search needs
 returns : tie.Need-returns
 returns c =
     let s = c .before .before .before .before .before .before in
-    (added _ _ _ _ (s .pre) (c .before .before .copy-at .ensures), refl)
+    added _ _ _ _ (s .pre) (c .before .before .copy-at .ensures)
 
 pub add-spec : {M : Type 1} → statement M
 add-spec = tie.close (tie.spec copy-at-requires add-result same-length returns)

@@ -1,17 +1,17 @@
 -- `commands::add_code` meets its contract. Assumes nothing.
-use Prim.Native.Nat.{_+_, _*_, _-_, _≤_}
-use mathlib.Core.Path.{_≡_}
+use Prim.Native.Nat.{ℕ, _+_, _*_, _-_, _≤_}
+use mathlib.Core.Path.{_≡_, ap, _∙_}
 use native.Mathlib.Omega.{arith}
 use lib.Seq.{take-length}
 use lib.ListN.{length, take}
 use Rattle.commands.specs.Codes.{shown}
 use Rattle.commands.specs.Answers.{Adds}
-use Rattle.commands.proofs.Adding.{nothing, code-more, code-end, said}
+use Rattle.commands.proofs.Adding.{nothing, code-more, code-end, as-text}
 use Rattle.commands.proofs.answers.add_code.Statement.{statement}
 use Rattle.commands.proofs.answers.add_code.Tie as tie
 
 abbrev Inv-loop : tie.InvT-loop
-Inv-loop out₀ at code r₀ i₀ out r i = (i ≤ length code) × (r ≤ at + 3 * i) × Adds (λ t. t ≡ shown (take i code)) out₀ at out r
+Inv-loop out₀ at code r₀ i₀ out r i = (i ≤ length code) × (r ≤ at + 3 * i) × Adds (shown (take i code)) out₀ at out r
 
 abbrev μ-loop : tie.MeasureT-loop
 μ-loop out₀ at code r₀ i₀ out r i = length code - i
@@ -45,7 +45,7 @@ returns : tie.Need-returns Inv-loop μ-loop
 returns c =
     let l = c .before .loop in
     let e : l .i ≡ length (c .before .before .before .before .args .code .now) = omega arith in
-    (said _ (λ t f. rw (← take-length (c .before .before .before .before .args .code .now), ← e) f) (l .inv .2), omega arith)
+    (as-text (ap (λ (n : ℕ). shown (take n (c .before .before .before .before .args .code .now))) e ∙ ap shown (take-length (c .before .before .before .before .args .code .now))) (l .inv .2), omega arith)
 
 pub add-code-spec : {M : Type 1} → statement M
 add-code-spec =

@@ -1,7 +1,6 @@
 -- `commands::add_escaped` meets its contract. Assumes nothing.
-use mathlib.Core.Path.{_∙_}
 use borrow.Author.Needs.{needs}
-use Rattle.commands.proofs.Adding.{said, escape-is}
+use Rattle.commands.proofs.Adding.{as-text, escape-is}
 use Rattle.commands.proofs.answers.add_escaped.Statement.{statement}
 use Rattle.commands.proofs.answers.add_escaped.Tie as tie
 
@@ -24,7 +23,7 @@ returns : tie.Need-returns
 returns c =
     let a = c .before .before in
     let y = a .before .before .before in
-    said _ (λ t e. e ∙ escape-is (y .before .before .before .args .b) _ _ (y .before .upper-digit .ensures) (y .upper-digit2 .ensures)) (a .add .ensures .0)
+    as-text (escape-is (y .before .before .before .args .b) _ _ (y .before .upper-digit .ensures) (y .upper-digit2 .ensures)) (a .add .ensures)
 
 pub add-escaped-spec : {M : Type 1} → statement M
 add-escaped-spec =

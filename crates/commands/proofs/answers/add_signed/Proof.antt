@@ -2,7 +2,7 @@
 use native.Mathlib.Omega.{arith}
 use borrow.Author.Needs.{needs}
 use Rattle.commands.proofs.Signs.{is-below, is-from, size-is}
-use Rattle.commands.proofs.Adding.{then, said, minus-text, plain-text}
+use Rattle.commands.proofs.Adding.{then, as-text, minus-text, plain-text}
 use Rattle.commands.proofs.answers.add_signed.Statement.{statement}
 use Rattle.commands.proofs.answers.add_signed.Tie as tie
 
@@ -16,7 +16,7 @@ add-requires : tie.Need-add-requires
 add-requires c κs = search needs
 
 add-number-requires : tie.Need-add-number-requires
-add-number-requires c κs = let a = c .before .before .before in omega (arith, a .add .ensures .1, a .add .ensures .0 .long)
+add-number-requires c κs = let a = c .before .before .before in omega (arith, a .add .ensures .next, a .add .ensures .long)
 
 same-length : tie.Need-same-length
 same-length c = search needs
@@ -28,8 +28,8 @@ returns c =
     let i = a .before .before .before in
     let z = i .before in
     let s = z .before .before in (
-      then _ (a .add .ensures .0) (n .add-number .ensures .0) (λ t v e k. minus-text _ _ _ _ (size-is (s .args .z) (s .pre .1) _ (z .size-of .ensures)) (is-below (s .args .z) (s .pre .1) (i .if1 .taken)) e k),
-      omega (arith, a .add .ensures .1, n .add-number .ensures .1),
+      as-text (minus-text _ _ (size-is (s .args .z) (s .pre .1) _ (z .size-of .ensures)) (is-below (s .args .z) (s .pre .1) (i .if1 .taken))) (then (a .add .ensures) (n .add-number .ensures .0)),
+      omega (arith, a .add .ensures .next, n .add-number .ensures .1),
     )
 
 add-number-requires-2 : tie.Need-add-number-requires-2
@@ -44,7 +44,7 @@ returns-2 c =
     let i = n .before .before in
     let z = i .before in
     let s = z .before .before in
-    (said _ (λ v k. plain-text _ _ _ (size-is (s .args .z) (s .pre .1) _ (z .size-of .ensures)) (is-from (s .args .z) (s .pre .1) (i .if1 .left)) k) (n .add-number2 .ensures .0), omega (arith, n .add-number2 .ensures .1))
+    (as-text (plain-text _ _ (size-is (s .args .z) (s .pre .1) _ (z .size-of .ensures)) (is-from (s .args .z) (s .pre .1) (i .if1 .left))) (n .add-number2 .ensures .0), omega (arith, n .add-number2 .ensures .1))
 
 pub add-signed-spec : {M : Type 1} → statement M
 add-signed-spec =

@@ -21,7 +21,7 @@ returns : tie.Need-returns
 returns c =
     let e = c .before .before in
     let x = e .before .before .before .before .before in
-    ended _ (x .answer-text .ensures .0) (e .add .ensures .0) (omega (arith, e .add .ensures .1, e .add .ensures .0 .long, x .answer-text .ensures .1, x .answer-text .ensures .0 .long))
+    ended (x .answer-text .ensures .0) (e .add .ensures) (omega (arith, e .add .ensures .next, e .add .ensures .long, x .answer-text .ensures .1, x .answer-text .ensures .0 .long))
 
 pub answer-line-spec : {M : Type 1} → statement M
 answer-line-spec =

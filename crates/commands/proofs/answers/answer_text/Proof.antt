@@ -1,7 +1,7 @@
 -- `commands::answer_text` meets its contract. Assumes nothing.
 use native.Mathlib.Omega.{arith}
 use borrow.Author.Needs.{needs}
-use Rattle.commands.proofs.Adding.{shows, shows-refusal}
+use Rattle.commands.proofs.Adding.{as-text, shows-as, shows-refusal}
 use Rattle.commands.proofs.answers.answer_text.Statement.{statement}
 use Rattle.commands.proofs.answers.answer_text.Tie as tie
 
@@ -66,49 +66,49 @@ same-length : tie.Need-same-length
 same-length c = search needs
 
 returns : tie.Need-returns
-returns c = let x = c .before .before in (shows _ _ _ (x .before .before .before .a .given .1) (shows-refusal _ (x .before .before .before .a .given .0 .0) (x .refusal-text .ensures .0)), omega (arith, x .refusal-text .ensures .1))
+returns c = let x = c .before .before in (shows-as _ _ _ _ (x .before .before .before .a .given .1) (as-text (shows-refusal _ _ (x .before .before .before .a .given .0 .0)) (x .refusal-text .ensures .0)), omega (arith, x .refusal-text .ensures .1))
 
 same-length-2 : tie.Need-same-length-2
 same-length-2 c = search needs
 
 returns-2 : tie.Need-returns-2
-returns-2 c = let x = c .before .before in (shows _ _ _ (x .before .before .before .enum-told .given .1) (x .add .ensures .0), omega (arith, x .add .ensures .1))
+returns-2 c = let x = c .before .before in (shows-as _ _ _ _ (x .before .before .before .enum-told .given .1) (x .add .ensures), omega (arith, x .add .ensures .next))
 
 same-length-3 : tie.Need-same-length-3
 same-length-3 c = search needs
 
 returns-3 : tie.Need-returns-3
-returns-3 c = let x = c .before .before in (shows _ _ _ (x .before .before .before .enum-told2 .given .1) (x .add2 .ensures .0), omega (arith, x .add2 .ensures .1))
+returns-3 c = let x = c .before .before in (shows-as _ _ _ _ (x .before .before .before .enum-told2 .given .1) (x .add2 .ensures), omega (arith, x .add2 .ensures .next))
 
 same-length-4 : tie.Need-same-length-4
 same-length-4 c = search needs
 
 returns-4 : tie.Need-returns-4
-returns-4 c = let x = c .before .before in (shows _ _ _ (x .before .before .before .enum-told3 .given .1) (x .add3 .ensures .0), omega (arith, x .add3 .ensures .1))
+returns-4 c = let x = c .before .before in (shows-as _ _ _ _ (x .before .before .before .enum-told3 .given .1) (x .add3 .ensures), omega (arith, x .add3 .ensures .next))
 
 same-length-5 : tie.Need-same-length-5
 same-length-5 c = search needs
 
 returns-5 : tie.Need-returns-5
-returns-5 c = let x = c .before .before in (shows _ _ _ (x .before .before .before .a2 .given .1) (x .replaced-text .ensures .0), omega (arith, x .replaced-text .ensures .1))
+returns-5 c = let x = c .before .before in (shows-as _ _ _ _ (x .before .before .before .a2 .given .1) (x .replaced-text .ensures .0), omega (arith, x .replaced-text .ensures .1))
 
 same-length-6 : tie.Need-same-length-6
 same-length-6 c = search needs
 
 returns-6 : tie.Need-returns-6
-returns-6 c = let x = c .before .before in (shows _ _ _ (x .before .before .before .a3 .given .1) (x .add-place .ensures .0), omega (arith, x .add-place .ensures .1))
+returns-6 c = let x = c .before .before in (shows-as _ _ _ _ (x .before .before .before .a3 .given .1) (x .add-place .ensures .0), omega (arith, x .add-place .ensures .1))
 
 same-length-7 : tie.Need-same-length-7
 same-length-7 c = search needs
 
 returns-7 : tie.Need-returns-7
-returns-7 c = let x = c .before .before in (shows _ _ _ (x .before .before .before .a4 .given .1) (x .add-number .ensures .0), omega (arith, x .add-number .ensures .1))
+returns-7 c = let x = c .before .before in (shows-as _ _ _ _ (x .before .before .before .a4 .given .1) (x .add-number .ensures .0), omega (arith, x .add-number .ensures .1))
 
 same-length-8 : tie.Need-same-length-8
 same-length-8 c = search needs
 
 returns-8 : tie.Need-returns-8
-returns-8 c = let x = c .before .before in (shows _ _ _ (x .before .before .before .a5 .given .1) (x .row-part .ensures .0), omega (arith, x .row-part .ensures .1))
+returns-8 c = let x = c .before .before in (shows-as _ _ _ _ (x .before .before .before .a5 .given .1) (x .row-part .ensures .0), omega (arith, x .row-part .ensures .1))
 
 pub answer-text-spec : {M : Type 1} → statement M
 answer-text-spec =

@@ -1,7 +1,7 @@
 -- `commands::number_line` meets its contract. Assumes nothing.
 use native.Mathlib.Omega.{arith}
 use borrow.Author.Needs.{needs}
-use Rattle.commands.proofs.Adding.{ended, word-adds}
+use Rattle.commands.proofs.Adding.{ended, then}
 use Rattle.commands.proofs.answers.number_line.Statement.{statement}
 use Rattle.commands.proofs.answers.number_line.Tie as tie
 
@@ -32,8 +32,8 @@ returns c =
     let n = e .before .before .before .before .before in
     let s = n .before .before .before .before in
     let w = s .before .before .before .before .before in
-    ended _ (word-adds _ _ (w .add .ensures .0) (s .add2 .ensures .0) (n .add-number .ensures .0)) (e .add3 .ensures .0)
-    (omega (arith, e .add3 .ensures .1, e .add3 .ensures .0 .long, n .add-number .ensures .1, n .add-number .ensures .0 .long, s .add2 .ensures .1, s .add2 .ensures .0 .long, w .add .ensures .1, w .add .ensures .0 .long, w .before .before .before .before .pre))
+    ended (then (w .add .ensures) (then (s .add2 .ensures) (n .add-number .ensures .0))) (e .add3 .ensures)
+    (omega (arith, e .add3 .ensures .next, e .add3 .ensures .long, n .add-number .ensures .1, n .add-number .ensures .0 .long, s .add2 .ensures .next, s .add2 .ensures .long, w .add .ensures .next, w .add .ensures .long, w .before .before .before .before .pre))
 
 pub number-line-spec : {M : Type 1} → statement M
 number-line-spec =

@@ -21,7 +21,7 @@ returns : tie.Need-returns
 returns c =
     let n = c .before .before in
     let a = n .before .before .before .before in
-    (then _ (a .add .ensures .0) (n .add-place .ensures .0) (λ t v e k. record { rest = v; line = rw e; says = k }), omega (arith, a .add .ensures .1, n .add-place .ensures .1))
+    (then (a .add .ensures) (n .add-place .ensures .0), omega (arith, a .add .ensures .next, n .add-place .ensures .1))
 
 pub replaced-text-spec : {M : Type 1} → statement M
 replaced-text-spec =

@@ -1,7 +1,7 @@
 -- `commands::row_text` meets its contract. Assumes nothing.
 use native.Mathlib.Omega.{arith}
 use borrow.Author.Needs.{needs}
-use Rattle.commands.proofs.Adding.{row-adds}
+use Rattle.commands.proofs.Adding.{then}
 use Rattle.commands.proofs.answers.row_text.Statement.{statement}
 use Rattle.commands.proofs.answers.row_text.Tie as tie
 
@@ -25,7 +25,7 @@ returns c =
     let z = c .before .before in
     let s = z .before .before .before .before in
     let a = s .before .before .before .before .before in
-    (row-adds _ _ (a .add-code .ensures .0) (s .add .ensures .0) (z .add-place .ensures .0), omega (arith, a .add-code .ensures .1, s .add .ensures .1, z .add-place .ensures .1))
+    (then (a .add-code .ensures .0) (then (s .add .ensures) (z .add-place .ensures .0)), omega (arith, a .add-code .ensures .1, s .add .ensures .next, z .add-place .ensures .1))
 
 pub row-text-spec : {M : Type 1} → statement M
 row-text-spec =

@@ -75,22 +75,15 @@ hash-slot-requires c κs =
     let b = z .pre .1 .keeps .rules (kind z ∙ t) in
     rw (page-lent (S z) (s z) (p z)) (b, b .some)
 
-run-of-requires : tie.Need-run-of-requires
-run-of-requires c κs =
-    let z = c .before .before .before .before .before .before .before .before in
-    let t = c .before .before .before .before .if1 .taken in
-    (omega (arith, deep z, z .pre .1 .keeps .depths (kind z ∙ t)), omega (arith, z .pre .1 .deep, twelve (S z) (z .pre .0)))
-
-set-run-requires : tie.Need-set-run-requires
-set-run-requires c κs =
-    let z = c .before .before .before .before .before .before .before .before .before .before in
-    let e = c .before .run-of .ensures in
-    let m : 2 ^ (z .args .d) ≤ 2 ^ S z .deepest = pow-mono (z .pre .1 .deep) in (
+name-prefix-requires : tie.Need-name-prefix-requires
+name-prefix-requires c κs =
+    let z = c .before .before .before .before .before .before .before .before .before in
+    let t = c .before .before .before .before .before .if1 .taken in (
       z .pre .0,
       record {
         long = omega (arith, mul-le-mul-right (size (S z)) (z .pre .1 .least), z .pre .1 .there);
-        rising = e .2;
-        within = omega (arith, e .3, z .pre .0 .deep);
+        low = omega (arith, deep z, z .pre .1 .keeps .depths (kind z ∙ t));
+        deep = z .pre .1 .deep;
         word = omega (arith, z .pre .1 .most, z .pre .0 .whole, z .pre .0 .most);
       },
     )
@@ -100,21 +93,17 @@ same-length c = search needs
 
 returns : tie.Need-returns
 returns c =
-    let z = c .before .before .before .before .before .before .before .before .before .before .before .before .before in
-    let t = c .before .before .before .before .before .before .before .before .before .if1 .taken in
-    let f = c .before .before .before .before .before .hash-slot .ensures in
-    let e = c .before .before .before .before .run-of .ensures in
+    let z = c .before .before .before .before .before .before .before .before .before .before .before .before in
+    let t = c .before .before .before .before .before .before .before .before .if1 .taken in
+    let f = c .before .before .before .before .hash-slot .ensures in
     let x = f ∙ ap (λ g. fnv (code g 0)) (page-lent (S z) (s z) (p z)) in
-    named-page (S z) (z .pre .0) fnv (s z) (z .args .d) (p z) (z .pre .1 .deep) (c .before .before .set-run .last .0) (c .before .before .before .before .run-of .result .from) (c .before .before .before .before .run-of .result .to)
-    (kind z ∙ t)
-    (e .0 ∙ sym (λ i. first (z .args .d) (record { bits = deep z i; value = top (deep z i) (sym x i) })))
-    (e .1 ∙ sym (λ i. after (z .args .d) (record { bits = deep z i; value = top (deep z i) (sym x i) })))
-    (e .2) (e .3) (c .before .before .set-run .ensures)
+    named-page (S z) fnv (s z) (z .args .d) (p z) (c .before .before .name-prefix .last .0) (byte (s z) (p z * size (S z) + 1)) (c .before .before .before .before .hash-slot .result)
+    (kind z ∙ t) (deep z) (sym x) (c .before .before .name-prefix .ensures)
 
 returns-2 : tie.Need-returns-2
 returns-2 c =
     let z = c .before .before .before .before in
-    unnamed-page (S z) (z .pre .0) fnv (s z) (z .args .d) (p z) (z .pre .1 .deep) (λ u. c .if1 .left (sym (kind z) ∙ u))
+    unnamed-page (S z) fnv (s z) (z .args .d) (p z) (λ u. c .if1 .left (sym (kind z) ∙ u))
 
 pub name-page-spec : {M : Type 1} → statement M
 name-page-spec =
@@ -131,8 +120,7 @@ name-page-spec =
     part-hash-slot-start
     part-hash-slot-end
     hash-slot-requires
-    run-of-requires
-    set-run-requires
+    name-prefix-requires
     same-length
     returns
     returns-2)

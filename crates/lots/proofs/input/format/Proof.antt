@@ -5,14 +5,10 @@ use mathlib.Core.Bool.{true, false, true≢false}
 use native.Mathlib.Nat.{sub-zero}
 use borrow.Author.Needs.{needs}
 use denote.Ref.{now}
-use Rattle.hash.specs.Fnv.{fnv}
-use Rattle.store.specs.Demands as Demands
 use Rattle.store.specs.Demands.{ok}
-use Rattle.store.specs.Pages.{S1024}
 use Rattle.store.specs.Tables.{meaning}
-use Rattle.store.proofs.Demands.Kept.{refusal-keeps}
 use Rattle.lots.specs.Sessions.{SessionHolds, Quiet}
-use Rattle.lots.proofs.Leaving.{done-loud, formatted-still, part-back, still-back, still-front, taken-in}
+use Rattle.lots.proofs.Leaving.{done-loud, formatted-still, unformatted, part-back, still-back, still-front, taken-in}
 use Rattle.lots.proofs.input.format.Statement.{statement}
 use Rattle.lots.proofs.input.format.Tie as tie
 
@@ -49,13 +45,13 @@ returns c =
     let f = c .before .before .before .before .before .before .format in
     let n = c .before .before .before .before .before .before .before .before .length-of in
     let d : ok (meaning (f .result)) ≡ true = sym (c .before .is-done .ensures) ∙ c .if1 .taken in
-    let y = formatted-still _ (meaning (f .result)) _ (f .ensures) d in
+    let y = formatted-still _ _ (meaning (f .result)) _ (f .ensures) d in
     let no : Quiet (c .before .before .after .result) → ⊥ = λ q. done-loud (meaning (f .result)) (c .before .before .before .wrote .result) (c .before .before .before .wrote .ensures) (a .leaves q) d in (
       record {
         quiet = λ q. absurd (no q);
         same = λ q. absurd (no q);
         long = λ q. absurd (no q);
-        holds = record { within = search needs; known = λ _. still-front _ _ (n .result) (n .ensures .0) y };
+        holds = record { within = search needs; known = λ _. still-front _ _ (n .result) (n .ensures .0) y refl };
       },
       a .fill,
       record {
@@ -79,7 +75,7 @@ returns-2 c =
     let n = c .before .before .before .before .before .before .before .before .length-of in
     let start = c .before .before .before .before .before .before .before .before .before .before in
     let d : ok (meaning (f .result)) ≡ false = sym (c .before .is-done .ensures) ∙ c .if1 .left in
-    let e = part-back (now (start .args .store)) (f .last .0) 0 (n .result - 0) (refusal-keeps S1024 fnv Demands.format _ (meaning (f .result)) _ (f .ensures) d) in (
+    let e = part-back (now (start .args .store)) (f .last .0) 0 (n .result - 0) (unformatted _ _ (meaning (f .result)) _ (f .ensures) d) in (
       taken-in a (λ l. e) (subst (SessionHolds (start .args .z)) (sym e) (start .pre)),
       a .fill,
       record {

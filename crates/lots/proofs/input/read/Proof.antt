@@ -5,6 +5,9 @@ use mathlib.Core.Bool.{true≢false}
 use Rattle.lots.proofs.input.read.Statement.{statement}
 use Rattle.lots.proofs.input.read.Tie as tie
 
+prompt-requires : tie.Need-prompt-requires
+prompt-requires c κs = search needs
+
 buffer-requires : tie.Need-buffer-requires
 buffer-requires c κs = search needs
 
@@ -57,6 +60,7 @@ pub read-spec : {M : Type 1} → statement M
 read-spec =
     tie.close
     (tie.spec
+    prompt-requires
     buffer-requires
     slice-aggregate-read
     read-requires

@@ -1,11 +1,12 @@
 -- `lots::take` meets its contract. Assumes nothing.
 use mathlib.Core.Path.{refl}
-use native.Mathlib.Omega.{arith}
-use lib.ListN.{length-set}
-use borrow.Author.Needs.{needs}
 use Rattle.lots.proofs.Leaving.{beside}
+use borrow.Author.Needs.{needs}
 use Rattle.lots.proofs.input.take.Statement.{statement}
 use Rattle.lots.proofs.input.take.Tie as tie
+
+returns : tie.Need-returns
+returns c = (beside (record { len = refl; known = refl; changed = refl; stopped = refl }) (c .before .before .before .pre .0), search needs)
 
 end-line-requires : tie.Need-end-line-requires
 end-line-requires c κs = search needs
@@ -16,34 +17,43 @@ same-length c = search needs
 same-length-2 : tie.Need-same-length-2
 same-length-2 c = search needs
 
-returns : tie.Need-returns
-returns c = search needs
+returns-2 : tie.Need-returns-2
+returns-2 c = search needs
 
-slice-write-line : tie.Need-slice-write-line
-slice-write-line c = search needs
+is-blank-requires : tie.Need-is-blank-requires
+is-blank-requires c κs = search needs
 
-add-y : tie.Need-add-y
-add-y c = search needs
+push-blank-requires : tie.Need-push-blank-requires
+push-blank-requires c κs = search needs
 
 same-length-3 : tie.Need-same-length-3
 same-length-3 c = search needs
 
-returns-2 : tie.Need-returns-2
-returns-2 c = (beside refl refl refl refl (search needs), simp length-set (omega arith))
-
 returns-3 : tie.Need-returns-3
-returns-3 c = search needs
+returns-3 c = (beside (c .before .before .push-blank .ensures .0) (c .before .before .before .before .before .before .before .before .before .before .pre .0), c .before .before .push-blank .ensures .1)
+
+push-requires : tie.Need-push-requires
+push-requires c κs = search needs
+
+same-length-4 : tie.Need-same-length-4
+same-length-4 c = search needs
+
+returns-4 : tie.Need-returns-4
+returns-4 c = (beside (c .before .before .push .ensures .0) (c .before .before .before .before .before .before .before .before .before .before .pre .0), c .before .before .push .ensures .1)
 
 pub take-spec : {M : Type 1} → statement M
 take-spec =
     tie.close
     (tie.spec
+    returns
     end-line-requires
     same-length
     same-length-2
-    returns
-    slice-write-line
-    add-y
-    same-length-3
     returns-2
-    returns-3)
+    is-blank-requires
+    push-blank-requires
+    same-length-3
+    returns-3
+    push-requires
+    same-length-4
+    returns-4)

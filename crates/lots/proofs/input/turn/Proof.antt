@@ -1,65 +1,55 @@
 -- `lots::turn` meets its contract. Assumes nothing.
-use Prim.Native.Nat.{_-_}
-use mathlib.Core.Path.{subst, sym, refl}
+use mathlib.Core.Path.{refl}
+use Rattle.lots.proofs.Leaving.{beside, taken-in}
 use borrow.Author.Needs.{needs}
-use Rattle.lots.specs.Sessions.{Leaves}
-use Rattle.lots.proofs.Leaving.{leaves, lent-known, part-back, still-holds, taken-in, then}
 use Rattle.lots.proofs.input.turn.Statement.{statement}
 use Rattle.lots.proofs.input.turn.Tie as tie
 
-sub-obey : tie.Need-sub-obey
-sub-obey c = search needs
+slice-aggregate-same : tie.Need-slice-aggregate-same
+slice-aggregate-same c = search needs
 
-part-obey-start : tie.Need-part-obey-start
-part-obey-start c = search needs
-
-part-obey-end : tie.Need-part-obey-end
-part-obey-end c = search needs
-
-obey-requires : tie.Need-obey-requires
-obey-requires c κs = lent-known (c .before .before .before .pre)
-
-enum-known-o : tie.Need-enum-known-o
-enum-known-o c = search needs
-
-format-requires : tie.Need-format-requires
-format-requires c κs = still-holds (c .before .before .before .before .before .before .before .before .before .before .pre) (c .before .before .before .before .before .before .obey .ensures) (search needs)
-
-same-length : tie.Need-same-length
-same-length c = search needs
+same-requires : tie.Need-same-requires
+same-requires c κs = search needs
 
 returns : tie.Need-returns
-returns c =
-    let f = c .before .before .format .ensures in
-    let g = c .before .before .before .before .before .before in
-    let o = c .before .before .before .before .before .o .given in
-    let b = g .before .before .before .obey .ensures in
-    (then (record { quiet = λ q. q; same = λ q. part-back _ _ 0 (g .before .before .before .before .before .before .before .args .z .len - 0) (leaves b (subst Leaves (sym (o .1)) tt)); long = λ q. refl; holds = still-holds (c .before .before .before .before .before .before .before .before .before .before .before .before .before .pre) b (search needs) }) (f .0), f .1)
+returns c = (beside (record { len = refl; known = refl; changed = refl; stopped = refl }) (c .before .before .before .before .before .pre), refl)
+
+slice-aggregate-same-2 : tie.Need-slice-aggregate-same-2
+slice-aggregate-same-2 c = search needs
+
+same-requires-2 : tie.Need-same-requires-2
+same-requires-2 c κs = search needs
+
+help-requires : tie.Need-help-requires
+help-requires c κs = search needs
 
 after-requires : tie.Need-after-requires
 after-requires c κs = search needs
 
-same-length-2 : tie.Need-same-length-2
-same-length-2 c = search needs
-
 returns-2 : tie.Need-returns-2
-returns-2 c =
-    let a = c .after .ensures in
-    let b = c .before .before .before .before .obey .ensures in
-    (taken-in a (λ l. part-back _ _ 0 (c .before .before .before .before .before .before .before .before .args .z .len - 0) (leaves b l)) (still-holds (c .before .before .before .before .before .before .before .before .pre) b (search needs)), a .fill)
+returns-2 c = let a = c .after .ensures in (taken-in a (λ l. refl) (c .before .before .before .before .before .before .before .before .before .before .pre), a .fill)
+
+command-requires : tie.Need-command-requires
+command-requires c κs = search needs
+
+same-length : tie.Need-same-length
+same-length c = search needs
+
+returns-3 : tie.Need-returns-3
+returns-3 c = c .before .before .command .ensures
 
 pub turn-spec : {M : Type 1} → statement M
 turn-spec =
     tie.close
     (tie.spec
-    sub-obey
-    part-obey-start
-    part-obey-end
-    obey-requires
-    enum-known-o
-    format-requires
-    same-length
+    slice-aggregate-same
+    same-requires
     returns
+    slice-aggregate-same-2
+    same-requires-2
+    help-requires
     after-requires
-    same-length-2
-    returns-2)
+    returns-2
+    command-requires
+    same-length
+    returns-3)

@@ -2,17 +2,21 @@
 use borrow.Author.Needs.{needs}
 use borrow.Author.Tests.{not-true, not-false}
 use denote.Ref.{now}
+use mathlib.Core.Path.{sym, subst}
+use Rattle.ground.specs.Ladder.{Answers}
 use Rattle.ground.proofs.Tests.{says-true, says-false}
 use Rattle.hash.specs.Fnv.{fnv}
+use Rattle.partition.specs.Sizes.{shapeOf}
 use Rattle.store.specs.Accepted.{Accepted}
-use Rattle.store.specs.Demands.{GoodCode, sized-1024}
-use Rattle.store.specs.Pages.{S1024}
+use Rattle.store.specs.Demands.{GoodCode}
+use Rattle.store.specs.Tables.{lookupTable, meaning}
 use Rattle.store.proofs.Demands.Unchecked.{finds, finds-3}
+use Rattle.lots.proofs.Leaving.{numbered}
 use Rattle.lots.proofs.known.lookup_known.Statement.{statement}
 use Rattle.lots.proofs.known.lookup_known.Tie as tie
 
 -- the store is known to be accepted
-sound : (c : tie.Else1) → Accepted S1024 fnv (now (c .before .before .before .args .s))
+sound : (c : tie.Else1) → Accepted (shapeOf (now (c .before .before .before .args .s))) fnv (now (c .before .before .before .args .s))
 sound c = c .before .before .before .pre (not-false _ (c .if1 .left))
 
 -- and the code is one
@@ -33,15 +37,26 @@ good-code-requires : tie.Need-good-code-requires
 good-code-requires c κs = search needs
 
 returns-2 : tie.Need-returns-2
-returns-2 c = finds-3 S1024 fnv _ (sound (c .before .before)) _ (uncoded c)
+returns-2 c = finds-3 _ fnv _ (sound (c .before .before)) _ (uncoded c)
+
+shape-of-requires : tie.Need-shape-of-requires
+shape-of-requires c κs = numbered _ (sound (c .before .before))
+
+-- the store is accepted at the size that is read from it
+at-own : (c : tie.After-shape-of) → Accepted (c .shape-of .result) fnv (now (c .before .before .before .before .before .before .args .s))
+at-own c = subst (λ S. Accepted S fnv (now (c .before .before .before .before .before .before .args .s))) (sym (c .shape-of .ensures .0)) (sound (c .before .before .before))
 
 place-of-requires : tie.Need-place-of-requires
-place-of-requires c κs = (sized-1024, sound (c .before .before))
+place-of-requires c κs = (c .shape-of .ensures .1, at-own c)
 
 returns-3 : tie.Need-returns-3
-returns-3 c = finds S1024 fnv _ (sound (c .before .before .before)) _ _ (coded (c .before)) (c .place-of .ensures)
+returns-3 c =
+    let b = c .before in
+    let start = b .before .before .before .before .before .before in
+    subst (λ S. Answers (lookupTable S fnv (now (start .args .s)) (now (start .args .key))) (meaning (c .place-of .result))) (b .shape-of .ensures .0)
+    (finds (b .shape-of .result) fnv (now (start .args .s)) (at-own b) (now (start .args .key)) _ (coded (b .before)) (c .place-of .ensures))
 
 pub lookup-known-spec : {M : Type 1} → statement M
 lookup-known-spec =
     tie.close
-    (tie.spec lookup-requires returns good-code-requires returns-2 place-of-requires returns-3)
+    (tie.spec lookup-requires returns good-code-requires returns-2 shape-of-requires place-of-requires returns-3)

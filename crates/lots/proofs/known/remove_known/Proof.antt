@@ -2,18 +2,21 @@
 use borrow.Author.Needs.{needs}
 use borrow.Author.Tests.{not-true, not-false}
 use denote.Ref.{now}
-use mathlib.Core.Path.{refl}
+use mathlib.Core.Path.{sym, subst}
+use Rattle.ground.specs.Ladder.{Answers}
 use Rattle.ground.proofs.Tests.{says-true, says-false}
 use Rattle.hash.specs.Fnv.{fnv}
+use Rattle.partition.specs.Sizes.{shapeOf}
 use Rattle.store.specs.Accepted.{Accepted}
-use Rattle.store.specs.Demands.{GoodCode, sized-1024}
-use Rattle.store.specs.Pages.{S1024}
+use Rattle.store.specs.Demands.{GoodCode}
+use Rattle.store.specs.Tables.{removeTable, meaning}
 use Rattle.store.proofs.Demands.Unchecked.{removes, removes-3}
+use Rattle.lots.proofs.Leaving.{numbered}
 use Rattle.lots.proofs.known.remove_known.Statement.{statement}
 use Rattle.lots.proofs.known.remove_known.Tie as tie
 
 -- the store is known to be accepted
-sound : (c : tie.Else1) → Accepted S1024 fnv (now (c .before .before .before .args .s))
+sound : (c : tie.Else1) → Accepted (shapeOf (now (c .before .before .before .args .s))) fnv (now (c .before .before .before .args .s))
 sound c = c .before .before .before .pre (not-false _ (c .if1 .left))
 
 -- and the code is one
@@ -37,19 +40,28 @@ good-code-requires : tie.Need-good-code-requires
 good-code-requires c κs = search needs
 
 returns-2 : tie.Need-returns-2
-returns-2 c = removes-3 S1024 fnv _ (sound (c .before .before)) _ (uncoded c)
+returns-2 c = removes-3 _ fnv _ (sound (c .before .before)) _ (uncoded c)
 
-slice-aggregate-remove-row : tie.Need-slice-aggregate-remove-row
-slice-aggregate-remove-row c = search needs
+shape-of-requires : tie.Need-shape-of-requires
+shape-of-requires c κs = numbered _ (sound (c .before .before .before))
 
-remove-row-requires : tie.Need-remove-row-requires
-remove-row-requires c κs = (record { sized = sized-1024; blank = refl }, sound (c .before .before .before .before))
+-- the store is accepted at the size that is read from it
+at-own : (c : tie.After-shape-of) → Accepted (c .shape-of .result) fnv (now (c .before .before .before .before .before .before .before .args .s))
+at-own c = subst (λ S. Accepted S fnv (now (c .before .before .before .before .before .before .before .args .s))) (sym (c .shape-of .ensures .0)) (sound (c .before .before .before .before))
+
+remove-lent-requires : tie.Need-remove-lent-requires
+remove-lent-requires c κs = let b = c .before in (b .shape-of .ensures .1, at-own b)
 
 same-length-2 : tie.Need-same-length-2
 same-length-2 c = search needs
 
 returns-3 : tie.Need-returns-3
-returns-3 c = let e = c .before .before .before .before .before .before in removes S1024 fnv _ (sound (e .before .before)) _ _ (coded e) (c .before .before .before .remove-row .ensures .0)
+returns-3 c =
+    let w = c .before .before .remove-lent in
+    let b = c .before .before .before .before in
+    let start = b .before .before .before .before .before .before .before in
+    subst (λ S. Answers (removeTable S fnv (now (start .args .s)) (now (start .args .key))) (meaning (w .result), w .last .0)) (b .shape-of .ensures .0)
+    (removes (b .shape-of .result) fnv (now (start .args .s)) (at-own b) (now (start .args .key)) _ (coded (b .before .before)) (w .ensures))
 
 pub remove-known-spec : {M : Type 1} → statement M
 remove-known-spec =
@@ -60,7 +72,7 @@ remove-known-spec =
     returns
     good-code-requires
     returns-2
-    slice-aggregate-remove-row
-    remove-row-requires
+    shape-of-requires
+    remove-lent-requires
     same-length-2
     returns-3)

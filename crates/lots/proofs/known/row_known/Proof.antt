@@ -1,12 +1,25 @@
 -- `lots::row_known` meets its contract. Assumes nothing.
 use borrow.Author.Needs.{needs}
-use borrow.Author.Tests.{not-true, not-false}
+use borrow.Author.Tests.{not-false}
+use denote.Ref.{now}
+use mathlib.Core.Path.{sym, subst}
+use Rattle.ground.specs.Ladder.{Answers}
 use Rattle.hash.specs.Fnv.{fnv}
-use Rattle.store.specs.Demands.{sized-1024}
-use Rattle.store.specs.Pages.{S1024}
+use Rattle.partition.specs.Sizes.{shapeOf}
+use Rattle.store.specs.Accepted.{Accepted}
+use Rattle.store.specs.Tables.{rowTable, meaning}
 use Rattle.store.proofs.Demands.Unchecked.{gives}
+use Rattle.lots.proofs.Leaving.{numbered}
 use Rattle.lots.proofs.known.row_known.Statement.{statement}
 use Rattle.lots.proofs.known.row_known.Tie as tie
+
+-- the store is known to be accepted
+sound : (c : tie.Else1) → Accepted (shapeOf (now (c .before .before .before .args .s))) fnv (now (c .before .before .before .args .s))
+sound c = c .before .before .before .pre .0 (not-false _ (c .if1 .left))
+
+-- also at the size that is read from it
+at-own : (c : tie.After-shape-of) → Accepted (c .shape-of .result) fnv (now (c .before .before .before .before .args .s))
+at-own c = subst (λ S. Accepted S fnv (now (c .before .before .before .before .args .s))) (sym (c .shape-of .ensures .0)) (sound (c .before))
 
 row-at-requires : tie.Need-row-at-requires
 row-at-requires c κs = search needs
@@ -17,16 +30,25 @@ same-length c = search needs
 returns : tie.Need-returns
 returns c = search needs
 
+shape-of-requires : tie.Need-shape-of-requires
+shape-of-requires c κs = numbered _ (sound c)
+
 give-row-requires : tie.Need-give-row-requires
-give-row-requires c κs = let p = c .before .before .before .before .pre in (sized-1024, p .0 (not-false _ (c .before .if1 .left)), p .1)
+give-row-requires c κs = let b = c .before in (b .shape-of .ensures .1, at-own b, b .before .before .before .before .pre .1)
 
 same-length-2 : tie.Need-same-length-2
 same-length-2 c = search needs
 
 returns-2 : tie.Need-returns-2
-returns-2 c = let p = c .before .before .before .before in let q = p .before .before .before .pre in gives S1024 fnv _ (q .0 (not-false _ (p .if1 .left))) _ _ _ (q .1) (c .before .before .give-row .ensures)
+returns-2 c =
+    let w = c .before .before .give-row in
+    let b = c .before .before .before .before in
+    let start = b .before .before .before .before in
+    let s = now (start .args .s) in
+    subst (λ S. Answers (rowTable S fnv s (start .args .n) (now (start .args .out))) (meaning (w .result), w .last .1 .1 .1 .0)) (b .shape-of .ensures .0)
+    (gives (b .shape-of .result) fnv s (at-own b) _ _ _ (start .pre .1) (w .ensures))
 
 pub row-known-spec : {M : Type 1} → statement M
 row-known-spec =
     tie.close
-    (tie.spec row-at-requires same-length returns give-row-requires same-length-2 returns-2)
+    (tie.spec row-at-requires same-length returns shape-of-requires give-row-requires same-length-2 returns-2)

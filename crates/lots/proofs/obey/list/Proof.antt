@@ -2,15 +2,20 @@
 use borrow.Author.Needs.{needs}
 use borrow.Author.Tests.{not-true, not-false}
 use denote.Ref.{now}
-use mathlib.Core.Path.{_≡_, refl, sym, _∙_}
+use mathlib.Core.Path.{_≡_, refl, sym, subst, _∙_}
 use mathlib.Core.Bool.{true, false, true≢false}
+use native.Mathlib.Nat.{div-add-mod'}
 use native.Mathlib.Omega.{arith}
+use lib.ListN.{length}
 use Rattle.hash.specs.Fnv.{fnv}
+use Rattle.partition.specs.Listing.{listing}
+use Rattle.partition.specs.Sizes.{size, shapeOf}
 use Rattle.store.specs.Accepted.{Accepted}
 use Rattle.store.specs.Demands.{ok}
-use Rattle.store.specs.Pages.{S1024}
+use Rattle.store.specs.Pages.{rowsHeld}
 use Rattle.store.specs.Tables.{meaning}
-use Rattle.lots.proofs.Leaving.{checked-accepted}
+use Rattle.lots.specs.Obeys.{Numbers}
+use Rattle.lots.proofs.Leaving.{checked-accepted, numbered}
 use Rattle.lots.proofs.obey.list.Statement.{statement}
 use Rattle.lots.proofs.obey.list.Tie as tie
 
@@ -20,8 +25,12 @@ bad c = sym (c .before .is-done .ensures) ∙ not-true _ (c .if1 .taken)
 good : (c : tie.Else1) → ok (meaning (c .before .before .check-known .result)) ≡ true
 good c = sym (c .before .is-done .ensures) ∙ not-false _ (c .if1 .left)
 
-sound : (c : tie.Else1) → Accepted S1024 fnv (now (c .before .before .before .before .args .s))
+sound : (c : tie.Else1) → Accepted (shapeOf (now (c .before .before .before .before .args .s))) fnv (now (c .before .before .before .before .args .s))
 sound c = checked-accepted _ _ (c .before .before .check-known .ensures) (good c)
+
+-- also at the size that is read from it
+at-own : (c : tie.After-shape-of) → Accepted (c .shape-of .result) fnv (now (c .before .before .before .before .before .args .s))
+at-own c = subst (λ S. Accepted S fnv (now (c .before .before .before .before .before .args .s))) (sym (c .shape-of .ensures .0)) (sound (c .before))
 
 check-known-requires : tie.Need-check-known-requires
 check-known-requires c κs = search needs
@@ -37,16 +46,35 @@ returns c =
     let k = c .before .before .before .check-known in
     record { answer = meaning (k .result); made = (k .ensures, refl); refused = λ _. c .told .ensures; rows = λ e. absurd (true≢false (sym e ∙ bad (c .before))) }
 
+shape-of-requires : tie.Need-shape-of-requires
+shape-of-requires c κs = numbered _ (sound c)
+
+add-count-rows : tie.Need-add-count-rows
+add-count-rows c = omega (arith, c .before .shape-of .ensures .1 .most)
+
+div-count-rows : tie.Need-div-count-rows
+div-count-rows c = search needs
+
 count-rows-requires : tie.Need-count-rows-requires
-count-rows-requires c κs = let g = sound c .long in (omega (arith, g .whole), omega (arith, g .least), omega (arith, g .most))
+count-rows-requires c κs =
+    let z = c .before .shape-of in
+    let g = at-own (c .before) .long in
+    (omega (arith, div-add-mod' (length (now (c .before .before .before .before .before .before .args .s))) (size (z .result)), g .whole), omega (arith, g .least), omega (arith, g .most, z .ensures .1 .whole, z .ensures .1 .most))
 
 list-rows-requires : tie.Need-list-rows-requires
-list-rows-requires c κs = (sound (c .before), c .count-rows .ensures)
+list-rows-requires c κs = let b = c .before .before in record { sized = b .shape-of .ensures .1; accepted = at-own b; rows = c .count-rows .ensures }
 
 returns-2 : tie.Need-returns-2
 returns-2 c =
-    let k = c .before .before .before .before .check-known in
-    record { answer = meaning (k .result); made = (k .ensures, refl); refused = λ e. absurd (true≢false (sym (good (c .before .before)) ∙ e)); rows = λ _. c .list-rows .ensures }
+    let b = c .before .before .before in
+    let k = b .before .before .before .check-known in
+    let s = now (b .before .before .before .before .before .args .s) in
+    record {
+      answer = meaning (k .result);
+      made = (k .ensures, refl);
+      refused = λ e. absurd (true≢false (sym (good (b .before)) ∙ e));
+      rows = λ _. subst (λ S. Numbers (length (listing S fnv (rowsHeld S s))) (c .list-rows .result)) (b .shape-of .ensures .0) (c .list-rows .ensures);
+    }
 
 pub list-spec : {M : Type 1} → statement M
 list-spec =
@@ -56,6 +84,9 @@ list-spec =
     is-done-requires
     told-requires
     returns
+    shape-of-requires
+    add-count-rows
+    div-count-rows
     count-rows-requires
     list-rows-requires
     returns-2)

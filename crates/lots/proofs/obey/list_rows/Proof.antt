@@ -8,30 +8,29 @@ use native.Mathlib.Omega.{arith}
 use Rattle.hash.specs.Fnv.{fnv}
 use Rattle.partition.specs.Listing.{listing}
 use Rattle.query.specs.Cursors.{At, Stepped}
-use Rattle.store.specs.Demands.{sized-1024}
-use Rattle.store.specs.Pages.{S1024, rowsHeld}
+use Rattle.store.specs.Pages.{rowsHeld}
 use Rattle.lots.specs.Obeys.{Numbers}
 use Rattle.lots.proofs.Leaving.{listing-counts, some-row}
 use Rattle.lots.proofs.obey.list_rows.Statement.{statement}
 use Rattle.lots.proofs.obey.list_rows.Tie as tie
 
 abbrev Inv-loop : tie.InvT-loop
-Inv-loop s n c₀ i₀ c i = At S1024 s i c × (i ≤ n)
+Inv-loop s z n c₀ i₀ c i = At z s i c × (i ≤ n)
 
 abbrev μ-loop : tie.MeasureT-loop
-μ-loop s n c₀ i₀ c i = n - i
+μ-loop s z n c₀ i₀ c i = n - i
 
 cursor-at-requires : tie.Need-cursor-at-requires Inv-loop μ-loop
-cursor-at-requires c κs = (sized-1024, c .before .pre .0)
+cursor-at-requires c κs = (c .before .pre .sized, c .before .pre .accepted)
 
 loop-holds : tie.Need-loop-holds Inv-loop μ-loop
 loop-holds c = (c .cursor-at .ensures, omega arith)
 
 next-row-requires : tie.Need-next-row-requires Inv-loop μ-loop
-next-row-requires c κs = (sized-1024, c .before .before .before .before .pre .0, (c .before .loop .i, c .before .loop .inv .0))
+next-row-requires c κs = (c .before .before .before .before .pre .sized, c .before .before .before .before .pre .accepted, (c .before .loop .i, c .before .loop .inv .0))
 
 -- a step from the place at which the cursor stands
-stepped : (c : tie.After-next-row Inv-loop μ-loop) → Stepped S1024 (now (c .before .before .before .before .before .args .s)) (c .before .before .loop .i) (c .next-row .result)
+stepped : (c : tie.After-next-row Inv-loop μ-loop) → Stepped (c .before .before .before .before .before .args .z) (now (c .before .before .before .before .before .args .s)) (c .before .before .loop .i) (c .next-row .result)
 stepped c = c .next-row .ensures (c .before .before .loop .i) (c .before .before .loop .inv .0)
 
 enum-known-p : tie.Need-enum-known-p Inv-loop μ-loop
@@ -63,10 +62,11 @@ returns-2 : tie.Need-returns-2 Inv-loop μ-loop
 returns-2 c =
     let start = c .before .before .before .before .before .before .before .before in
     let s = now (start .args .s) in
+    let z = start .args .z in
     let i = c .before .before .before .before .before .loop .i in
     let e = subst (Stepped _ _ _) (c .before .enum-told .given .1) (stepped (c .before .before .before)) in
-    let l : i < length (listing S1024 fnv (rowsHeld S1024 s)) = omega (arith, c .before .before .before .before .loop-test .taken, start .pre .1, listing-counts s (start .pre .0)) in
-    absurd (some-row (listing S1024 fnv (rowsHeld S1024 s)) i l e)
+    let l : i < length (listing z fnv (rowsHeld z s)) = omega (arith, c .before .before .before .before .loop-test .taken, start .pre .rows, listing-counts z s (start .pre .sized) (start .pre .accepted)) in
+    absurd (some-row (listing z fnv (rowsHeld z s)) i l e)
 
 listed-requires-2 : tie.Need-listed-requires-2 Inv-loop μ-loop
 listed-requires-2 c κs = search needs
@@ -75,7 +75,8 @@ returns-3 : tie.Need-returns-3 Inv-loop μ-loop
 returns-3 c =
     let start = c .before .before .before .before .before in
     let s = now (start .args .s) in
-    let e : c .before .before .loop .i ≡ length (listing S1024 fnv (rowsHeld S1024 s)) = omega (arith, c .before .before .loop .inv .1, c .before .loop-test .left, start .pre .1, listing-counts s (start .pre .0)) in
+    let z = start .args .z in
+    let e : c .before .before .loop .i ≡ length (listing z fnv (rowsHeld z s)) = omega (arith, c .before .before .loop .inv .1, c .before .loop-test .left, start .pre .rows, listing-counts z s (start .pre .sized) (start .pre .accepted)) in
     subst (λ m. Numbers m (c .listed2 .result)) e (c .listed2 .ensures)
 
 pub list-rows-spec : {M : Type 1} → statement M

@@ -44,6 +44,9 @@ enum-told c = search needs
 enum-told-2 : tie.Need-enum-told-2
 enum-told-2 c = search needs
 
+fault-of-requires : tie.Need-fault-of-requires
+fault-of-requires c κs = search needs
+
 unknown-requires : tie.Need-unknown-requires
 unknown-requires c κs = search needs
 
@@ -144,7 +147,7 @@ returns : tie.Need-returns
 returns c = done (c .before .before) _ (c .enum-told .given .1) (refl, refl)
 
 returns-2 : tie.Need-returns-2
-returns-2 c = done (c .before .before .before) _ (c .before .enum-told2 .given .1) (c .unknown .ensures, refl)
+returns-2 c = done (c .before .before .before .before) _ (c .before .before .enum-told2 .given .1) (c .unknown .ensures, refl)
 
 returns-3 : tie.Need-returns-3
 returns-3 c = done (c .before .before .before) _ (c .before .c .given .1) (refl, refl)
@@ -206,6 +209,7 @@ obey-spec =
     parse-requires
     enum-told
     enum-told-2
+    fault-of-requires
     unknown-requires
     enum-known-c
     enum-known-c-2

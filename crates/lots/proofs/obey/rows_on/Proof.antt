@@ -7,10 +7,10 @@ use Rattle.lots.proofs.obey.rows_on.Statement.{statement}
 use Rattle.lots.proofs.obey.rows_on.Tie as tie
 
 abbrev Inv-loop : tie.InvT-loop
-Inv-loop page code₀ n₀ code n = (n ≤ 78) × (length code ≡ 64)
+Inv-loop page code₀ n₀ code n = (n ≤ length page) × (length code ≡ 64)
 
 abbrev μ-loop : tie.MeasureT-loop
-μ-loop page code₀ n₀ code n = 78 - n
+μ-loop page code₀ n₀ code n = length page - n
 
 loop-holds : tie.Need-loop-holds Inv-loop μ-loop
 loop-holds c = search needs

@@ -1,7 +1,5 @@
 -- `putting::put_allowed` meets its contract. Assumes nothing.
 use Rattle.store.specs.Tables.{putByMode, meaning}
-use Rattle.store.specs.Demands.{sized-1024}
-use Rattle.store.specs.Pages.{S1024}
 use Rattle.page.proofs.Stored.{stored-natural}
 use Rattle.page.specs.Places.{InRange}
 use Rattle.page.specs.Page.{Natural}
@@ -16,7 +14,7 @@ use Rattle.putting.proofs.checked.put_allowed.Tie as tie
 
 -- the place's three numbers are 32, 16 and 16 bits wide
 ranged : (z : tie.Start) → InRange (z .args .place)
-ranged z = let g = z .good .1 .1 .0 .1 .1 in record { page = g .0 .1; slot = g .1 .0 .1; volume = g .1 .1 .0 .1 }
+ranged z = let g = z .good .1 .1 .1 .0 .1 .1 in record { page = g .0 .1; slot = g .1 .0 .1; volume = g .1 .1 .0 .1 }
 
 slice-aggregate-store-place : tie.Need-slice-aggregate-store-place
 slice-aggregate-store-place c = search needs
@@ -32,7 +30,7 @@ put-row-requires c κs =
     let w = c .before .before .before in
     let z = w .before .before .before .before in
     record {
-      sized = sized-1024;
+      sized = z .pre .sized;
       accepted = z .pre .accepted;
       good = z .pre .good;
       natural = subst Natural (sym (w .store-place .ensures)) (stored-natural (z .args .place) (z .pre .natural) (ranged z));
@@ -46,7 +44,7 @@ returns c =
     let w = c .before .before .put-row in
     let y = c .before .before .before .before .before .before in
     let z = y .before .before .before .before in
-    subst (λ x. Answers (putByMode S1024 fnv (now (z .args .s)) (z .args .mode) (newRow (now (z .args .key)) x)) (meaning (w .result), w .last .0)) (y .store-place .ensures) (w .ensures)
+    subst (λ x. Answers (putByMode (z .args .z) fnv (now (z .args .s)) (z .args .mode) (newRow (now (z .args .key)) x)) (meaning (w .result), w .last .0)) (y .store-place .ensures) (w .ensures)
 
 pub put-allowed-spec : {M : Type 1} → statement M
 put-allowed-spec =

@@ -2,7 +2,6 @@
 use Rattle.words.specs.Codes.{GoodCode}
 use Rattle.store.proofs.Demands.Unchecked.{puts-3, puts-4, puts}
 use Rattle.store.specs.Tables.{meaning}
-use Rattle.store.specs.Pages.{S1024}
 use Rattle.page.specs.Places.{Negative}
 use Rattle.hash.specs.Fnv.{fnv}
 use Rattle.ground.proofs.Tests.{says-true, says-false}
@@ -35,7 +34,7 @@ returns : tie.Need-returns
 returns c =
     let z = c .before .before .before .before in
     let a = z .args in
-    puts-3 S1024 fnv (now (a .s)) (z .pre .0) (now (a .key)) (a .place) (a .mode) (says-false {P = GoodCode (now (a .key))} (c .before .good-code .result) (not-true _ (c .if1 .taken)) (c .before .good-code .ensures))
+    puts-3 (a .z) fnv (now (a .s)) (z .pre .accepted) (now (a .key)) (a .place) (a .mode) (says-false {P = GoodCode (now (a .key))} (c .before .good-code .result) (not-true _ (c .if1 .taken)) (c .before .good-code .ensures))
 
 negative-requires : tie.Need-negative-requires
 negative-requires c κs = search needs
@@ -44,10 +43,10 @@ returns-2 : tie.Need-returns-2
 returns-2 c =
     let e = c .before .before in
     let a = z e .args in
-    puts-4 S1024 fnv (now (a .s)) (z e .pre .0) (now (a .key)) (a .place) (a .mode) (good e) (says-true {P = Negative (a .place)} (c .before .negative .result) (c .if2 .taken) (c .before .negative .ensures))
+    puts-4 (a .z) fnv (now (a .s)) (z e .pre .accepted) (now (a .key)) (a .place) (a .mode) (good e) (says-true {P = Negative (a .place)} (c .before .negative .result) (c .if2 .taken) (c .before .negative .ensures))
 
 put-allowed-requires : tie.Need-put-allowed-requires
-put-allowed-requires c κs = let d = c .before in record { accepted = start d .pre .0; good = good (d .before .before); natural = positive d }
+put-allowed-requires c κs = let d = c .before in record { sized = start d .pre .sized; accepted = start d .pre .accepted; good = good (d .before .before); natural = positive d }
 
 same-length : tie.Need-same-length
 same-length c = search needs
@@ -57,7 +56,7 @@ returns-3 c =
     let w = c .before .before .put-allowed in
     let d = c .before .before .before .before in
     let a = start d .args in
-    puts S1024 fnv (now (a .s)) (start d .pre .0) (now (a .key)) (a .place) (a .mode) (meaning (w .result), w .last .0) (good (d .before .before)) (positive d) (start d .pre .1) (w .ensures)
+    puts (a .z) fnv (now (a .s)) (start d .pre .accepted) (now (a .key)) (a .place) (a .mode) (meaning (w .result), w .last .0) (good (d .before .before)) (positive d) (start d .pre .mode) (w .ensures)
 
 pub put-checked-spec : {M : Type 1} → statement M
 put-checked-spec =

@@ -3,10 +3,10 @@ use Rattle.putting.proofs.Splits.{bare-wrote, deep-wrote, one-free, one
 use Rattle.putting.proofs.Weighs.{load-any}
 use Rattle.putting.proofs.Puts.{given-back}
 use Rattle.putting.specs.Put.{newRow}
-use Rattle.putting.specs.Split.{keyed, withNew, Writable, BucketsWritten}
+use Rattle.putting.specs.Split.{keyed, withNew, Bucketed, Writable}
 use Rattle.store.proofs.Accepted.Unique.{within, page-long}
-use Rattle.store.proofs.Paging.Views.{page-lent}
-use Rattle.store.specs.Pages.{size, pages, asRow}
+use Rattle.store.proofs.Paging.Views.{page-lent, set-long}
+use Rattle.store.specs.Pages.{size, pages, page, asRow, setPage}
 use borrow.Author.Needs as Needs
 use Rattle.partition.proofs.Sizes.{twelve}
 use Rattle.partition.specs.declared.Shape.{Shape}
@@ -27,12 +27,13 @@ use Rattle.putting.proofs.split.write_below.Kinds as write-below-kinds
 use Rattle.putting.proofs.split.+write_below.Lts-write_below as write-below-lts
 use Rattle.putting.proofs.bucket.write_bucket.Reads as write-bucket-reads
 use Rattle.putting.proofs.split.next_page.Reads as next-page-reads
+use Rattle.putting.proofs.split.name_bucket.Reads as name-bucket-reads
 use Rattle.putting.proofs.weigh.load.Reads as load-reads
 use Rattle.putting.proofs.split.+write_below.{statement}
 use Rattle.putting.proofs.split.+write_below.Tie.{close}
 
 abbrev μ-write-below : Measures 6 write-below-kinds.ps ℕ
-μ-write-below κs a = a .1 .0 .deepest - a .1 .1 .1 .1 .1 .1 .1 .1 .0
+μ-write-below κs a = a .1 .0 .deepest - a .1 .1 .1 .1 .1 .1 .1 .1 .1 .0
 
 abbrev write-below-at : ℕ → In 6 write-below-kinds.ps
 write-below-at t =
@@ -51,6 +52,8 @@ told t = (
   next-page-reads.Learnt,
   write-bucket-reads.Asked,
   write-bucket-reads.Learnt,
+  name-bucket-reads.Asked,
+  name-bucket-reads.Learnt,
   write-below-below t,
   write-below.Post,
 )
@@ -86,6 +89,12 @@ module _ (t : ℕ) (b : Loaded t) where
 
   abbrev rs : List Row
   rs = withNew (now (z .args .from)) (newRow (now (z .args .key)) (now (z .args .place)))
+
+  abbrev d : ℕ
+  d = z .args .d
+
+  deep : d ≤ S .deepest
+  deep = z .pre .1 .depth
 
   abbrev W : Writable S fnv rs k v s at
   W = z .pre .1 .writable
@@ -124,15 +133,15 @@ write-below-load-requires t c κs =
     (z .pre .1 .weighed, omega (arith, P .deep, twelve (z .args .z) (P .sized)))
 
 write-below-returns : (t : ℕ) → write-below-lts.Need-returns (told t) (write-below-at t) write-below.Post
-write-below-returns t c = let b = c .before in bare-wrote (S t b) fnv (rs t b) (k t b) (v t b) (s t b) (at t b) (W t b) (sym (weight t b) ∙ c .if1 .taken)
+write-below-returns t c = let b = c .before in bare-wrote (S t b) fnv (d t b) (rs t b) (k t b) (v t b) (s t b) (at t b) (deep t b) (W t b) (sym (weight t b) ∙ c .if1 .taken)
 
 write-below-next-page-requires : (t : ℕ) → write-below-lts.Need-next-page-requires (told t) (write-below-at t) write-below.Post
 write-below-next-page-requires t c κs =
-    let d = c .before in
-    let b = d .before .before .before in
-    let n = d .before .before .if1 .left in
-    let l = d .if2 .taken in
-    record { from = W t b .from; to = W t b .to; free = one-free (S t b) fnv (rs t b) (k t b) (v t b) (s t b) (at t b) (W t b) (pos t b n l) (most t b n l) }
+    let y = c .before in
+    let b = y .before .before .before in
+    let n = y .before .before .if1 .left in
+    let l = y .if2 .taken in
+    record { from = W t b .from; to = W t b .to; free = one-free (S t b) fnv (d t b) (rs t b) (k t b) (v t b) (s t b) (at t b) (deep t b) (W t b) (pos t b n l) (most t b n l) }
 
 -- the page that is taken
 module _ (t : ℕ) (c : Paged t) where
@@ -169,10 +178,10 @@ write-below-part-write-bucket-end t c = omega (arith, inside t (c .before))
 write-below-write-bucket-requires : (t : ℕ) → write-below-lts.Need-write-bucket-requires (told t) (write-below-at t) write-below.Post
 write-below-write-bucket-requires t c κs =
     let q = c .before .before in
-    let d = q .before .before in
-    let b = d .before .before .before in
-    let n = d .before .before .if1 .left in
-    let l = d .if2 .taken in
+    let y = q .before .before in
+    let b = y .before .before .before in
+    let n = y .before .before .if1 .left in
+    let l = y .if2 .taken in
     let long = ap length (page-lent (S t b) (s t b) (taken t q)) ∙ page-long (S t b) (s t b) (taken t q) (there t q) in
     let Z = W t b .prefix .sized in
     record {
@@ -185,25 +194,53 @@ write-below-write-bucket-requires t c κs =
       fits = omega (arith, long, most t b n l);
     }
 
+-- the bucket written
+module _ (t : ℕ) (f : write-below-lts.After-write-bucket (told t) (write-below-at t) write-below.Post) where
+  abbrev paged : Paged t
+  paged = f .before .before .before
+
+  abbrev b2 : Loaded t
+  b2 = b1 t paged
+
+  abbrev q : List ℕ
+  q = f .write-bucket .last .0
+
+  bucketed : Bucketed fnv (rs t b2) (k t b2) (v t b2) (page (S t b2) (s t b2) (taken t paged)) q
+  bucketed = rw (page-lent (S t b2) (s t b2) (taken t paged)) at (f .write-bucket .ensures)
+
+  whole : length (setPage (S t b2) (s t b2) (taken t paged) q) ≡ length (s t b2)
+  whole = set-long (S t b2) (s t b2) (taken t paged) q (there t paged) (bucketed .size ∙ page-long (S t b2) (s t b2) (taken t paged) (there t paged))
+
+write-below-name-bucket-requires : (t : ℕ) → write-below-lts.Need-name-bucket-requires (told t) (write-below-at t) write-below.Post
+write-below-name-bucket-requires t c κs =
+    let f = c .before .before .before in
+    let b = b2 t f in
+    let p = taken t (paged t f) in
+    let Z = W t b .prefix .sized in (
+      W t b .prefix,
+      rw (given-back (S t b) (s t b) p (q t f))
+          (record { sized = Z; long = omega (arith, whole t f, within (S t b) (s t b) 1 (omega (arith, W t b .long .least))); deep = deep t b }),
+      omega (arith, there t (paged t f), W t b .long .most, Z .whole, Z .most),
+    )
+
 write-below-same-length : (t : ℕ) → write-below-lts.Need-same-length (told t) (write-below-at t) write-below.Post
 write-below-same-length t c = search Needs.needs
 
 write-below-returns-2 : (t : ℕ) → write-below-lts.Need-returns-2 (told t) (write-below-at t) write-below.Post
 write-below-returns-2 t c =
-    let q = c .before .before .before .before .before in
-    let d = q .before .before in
-    let b = d .before .before .before in
-    let n = d .before .before .if1 .left in
-    let l = d .if2 .taken in
-    let w = c .before .before .write-bucket in
-    subst (λ x. BucketsWritten (S t b) fnv (rs t b) (k t b) (v t b) (s t b) (at t b) x 0) (sym (given-back (S t b) (s t b) (taken t q) (w .last .0)))
-    (one-wrote (S t b) fnv (rs t b) (k t b) (v t b) (s t b) (at t b) (W t b) (pos t b n l) (most t b n l) (taken t q) (q .next-page .ensures .0) (there t q) (w .last .0)
-    (rw (page-lent (S t b) (s t b) (taken t q)) at (w .ensures)))
+    let f = c .before .before .before .before .before .before in
+    let b = b2 t f in
+    let p = paged t f in
+    let y = p .before .before in
+    let n = y .before .before .if1 .left in
+    let l = y .if2 .taken in
+    one-wrote (S t b) fnv (d t b) (rs t b) (k t b) (v t b) (s t b) (at t b) (deep t b) (W t b) (pos t b n l) (most t b n l) (taken t p) (p .next-page .ensures .0) (there t p) (q t f) (bucketed t f)
+    (c .before .before .name-bucket .last .0) (rw (given-back (S t b) (s t b) (taken t p) (q t f)) at (c .before .before .name-bucket .ensures))
 
 write-below-returns-3 : (t : ℕ) → write-below-lts.Need-returns-3 (told t) (write-below-at t) write-below.Post
 write-below-returns-3 t c =
     let b = c .before .before .before .before .before in
-    deep-wrote (S t b) fnv (rs t b) (k t b) (v t b) (s t b) (at t b) (W t b) (omega (arith, weight t b, c .before .before .if2 .left)) (c .if3 .taken)
+    deep-wrote (S t b) fnv (d t b) (rs t b) (k t b) (v t b) (s t b) (at t b) (deep t b) (W t b) (omega (arith, weight t b, c .before .before .if2 .left)) (c .if3 .taken)
 
 write-below-add-write-below : (t : ℕ) → write-below-lts.Need-add-write-below (told t) (write-below-at t) write-below.Post
 write-below-add-write-below t c = omega (arith, low t (c .before .before .before .before .before .before))
@@ -213,15 +250,16 @@ write-below-mul-write-below t c = omega (arith, small t (c .before .before .befo
 
 write-below-write-below-requires : (t : ℕ) → write-below-lts.Need-write-below-requires (told t) (write-below-at t) write-below.Post
 write-below-write-below-requires t c κs =
-    let d = c .before in
-    let b = d .before .before .before .before .before in
-    let o = d .before .before .if2 .left in
-    let n = d .if3 .left in (
+    let y = c .before in
+    let b = y .before .before .before .before .before in
+    let o = y .before .before .if2 .left in
+    let n = y .if3 .left in (
       omega (arith, z t b .pre .0, shallow t b o n),
       record {
+        depth = z t b .pre .1 .depth;
         source = z t b .pre .1 .source;
         weighed = z t b .pre .1 .weighed;
-        writable = half-ready (S t b) fnv (rs t b) (k t b) (v t b) (s t b) (at t b) (W t b) (shallow t b o n) (over t b o n);
+        writable = half-ready (S t b) fnv (d t b) (rs t b) (k t b) (v t b) (s t b) (at t b) (deep t b) (W t b) (shallow t b o n) (over t b o n);
       },
     )
 
@@ -236,16 +274,17 @@ write-below-add-write-below-3 t c = omega (arith, small t (c .before .before .be
 
 write-below-write-below-requires-2 : (t : ℕ) → write-below-lts.Need-write-below-requires-2 (told t) (write-below-at t) write-below.Post
 write-below-write-below-requires-2 t c κs =
-    let d = c .before .before .before .before .before in
-    let b = d .before .before .before .before .before in
-    let o = d .before .before .if2 .left in
-    let n = d .if3 .left in
+    let y = c .before .before .before .before .before in
+    let b = y .before .before .before .before .before in
+    let o = y .before .before .if2 .left in
+    let n = y .if3 .left in
     let w = c .before .before .before .write-below in (
       omega (arith, z t b .pre .0, shallow t b o n),
       record {
+        depth = z t b .pre .1 .depth;
         source = z t b .pre .1 .source;
         weighed = z t b .pre .1 .weighed;
-        writable = other-ready (S t b) fnv (rs t b) (k t b) (v t b) (s t b) (at t b) (W t b) (shallow t b o n) (over t b o n) (w .last .0) (w .result) (w .ensures);
+        writable = other-ready (S t b) fnv (d t b) (rs t b) (k t b) (v t b) (s t b) (at t b) (deep t b) (W t b) (shallow t b o n) (over t b o n) (w .last .0) (w .result) (w .ensures);
       },
     )
 
@@ -254,13 +293,13 @@ write-below-same-length-2 t c = search Needs.needs
 
 write-below-returns-4 : (t : ℕ) → write-below-lts.Need-returns-4 (told t) (write-below-at t) write-below.Post
 write-below-returns-4 t c =
-    let d = c .before .before .before .before .before .before .before .before in
-    let b = d .before .before .before .before .before in
-    let o = d .before .before .if2 .left in
-    let n = d .if3 .left in
+    let y = c .before .before .before .before .before .before .before .before in
+    let b = y .before .before .before .before .before in
+    let o = y .before .before .if2 .left in
+    let n = y .if3 .left in
     let w = c .before .before .before .before .before .before .write-below in
     let u = c .before .before .write-below2 in
-    both-wrote (S t b) fnv (rs t b) (k t b) (v t b) (s t b) (at t b) (W t b) (shallow t b o n) (over t b o n) (w .last .0) (w .result) (w .ensures) (u .last .0) (u .result) (u .ensures)
+    both-wrote (S t b) fnv (d t b) (rs t b) (k t b) (v t b) (s t b) (at t b) (deep t b) (W t b) (shallow t b o n) (over t b o n) (w .last .0) (w .result) (w .ensures) (u .last .0) (u .result) (u .ensures)
 
 pub +write-below-spec : {M : Type 1} → statement M
 +write-below-spec = close μ-write-below λ t. write-below-lts.spec (told t) (write-below-at t) write-below.Post
@@ -274,6 +313,7 @@ pub +write-below-spec : {M : Type 1} → statement M
     (write-below-part-write-bucket-start t)
     (write-below-part-write-bucket-end t)
     (write-below-write-bucket-requires t)
+    (write-below-name-bucket-requires t)
     (write-below-same-length t)
     (write-below-returns-2 t)
     (write-below-returns-3 t)

@@ -1,12 +1,14 @@
 -- `putting::split` meets its contract: refusals 6 and 7, else the new buckets, then the directory. Assumes nothing.
-use Rattle.putting.proofs.Heavy.{home, shallow, heavy-six, heavy-seven, as-many, source, writable, heavy-new}
+use Rattle.putting.proofs.Heavy.{home, shallow, heavy-six, heavy-seven, as-many, source, writable-then, split-kept, split-directed, heavy-new}
+use Rattle.directory.specs.Directory.{PrefixNamed, Directed}
 use Rattle.directory.proofs.Settles.{long-pages, settling}
+use Rattle.store.proofs.Accepted.Rules.{opened}
 use Rattle.putting.specs.Put.{newRow, Crowded}
 use Rattle.putting.specs.Split.{keyed, withNew, below, pagesBelow, Source, Writable, BucketsWritten}
 use Rattle.store.proofs.Put.EveryStep.{Roomy, every-step, packed-used}
 use Rattle.store.proofs.Accepted.Unique.{within, page-long}
 use Rattle.store.proofs.Paging.Views.{page-lent}
-use Rattle.store.specs.Pages.{size, page, contents}
+use Rattle.store.specs.Pages.{size, pages, page, dirDepth, contents}
 use Rattle.partition.specs.declared.Shape.{Shape}
 use Rattle.partition.specs.Partition.{Row, needs, rowsOf}
 use Rattle.partition.proofs.Bits.{top-lt}
@@ -19,6 +21,7 @@ use Rattle.hash.specs.Fnv.{fnv, fnv-lt}
 use denote.Ref.{now}
 use lib.ListN.{length}
 use native.Mathlib.Omega.{arith}
+use native.Mathlib.Nat.{mul-le-mul-right}
 use Prim.Native.Nat.{ℕ, _+_, _*_, _-_, _^_, _≤_, _<_}
 use mathlib.Core.List.{List}
 use mathlib.Core.Path.{_≡_, sym, ap, subst, _∙_}
@@ -275,52 +278,138 @@ returns-2 c =
     let z = z3 d in
     heavy-seven (S z) fnv fnv-lt (s z) (p z) (i z) (key z) (place z) (C z) (fine d) (omega (arith, number d, c .before .free-pages .ensures .0, c .if2 .taken))
 
+-- the directory's depth
+module _ (m : tie.After-get32) where
+  abbrev w5 : tie.Else2
+  w5 = m .before .before
+
+  abbrev z5 : tie.Start
+  z5 = z4 w5
+
+  abbrev b5 : tie.After-copy-at
+  b5 = b2 (t3 (d4 w5))
+
+  depth-read : m .get32 .result ≡ dirDepth (s z5)
+  depth-read = m .get32 .ensures .0
+
+  depth-low : m .get32 .result ≤ S z5 .deepest
+  depth-low = omega (arith, depth-read, opened (S z5) fnv (s z5) (C z5 .row .row .accepted) .page0 .depth)
+
+-- the entries that the page called for name none
+module _ (y : tie.After-name-prefix) where
+  abbrev m6 : tie.After-get32
+  m6 = y .before .before
+
+  abbrev z6 : tie.Start
+  z6 = z5 m6
+
+  abbrev b6 : tie.After-copy-at
+  b6 = b5 m6
+
+  abbrev s₁ : List ℕ
+  s₁ = y .name-prefix .last .0
+
+  freed : PrefixNamed (S z6) (s z6) (dirDepth (s z6)) (depth (g z6)) (v z6) 0 s₁
+  freed =
+      subst (λ d. PrefixNamed (S z6) (s z6) d (depth (g z6)) (v z6) 0 s₁) (depth-read m6)
+      (subst (λ g. PrefixNamed (S z6) (s z6) (m6 .get32 .result) (depth g) (top (depth g) (fnv (key z6))) 0 s₁) (copied b6)
+      (subst (λ x. PrefixNamed (S z6) (s z6) (m6 .get32 .result) (depth (from b6)) (top (depth (from b6)) x) 0 s₁) (t3 (d4 (w5 m6)) .before .before .before .before .before .before .before .before .before .before .hash .ensures) (y .name-prefix .ensures)))
+
+-- the new buckets
+module _ (x : tie.After-write-below) where
+  abbrev y7 : tie.After-name-prefix
+  y7 = x .before .before .before .before .before .before .before
+
+  abbrev z7 : tie.Start
+  z7 = z6 y7
+
+  abbrev w7 : tie.Else2
+  w7 = w5 (m6 y7)
+
+  abbrev t7 : List ℕ
+  t7 = x .write-below .last .0
+
+  wrote : BucketsWritten (S z7) fnv (dirDepth (s z7)) (withNew (g z7) (newRow (key z7) (place z7))) (depth (g z7)) (v z7) (s₁ y7) (p z7) t7 (x .write-below .result)
+  wrote =
+      let n = x .write-below .result in
+      subst (λ d. BucketsWritten (S z7) fnv d (withNew (g z7) (newRow (key z7) (place z7))) (depth (g z7)) (v z7) (s₁ y7) (p z7) t7 n) (depth-read (m6 y7))
+      (subst (λ g. BucketsWritten (S z7) fnv (m6 y7 .get32 .result) (withNew g (newRow (key z7) (place z7))) (depth g) (top (depth g) (fnv (key z7))) (s₁ y7) (p z7) t7 n) (copied (b6 y7))
+      (subst (λ v. BucketsWritten (S z7) fnv (m6 y7 .get32 .result) (withNew (from (b6 y7)) (newRow (key z7) (place z7))) (depth (from (b6 y7))) v (s₁ y7) (p z7) t7 n) (prefix (t3 (d4 w7))) (x .write-below .ensures)))
+
+get32-requires : tie.Need-get32-requires
+get32-requires c κs = let z = z4 (c .before) in omega (arith, inside z, C z .row .row .sized .least)
+
+cast-name-prefix : tie.Need-cast-name-prefix
+cast-name-prefix c = let m = c .before in omega (arith, depth-low m, twelve-at-most (z5 m))
+
+name-prefix-requires : tie.Need-name-prefix-requires
+name-prefix-requires c κs =
+    let m = c .before in
+    let z = z5 m in
+    let H = home (S z) fnv fnv-lt (s z) (p z) (i z) (key z) (place z) (C z) in (
+      C z .row .row .sized,
+      record {
+        long = omega (arith, inside z, mul-le-mul-right (size (S z)) (H .from));
+        low = omega (arith, depth-read m, H .low, ap depth (copied (b5 m)));
+        deep = depth-low m;
+        word = omega arith;
+      },
+    )
+
+cast-write-below : tie.Need-cast-write-below
+cast-write-below c = let m = m6 (c .before .before .before) in omega (arith, depth-low m, twelve-at-most (z5 m))
+
 write-below-requires : tie.Need-write-below-requires
 write-below-requires c κs =
-    let w = c .before .before .before .before in
-    let z = z4 w in
+    let y = c .before .before .before .before .before .before in
+    let w = w5 (m6 y) in
+    let z = z6 y in
     let t = t3 (d4 w) in
     let b = b2 t in
     let f = fine (d4 w) in
     record {
+      depth = depth-low (m6 y);
       source = subst (λ g. Source g (i z) (key z) (place z)) (sym (copied b)) (source (S z) fnv fnv-lt (s z) (p z) (i z) (key z) (place z) (C z) f (room w));
       weighed = g2 t .gather .ensures;
-      writable = subst (λ v. Writable (S z) fnv (withNew (from b) (newRow (key z) (place z))) (depth (from b)) v (s z) (p z)) (sym (prefix t))
-          (subst (λ g. Writable (S z) fnv (withNew g (newRow (key z) (place z))) (depth g) (top (depth g) (fnv (key z))) (s z) (p z)) (sym (copied b))
-          (writable (S z) fnv fnv-lt (s z) (p z) (i z) (key z) (place z) (C z) f (room w)));
+      writable = subst (λ v. Writable (S z) fnv (withNew (from b) (newRow (key z) (place z))) (depth (from b)) v (s₁ y) (p z)) (sym (prefix t))
+          (subst (λ g. Writable (S z) fnv (withNew g (newRow (key z) (place z))) (depth g) (top (depth g) (fnv (key z))) (s₁ y) (p z)) (sym (copied b))
+          (writable-then (S z) fnv fnv-lt (s z) (p z) (i z) (key z) (place z) (C z) f (room w) (s₁ y) (freed y)));
     }
 
-settle-requires : tie.Need-settle-requires
-settle-requires c κs =
-    let y = c .before .before .before in
-    let z = z4 (y .before .before .before .before .before) in
+settle-depth-requires : tie.Need-settle-depth-requires
+settle-depth-requires c κs =
+    let x = c .before .before .before in
+    let z = z7 x in
+    let w = w7 x in
     let P = C z .row .row in
-    (P .sized, settling (S z) (P .sized) fnv fnv-lt (s z) (P .accepted) (y .write-below .last .0) (y .write-below .ensures .pages))
+    let f = fine (d4 w) in
+    let n = x .write-below .result in
+    let q = depth-read (m6 (y7 x)) in (
+      P .sized,
+      settling (S z) (P .sized) fnv fnv-lt (s z) (P .accepted) (t7 x) (split-kept (S z) fnv fnv-lt (s z) (p z) (i z) (key z) (place z) (C z) f (room w) (s₁ (y7 x)) (freed (y7 x)) (t7 x) n (wrote x)),
+      (λ e. subst (λ d. Directed (S z) fnv (t7 x) d (pages (S z) (s z)) (t7 x)) (sym q)
+          (split-directed (S z) fnv fnv-lt (s z) (p z) (i z) (key z) (place z) (C z) f (room w) (s₁ (y7 x)) (freed (y7 x)) (t7 x) n (wrote x) (e ∙ q))),
+    )
 
 same-length-9 : tie.Need-same-length-9
 same-length-9 c = search Needs.needs
 
 same-length-10 : tie.Need-same-length-10
-same-length-10 c = lent-page (t3 (d4 (c .before .before .before .before .before .before .before .before .before .before .before)))
+same-length-10 c = lent-page (t3 (d4 (w7 (c .before .before .before .before .before .before))))
 
 same-length-11 : tie.Need-same-length-11
-same-length-11 c = lent-hashes (t3 (d4 (c .before .before .before .before .before .before .before .before .before .before .before)))
+same-length-11 c = lent-hashes (t3 (d4 (w7 (c .before .before .before .before .before .before))))
 
 same-length-12 : tie.Need-same-length-12
-same-length-12 c = lent-needs (t3 (d4 (c .before .before .before .before .before .before .before .before .before .before .before)))
+same-length-12 c = lent-needs (t3 (d4 (w7 (c .before .before .before .before .before .before))))
 
 returns-3 : tie.Need-returns-3
 returns-3 c =
-    let y = c .before .before .before .before .before .before in
-    let w = y .before .before .before .before .before in
-    let z = z4 w in
-    let t = t3 (d4 w) in
-    let b = b2 t in
-    let n = y .write-below in
-    heavy-new (S z) fnv fnv-lt (s z) (p z) (i z) (key z) (place z) (C z) (fine (d4 w)) (room w) (n .last .0) (n .result)
-    (subst (λ g. BucketsWritten (S z) fnv (withNew g (newRow (key z) (place z))) (depth g) (top (depth g) (fnv (key z))) (s z) (p z) (n .last .0) (n .result)) (copied b)
-    (subst (λ v. BucketsWritten (S z) fnv (withNew (from b) (newRow (key z) (place z))) (depth (from b)) v (s z) (p z) (n .last .0) (n .result)) (prefix t) (n .ensures)))
-    (c .before .before .settle .last .0) (c .before .before .settle .ensures) (λ k. (c .slice-known10 .given k) .fits)
+    let x = c .before .before .before .before .before .before in
+    let z = z7 x in
+    let w = w7 x in
+    heavy-new (S z) fnv fnv-lt (s z) (p z) (i z) (key z) (place z) (C z) (fine (d4 w)) (room w) (s₁ (y7 x)) (freed (y7 x)) (t7 x) (x .write-below .result) (wrote x)
+    (c .before .before .settle-depth .last .0) (c .before .before .settle-depth .ensures) (λ k. (c .slice-known11 .given k) .fits)
 
 pub split-spec : {M : Type 1} → statement M
 split-spec =
@@ -355,8 +444,12 @@ split-spec =
     same-length-7
     same-length-8
     returns-2
+    get32-requires
+    cast-name-prefix
+    name-prefix-requires
+    cast-write-below
     write-below-requires
-    settle-requires
+    settle-depth-requires
     same-length-9
     same-length-10
     same-length-11

@@ -10,17 +10,16 @@ use Rattle.store.specs.Moves.{pick, find, within}
 use Rattle.partition.specs.declared.Shape.{Shape}
 use Rattle.store.specs.Pages.{size, page, read, contents, setPage}
 use Rattle.removal.specs.Join.{Emptied}
-use Rattle.removal.specs.Prefix.{Testable}
-use Rattle.removal.proofs.Prefixes.{page-there, page-testable}
+use Rattle.removal.proofs.Prefixes.{page-tested}
 use Rattle.removal.proofs.Empties.{lowest, emptied-none, lowest-none, emptied-next, lowest-next, still}
 use Rattle.removal.proofs.join.clear_all.Statement.{statement}
 use Rattle.removal.proofs.join.clear_all.Tie as tie
 
 abbrev Inv-loop : tie.InvT-loop
-Inv-loop s₀ z n j v low₀ p₀ s low p = (2 ≤ p) × (p ≤ n) × Emptied z fnv s₀ n j v p s × (low ≡ p + find (within fnv j v) (drop (p - 2) (contents z s₀)))
+Inv-loop s₀ z n j v a b low₀ p₀ s low p = (2 ≤ p) × (p ≤ n) × Emptied z fnv s₀ n j v p s × (low ≡ p + find (within fnv j v) (drop (p - 2) (contents z s₀)))
 
 abbrev μ-loop : tie.MeasureT-loop
-μ-loop s₀ z n j v low₀ p₀ s low p = p
+μ-loop s₀ z n j v a b low₀ p₀ s low p = p
 
 -- page p, in a turn
 module _ (b : tie.In-loop Inv-loop μ-loop) where
@@ -65,11 +64,10 @@ sub-p : tie.Need-sub-p Inv-loop μ-loop
 sub-p c = omega arith
 
 clear-if-requires : tie.Need-clear-if-requires Inv-loop μ-loop
-clear-if-requires c κs = let b = c .before in
-    let P = z b .pre in (
-      omega (arith, emptied b .long, page-there (S b) (s b) (z b .args .n) (P .sound) (p b) (to b)),
-      subst (λ g. Testable g (z b .args .j)) (sym (same b)) (page-testable (S b) (s b) (z b .args .n) (P .sound) (P .sized) (z b .args .j) (P .bits) (p b) (two b) (to b)),
-    )
+clear-if-requires c κs =
+    let b = c .before in
+    let a = z b .args in
+    page-tested (S b) fnv (s b) (a .n) (a .j) (a .v) (a .a) (a .b) (z b .pre) (t b) (emptied b .long) (emptied b .low) (p b) (two b) (to b) (same b)
 
 loop-less : tie.Need-loop-less Inv-loop μ-loop
 loop-less c = omega arith

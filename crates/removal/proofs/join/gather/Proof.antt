@@ -1,27 +1,26 @@
 -- `removal::gather` meets its contract: page after page. Assumes nothing.
 use mathlib.Core.List.{List, _++_}
-use mathlib.Core.Path.{_≡_, subst, _∙_}
-use Prim.Native.Nat.{ℕ, _+_, _-_, _*_, _≤_}
+use mathlib.Core.Path.{_≡_, refl, subst, _∙_}
+use Prim.Native.Nat.{ℕ, _+_, _-_, _≤_}
 use native.Mathlib.Omega.{arith}
 use lib.ListN.{length, drop}
 use denote.Ref.{now}
 use Rattle.hash.specs.Fnv.{fnv}
 use Rattle.partition.specs.Partition.{Row}
 use Rattle.partition.specs.declared.Shape.{Shape}
-use Rattle.store.specs.Pages.{size, Page, page, contents, read}
-use Rattle.store.proofs.Paging.Views.{page-lent}
+use Rattle.store.specs.Pages.{Page, page, contents, read}
 use Rattle.directory.specs.Directory.{Settling}
 use Rattle.removal.specs.Join.{othersOn, othersIn}
-use Rattle.removal.proofs.Prefixes.{page-there, page-testable, page-at, listed}
+use Rattle.removal.proofs.Prefixes.{page-tested, page-at, listed}
 use Rattle.removal.proofs.Gathers.{Coming, coming-all, coming-none, next-taking, next-coming, pages-next, pages-end}
 use Rattle.removal.proofs.join.gather.Statement.{statement}
 use Rattle.removal.proofs.join.gather.Tie as tie
 
 abbrev Inv-loop : tie.InvT-loop
-Inv-loop to₀ s z n j v key p₀ to p = (2 ≤ p) × (p ≤ n) × Coming to₀ (othersIn fnv j v key (contents z s)) (othersIn fnv j v key (drop (p - 2) (contents z s))) to
+Inv-loop to₀ s z n j v a b key p₀ to p = (2 ≤ p) × (p ≤ n) × Coming to₀ (othersIn fnv j v key (contents z s)) (othersIn fnv j v key (drop (p - 2) (contents z s))) to
 
 abbrev μ-loop : tie.MeasureT-loop
-μ-loop to₀ s z n j v key p₀ to p = n - p
+μ-loop to₀ s z n j v a b key p₀ to p = n - p
 
 -- page p, in a turn
 module _ (b : tie.In-loop Inv-loop μ-loop) where
@@ -49,9 +48,6 @@ module _ (b : tie.In-loop Inv-loop μ-loop) where
   abbrev here : List Row
   here = othersOn fnv (z .args .j) (z .args .v) (now (z .args .key)) (read (page S s p))
 
-  there : p * size S + size S ≤ length s
-  there = page-there S s (z .args .n) P p (b .loop-test .taken)
-
   coming : Coming (now (z .args .to)) (from gs) (here ++ from (drop (p + 1 - 2) gs)) (b .before .loop .to)
   coming =
       let two = b .before .loop .inv .0 in
@@ -65,28 +61,11 @@ module _ (b : tie.In-loop Inv-loop μ-loop) where
 loop-holds : tie.Need-loop-holds Inv-loop μ-loop
 loop-holds c = (omega arith, omega (arith, c .before .before .before .pre .0 .sound .least), coming-all (c .before .before .before .pre .1))
 
-add-size : tie.Need-add-size Inv-loop μ-loop
-add-size c = omega (arith, there (c .before))
-
-mul-a : tie.Need-mul-a Inv-loop μ-loop
-mul-a c = omega (arith, there (c .before))
-
-add-e : tie.Need-add-e Inv-loop μ-loop
-add-e c = omega (arith, there (c .before))
-
-sub-add-page : tie.Need-sub-add-page Inv-loop μ-loop
-sub-add-page c = omega arith
-
-part-add-page-start : tie.Need-part-add-page-start Inv-loop μ-loop
-part-add-page-start c = omega (arith, there (c .before .before))
-
-part-add-page-end : tie.Need-part-add-page-end Inv-loop μ-loop
-part-add-page-end c = omega (arith, there (c .before .before))
-
 add-page-requires : tie.Need-add-page-requires Inv-loop μ-loop
-add-page-requires c κs = let b = c .before .before .before in
-    rw (page-lent (S b) (s b) (p b)) (
-      page-testable (S b) (s b) (z b .args .n) (P b) (z b .pre .0 .sized) (z b .args .j) (z b .pre .0 .bits) (p b) (b .before .loop .inv .0) (b .loop-test .taken),
+add-page-requires c κs =
+    let b = c .before in
+    let a = z b .args in (
+      page-tested (S b) fnv (s b) (a .n) (a .j) (a .v) (a .a) (a .b) (z b .pre .0) (s b) refl (λ k l. refl) (p b) (b .before .loop .inv .0) (b .loop-test .taken) refl,
       next-taking (here b) (from b (drop (p b + 1 - 2) (gs b))) (coming b) (z b .pre .1),
     )
 
@@ -97,8 +76,8 @@ loop-less : tie.Need-loop-less Inv-loop μ-loop
 loop-less c = omega arith
 
 loop-again : tie.Need-loop-again Inv-loop μ-loop
-loop-again c = let b = c .before .before .before .before .before .before in
-    (omega arith, omega arith, next-coming (here b) (from b (drop (p b + 1 - 2) (gs b))) (coming b) (rw (page-lent (S b) (s b) (p b)) at (c .before .before .add-page .ensures)))
+loop-again c = let b = c .before .before .before .before in
+    (omega arith, omega arith, next-coming (here b) (from b (drop (p b + 1 - 2) (gs b))) (coming b) (c .before .before .add-page .ensures))
 
 same-length : tie.Need-same-length Inv-loop μ-loop
 same-length c = c .before .loop .inv .2 .long
@@ -118,12 +97,6 @@ gather-spec =
     Inv-loop
     μ-loop
     loop-holds
-    add-size
-    mul-a
-    add-e
-    sub-add-page
-    part-add-page-start
-    part-add-page-end
     add-page-requires
     add-p
     loop-less

@@ -29,15 +29,15 @@ module _ (z : tie.Start) where
   abbrev key : List ℕ
   key = now (z .args .key)
 
-  prefixed : Prefixed S s (z .args .n) (z .args .j)
-  prefixed = record { sized = z .pre .0 .sized; sound = z .pre .1 .sound; bits = z .pre .1 .bits }
+  prefixed : Prefixed S fnv s (z .args .n) (z .args .j) (z .args .v) (z .args .a) (z .args .b)
+  prefixed = z .pre .1 .prefix
 
   lent-long : length (now (z .args .scratch)) ≡ size S
   lent-long = ap length (z .pre .0 .blank) ∙ length-replicate {A = ℕ} (size S) 0
 
   -- the lowest-numbered page of the prefix is there
   bound : 2 + find (within fnv (z .args .j) (z .args .v)) (contents S s) < z .args .n
-  bound = low-within S fnv s (z .args .n) (z .args .j) (z .args .v) key (z .pre .1)
+  bound = low-within S fnv s (z .args .n) (z .args .j) (z .args .v) (z .args .a) (z .args .b) key (z .pre .1)
 
 -- the rows are gathered, the pages cleared
 module _ (c : tie.After-clear-all) where
@@ -50,13 +50,13 @@ module _ (c : tie.After-clear-all) where
   there : low * size (S z₁) + size (S z₁) ≤ length (c .clear-all .last .0)
   there =
       let m : low < z₁ .args .n = omega (arith, bound z₁, c .clear-all .ensures .1) in
-      omega (arith, c .clear-all .ensures .0 .long, z₁ .pre .1 .sound .long, apart (size (S z₁)) low (z₁ .args .n) m)
+      omega (arith, c .clear-all .ensures .0 .long, z₁ .pre .1 .prefix .sound .long, apart (size (S z₁)) low (z₁ .args .n) m)
 
   gathered-long : length (c .before .before .before .before .gather .last .0) ≡ size (S z₁)
   gathered-long = c .before .before .before .before .gather .ensures .long ∙ c .before .before .before .before .before .before .before .before .before .new-page .ensures .long ∙ lent-long z₁
 
 cast-new-page : tie.Need-cast-new-page
-cast-new-page c = let z = c .before .before .before .before in record { fits = omega (arith, z .pre .1 .bits, twelve (S z) (z .pre .0 .sized)) }
+cast-new-page c = let z = c .before .before .before .before in record { fits = omega (arith, z .pre .1 .prefix .bits, twelve (S z) (z .pre .0 .sized)) }
 
 new-page-requires : tie.Need-new-page-requires
 new-page-requires c κs = let z = c .before .before .before .before in (omega (arith, lent-long z, z .pre .0 .sized .least), omega (arith, lent-long z, z .pre .0 .sized .most))
@@ -72,11 +72,11 @@ clear-all-requires c κs = prefixed (c .before .before .before .before .before .
 add-size : tie.Need-add-size
 add-size c = omega (arith, there (c .before .before .before))
 
-mul-a : tie.Need-mul-a
-mul-a c = omega (arith, there (c .before .before .before))
+mul-start : tie.Need-mul-start
+mul-start c = omega (arith, there (c .before .before .before))
 
-add-e : tie.Need-add-e
-add-e c = omega (arith, there (c .before .before .before))
+add-end : tie.Need-add-end
+add-end c = omega (arith, there (c .before .before .before))
 
 sub-pack-into : tie.Need-sub-pack-into
 sub-pack-into c = omega arith
@@ -107,10 +107,10 @@ returns c = let u = c .before .before .before .before .before .before .before .b
     let t = u .clear-all .last .0 in
     let k = c .before .before .before .before .before .before .pack-into in
     let a = low u * size (S z) in (
-      subst (Rejoined (S z) fnv (s z) (z .args .n) (z .args .j) (z .args .v) (key z))
-          (sym (page-back (S z) t (k .last .0) (low u) a (a + size (S z)) refl refl ∙ ap (λ p. setPage (S z) t p (k .last .0)) (u .clear-all .ensures .1)))
-          (rejoined (S z) fnv (s z) (z .args .n) (z .args .j) (z .args .v) (key z) (z .pre .1) (lent-long z)
-          (u .before .before .before .before .before .before .before .before .before .new-page .ensures) (u .before .before .before .before .gather .ensures) (u .clear-all .ensures .0) (k .ensures)),
+      subst (Rejoined (S z) fnv (s z) (z .args .n) (z .args .j) (z .args .v) (key z) (low u)) (sym (page-back (S z) t (k .last .0) (low u) a (a + size (S z)) refl refl))
+          (subst (λ p. Rejoined (S z) fnv (s z) (z .args .n) (z .args .j) (z .args .v) (key z) p (setPage (S z) t p (k .last .0))) (sym (u .clear-all .ensures .1))
+          (rejoined (S z) fnv (s z) (z .args .n) (z .args .j) (z .args .v) (z .args .a) (z .args .b) (key z) (z .pre .1) (lent-long z)
+          (u .before .before .before .before .before .before .before .before .before .new-page .ensures) (u .before .before .before .before .gather .ensures) (u .clear-all .ensures .0) (k .ensures))),
       c .before .before .clear-page .ensures ∙ ap (λ m. replicate m 0) (gathered-long u) ∙ sym (z .pre .0 .blank),
     )
 
@@ -123,8 +123,8 @@ join-spec =
     gather-requires
     clear-all-requires
     add-size
-    mul-a
-    add-e
+    mul-start
+    add-end
     sub-pack-into
     part-pack-into-start
     part-pack-into-end

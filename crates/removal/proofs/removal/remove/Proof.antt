@@ -1,46 +1,71 @@
 -- `removal::remove` meets its contract: the refusals in order, then the row on an accepted store. Assumes nothing.
 use borrow.Author.Tests.{not-true, not-false}
 use borrow.Author.Needs.{needs}
-use mathlib.Core.Logic.{inl, inr}
-use mathlib.Core.Path.{refl}
 use denote.Ref.{now}
+use mathlib.Core.List.{List}
+use mathlib.Core.Logic.{inl, inr}
+use mathlib.Core.Path.{_≡_, refl, subst}
+use native.Mathlib.Omega.{arith}
+use Prim.Native.Nat.{ℕ}
+use Rattle.ground.specs.Ladder.{Answers}
 use Rattle.ground.proofs.Tests.{says-true, says-false}
 use Rattle.hash.specs.Fnv.{fnv}
+use Rattle.words.specs.Codes.{GoodCode}
+use Rattle.partition.specs.declared.Shape.{Shape}
+use Rattle.partition.specs.Sizes.{shapeOf}
+use Rattle.store.specs.Tables.{removeTable, refusedAt, meaning}
+use Rattle.store.specs.Demands.{Sized}
+use Rattle.store.specs.Accepted.{GoodLength}
 use Rattle.store.proofs.Accepted.Rules.{accepted-whole}
 use Rattle.store.proofs.Demands.Kept.{three, no-three}
-use Rattle.words.specs.Codes.{GoodCode}
-use Rattle.store.specs.Tables.{removeTable}
-use Rattle.store.specs.Accepted.{GoodLength}
-use Rattle.store.specs.Demands.{sized-1024}
-use Rattle.store.specs.Pages.{S1024}
+use Rattle.store_check.specs.Said.{SaidShape}
+use Rattle.store_check.proofs.Said.{said-sized}
 use Rattle.removal.proofs.removal.remove.Statement.{statement}
 use Rattle.removal.proofs.removal.remove.Tie as tie
 
 -- past the length
-module _ (c : tie.Else1) where
-  abbrev z : tie.Start
-  z = c .before .before .before .before .before
+module _ (c : tie.After-known-told) where
+  abbrev start : tie.Start
+  start = c .before .before .before .before .before .before .before
 
-  long : GoodLength S1024 (now (z .args .s))
-  long = says-true {P = GoodLength S1024 (now (z .args .s))} (c .before .good-length .result) (not-false _ (c .if1 .left)) (c .before .good-length .ensures)
+  abbrev store : List ℕ
+  store = now (start .args .s)
+
+  abbrev key : List ℕ
+  key = now (start .args .key)
+
+  abbrev z : Shape
+  z = c .before .z .given .0 .0
+
+  said : (z ≡ shapeOf store) × GoodLength z store
+  said = subst (SaidShape store) (c .before .z .given .1) (c .before .before .before .said-shape .ensures)
+
+  sized : Sized z
+  sized = said-sized store z (said .0)
 
 -- past the door
-module _ (c : tie.Else2) where
-  abbrev earlier : tie.Else1
-  earlier = c .before .before
+module _ (c : tie.Else1) where
+  abbrev first : tie.After-known-told
+  first = c .before .before
 
-  good : GoodCode (now (z earlier .args .key))
-  good = says-true {P = GoodCode (now (z earlier .args .key))} (c .before .good-code .result) (not-false _ (c .if2 .left)) (c .before .good-code .ensures)
+  good : GoodCode (key first)
+  good = says-true {P = GoodCode (key first)} (c .before .good-code .result) (not-false _ (c .if1 .left)) (c .before .good-code .ensures)
 
-good-length-requires : tie.Need-good-length-requires
-good-length-requires c κs = sized-1024
+said-shape-requires : tie.Need-said-shape-requires
+said-shape-requires c κs = search needs
+
+enum-known-z : tie.Need-enum-known-z
+enum-known-z c = search needs
+
+enum-told : tie.Need-enum-told
+enum-told c = search needs
 
 same-length : tie.Need-same-length
 same-length c = search needs
 
 returns : tie.Need-returns
 unfolding removeTable
-returns c = inl (tt, (says-false {P = GoodLength S1024 (now (c .before .before .before .before .before .args .s))} (c .before .good-length .result) (not-true _ (c .if1 .taken)) (c .before .good-length .ensures), refl))
+returns c = let f = c .before .before in inl (tt, (subst (SaidShape (now (f .before .before .before .before .args .s))) (c .enum-told .given .1) (f .said-shape .ensures), refl))
 
 good-code-requires : tie.Need-good-code-requires
 good-code-requires c κs = search needs
@@ -51,11 +76,18 @@ same-length-2 c = search needs
 returns-2 : tie.Need-returns-2
 unfolding removeTable
 returns-2 c =
-    let e = c .before .before in
-    inr ((λ _ n. n (long e)), inl (tt, (three (now (z e .args .key)) (says-false {P = GoodCode (now (z e .args .key))} (c .before .good-code .result) (not-true _ (c .if2 .taken)) (c .before .good-code .ensures)), refl)))
+    let k = c .before .before in
+    let bad : GoodCode (key k) → ⊥ = says-false {P = GoodCode (key k)} (c .before .good-code .result) (not-true _ (c .if1 .taken)) (c .before .good-code .ensures) in
+    inr ((λ _ n. n (subst (λ S. GoodLength S (store k)) (said k .0) (said k .1))), inl (tt, (three (key k) bad, refl)))
 
 first-bad-requires : tie.Need-first-bad-requires
-first-bad-requires c κs = long (earlier (c .before))
+first-bad-requires c κs = said (first (c .before))
+
+add-if2 : tie.Need-add-if2
+add-if2 c = omega (arith, sized (first (c .before .before .before)) .most)
+
+div-if2 : tie.Need-div-if2
+div-if2 c = search needs
 
 same-length-3 : tie.Need-same-length-3
 same-length-3 c = search needs
@@ -63,14 +95,14 @@ same-length-3 c = search needs
 returns-3 : tie.Need-returns-3
 unfolding removeTable
 returns-3 c =
-    let d = c .before .before .before in
-    inr ((λ _ n. n (long (earlier d))), inr ((λ _ r. no-three _ (good d) r), inl (c .before .first-bad .result, (c .before .first-bad .ensures .bad (c .if3 .taken), refl))))
+    let f = c .before .before in
+    let d = f .before .before in
+    let k = first d in
+    subst (λ S. Answers (removeTable S fnv (store k) (key k)) (refusedAt 2 (f .first-bad .result), store k)) (said k .0)
+    (inr ((λ _ n. n (said k .1)), inr ((λ _ r. no-three _ (good d) r), inl (f .first-bad .result, (f .first-bad .ensures .bad (c .if2 .taken), refl)))))
 
-slice-aggregate-remove-row : tie.Need-slice-aggregate-remove-row
-slice-aggregate-remove-row c = search needs
-
-remove-row-requires : tie.Need-remove-row-requires
-remove-row-requires c κs = (record { sized = sized-1024; blank = refl }, c .before .before .before .first-bad .ensures .sound (c .before .before .if3 .left))
+remove-lent-requires : tie.Need-remove-lent-requires
+remove-lent-requires c κs = let f = c .before .before .before in (sized (first (f .before .before)), f .first-bad .ensures .sound (c .before .if2 .left))
 
 same-length-4 : tie.Need-same-length-4
 same-length-4 c = search needs
@@ -78,25 +110,32 @@ same-length-4 c = search needs
 returns-4 : tie.Need-returns-4
 unfolding removeTable
 returns-4 c =
-    let b = c .before .before .before .before .before .before in
-    let d = b .before .before .before in
-    let a = b .before .first-bad .ensures .sound (b .if3 .left) in
-    inr ((λ _ n. n (long (earlier d))), inr ((λ _ r. no-three _ (good d) r), inr (accepted-whole S1024 fnv (now (z (earlier d) .args .s)) a, (a, c .before .before .before .remove-row .ensures .0))))
+    let w = c .before .before .remove-lent in
+    let b = c .before .before .before .before in
+    let f = b .before .before in
+    let d = f .before .before in
+    let k = first d in
+    let a = f .first-bad .ensures .sound (b .if2 .left) in
+    subst (λ S. Answers (removeTable S fnv (store k) (key k)) (meaning (w .result), w .last .0)) (said k .0)
+    (inr ((λ _ n. n (said k .1)), inr ((λ _ r. no-three _ (good d) r), inr (accepted-whole _ fnv _ a, (a, w .ensures)))))
 
 pub remove-spec : {M : Type 1} → statement M
 remove-spec =
     tie.close
     (tie.spec
-    good-length-requires
+    said-shape-requires
+    enum-known-z
+    enum-told
     same-length
     returns
     good-code-requires
     same-length-2
     returns-2
     first-bad-requires
+    add-if2
+    div-if2
     same-length-3
     returns-3
-    slice-aggregate-remove-row
-    remove-row-requires
+    remove-lent-requires
     same-length-4
     returns-4)

@@ -2,8 +2,9 @@
 use borrow.Author.Needs.{needs}
 use mathlib.Core.List.{_++_, List}
 use mathlib.Core.Path.{_≡_, refl, sym, ap, subst, subst₂, _∙_}
-use Prim.Native.Nat.{ℕ, _+_, _-_, _*_, _≤_, _<_}
+use Prim.Native.Nat.{ℕ, _+_, _-_, _*_, _^_, _≤_, _<_}
 use native.Mathlib.Omega.{arith}
+use native.Mathlib.Nat.{mul-le-mul-right}
 use lib.ListN.{take, drop, length, replicate}
 use denote.Ref.{now}
 use Rattle.ground.specs.Lists.{byte}
@@ -12,20 +13,21 @@ use Rattle.page.proofs.Sums.{len-of-code}
 use Rattle.page.specs.Steps.{Removed}
 use Rattle.page.specs.Page.{depth, count}
 use Rattle.partition.specs.Bits.{top}
-use Rattle.partition.specs.Partition.{IsBucket}
+use Rattle.partition.specs.Partition.{IsBucket, first, after}
+use Rattle.store.proofs.Accepted.Rules.{opened}
 use Rattle.store.proofs.Accepted.Unique.{page-long, within}
 use Rattle.store.specs.Tables.{Becomes}
 use Rattle.store.specs.Moves.{removed}
 use Rattle.partition.specs.declared.Shape.{Shape}
 use Rattle.partition.proofs.Sizes.{twelve}
-use Rattle.store.specs.Pages.{size, pages, Page, page, contents, rowsHeld, deepestIn, setPage}
+use Rattle.store.specs.Pages.{size, pages, Page, page, dirDepth, contents, rowsHeld, deepestIn, setPage}
 use Rattle.store.specs.Demands.{Sized}
 use Rattle.removal.specs.Remove.{Leaving, Fits}
 use Rattle.removal.specs.Join.{Joinable, Rejoined}
 use Rattle.removal.specs.Prefix.{Climbed}
-use Rattle.directory.specs.Directory.{Settling, Directed, Rewritten}
+use Rattle.directory.specs.Directory.{Settling, PrefixNamed, Directed, Rewritten}
 use Rattle.directory.proofs.Settles.{unwritten, settling}
-use Rattle.removal.proofs.Removes.{page-shallow, its-bucket, climbed-fits, loses, settles, clear-written, clear-holds, joinable, join-written, join-holds}
+use Rattle.removal.proofs.Removes.{page-low, page-shallow, its-bucket, climbed-fits, loses, settles, clear-written, clear-holds, joinable, low-from, low-to, join-kept, join-then, join-directed}
 use Rattle.store.proofs.Paging.Depths.{page-byte}
 use Rattle.store.proofs.Paging.Views.{page-lent, page-back}
 use Rattle.removal.proofs.removal.take_out.Statement.{statement}
@@ -165,24 +167,128 @@ climb-requires c κs = let z = c .before .before .before .before .before .before
   },
 )
 
+-- the directory's depth
+module _ (e : tie.After-get32) where
+  abbrev b₃ : tie.After-climb
+  b₃ = e .before .before .before
+
+  abbrev z₃ : tie.Start
+  z₃ = z₁ b₃
+
+  deep-read : e .get32 .result ≡ dirDepth (s z₃)
+  deep-read = e .get32 .ensures .0
+
+  deep-low : e .get32 .result ≤ S z₃ .deepest
+  deep-low = omega (arith, deep-read, opened (S z₃) fnv (s z₃) (L z₃ .accepted) .page0 .depth)
+
+get32-requires : tie.Need-get32-requires
+get32-requires c κs = let z = z₁ (c .before .before) in omega (arith, inside z, mul-le-mul-right (size (S z)) (L z .from), sized z .least)
+
+cast-run-of : tie.Need-cast-run-of
+cast-run-of c = omega (arith, deep-low c, twelve (S (z₃ c)) (sized (z₃ c)))
+
+run-of-requires : tie.Need-run-of-requires
+run-of-requires c κs =
+    let z = z₃ c in
+    let b = b₃ c in
+    (omega (arith, deep-read c, less b (c .before .before .if1 .taken), page-low (S z) (sized z) fnv fnv-lt (s z) (p z) (z .args .i) (key z) (L z)), omega (arith, deep-low c, twelve (S z) (sized z)))
+
 top-bits-requires : tie.Need-top-bits-requires
-top-bits-requires c κs = let b = c .before .before in omega (arith, climbed b .most, shallow (z₁ b), twelve (S (z₁ b)) (sized (z₁ b)))
+top-bits-requires c κs = let b = c .before .before .before .before .before in omega (arith, climbed b .most, shallow (z₁ b), twelve (S (z₁ b)) (sized (z₁ b)))
 
 join-requires : tie.Need-join-requires
-join-requires c κs = let b = c .before .before .before .before in
+join-requires c κs = let b = c .before .before .before .before .before .before .before in
     let z = z₁ b in
-    let v = c .before .top-bits in (
+    let v = c .before .top-bits in
+    let r = c .before .before .before .run-of in
+    let d = deep-read (c .before .before .before .before) in
+    let x = b .before .before .hash .ensures in (
       z .pre .0,
-      subst (λ v. Joinable (S z) fnv (s z) (n z) (j b) v (key z)) (sym (bits b (v .result) (v .ensures)))
-          (joinable (S z) (sized z) fnv fnv-lt (s z) (p z) (z .args .i) (key z) (L z) (j b) (fits b) (less b (c .before .before .before .if1 .taken))),
+      subst (λ v. Joinable (S z) fnv (s z) (n z) (j b) v (r .result .from) (r .result .to) (key z)) (sym (bits b (v .result) (v .ensures)))
+          (joinable (S z) (sized z) fnv fnv-lt (s z) (p z) (z .args .i) (key z) (L z) (j b) (fits b) (less b (c .before .before .before .before .before .before .if1 .taken)) (r .result .from) (r .result .to)
+          (r .ensures .0 ∙ (λ i. first (d i) (record { bits = j b; value = top (j b) (x i) }))) (r .ensures .1 ∙ (λ i. after (d i) (record { bits = j b; value = top (j b) (x i) }))) (subst (λ m. r .result .to ≤ 2 ^ m) d (r .ensures .3))),
     )
 
-settle-requires : tie.Need-settle-requires
-settle-requires c κs =
-    let t = c .before .before .before .before .before .join .ensures .0 in
-    let z = z₁ (c .before .before .before .before .before .before .before .before .before .before) in
-    let P = sound z in
-    (sized z, record { long = t .long ∙ P .long; least = P .least; most = P .most; pages = t .sound })
+-- the rows joined
+module _ (e : tie.After-join) where
+  abbrev b₄ : tie.After-climb
+  b₄ = e .before .before .before .before .before .before .before .before
+
+  abbrev d₄ : tie.After-get32
+  d₄ = e .before .before .before .before .before
+
+  abbrev z₄ : tie.Start
+  z₄ = z₁ b₄
+
+  abbrev low : ℕ
+  low = e .join .result
+
+  abbrev v₄ : ℕ
+  v₄ = top (j b₄) (fnv (key z₄))
+
+  fewer : j b₄ < depth (g z₄)
+  fewer = less b₄ (e .before .before .before .before .before .before .before .if1 .taken)
+
+  rejoined : Rejoined (S z₄) fnv (s z₄) (n z₄) (j b₄) v₄ (key z₄) low (e .join .last .0)
+  rejoined = let v = e .before .before .top-bits in subst (λ v. Rejoined (S z₄) fnv (s z₄) (n z₄) (j b₄) v (key z₄) low (e .join .last .0)) (bits b₄ (v .result) (v .ensures)) (e .join .ensures .0)
+
+  its-low : (2 ≤ low) × (low < pages (S z₄) (s z₄))
+  its-low = (
+    low-from (S z₄) (sized z₄) fnv fnv-lt (s z₄) (p z₄) (z₄ .args .i) (key z₄) (L z₄) (j b₄) (fits b₄) fewer rejoined,
+    low-to (S z₄) (sized z₄) fnv fnv-lt (s z₄) (p z₄) (z₄ .args .i) (key z₄) (L z₄) (j b₄) (fits b₄) fewer rejoined,
+  )
+
+-- and the page named
+module _ (y : tie.After-name-prefix) where
+  abbrev e₅ : tie.After-join
+  e₅ = y .before .before .before .before .before .before
+
+  abbrev z₅ : tie.Start
+  z₅ = z₄ e₅
+
+  abbrev b₅ : tie.After-climb
+  b₅ = b₄ e₅
+
+  abbrev t₅ : List ℕ
+  t₅ = y .name-prefix .last .0
+
+  named : PrefixNamed (S z₅) (e₅ .join .last .0) (dirDepth (s z₅)) (j b₅) (v₄ e₅) (low e₅) t₅
+  named =
+      subst (λ d. PrefixNamed (S z₅) (e₅ .join .last .0) d (j b₅) (v₄ e₅) (low e₅) t₅) (deep-read (d₄ e₅))
+      (subst (λ x. PrefixNamed (S z₅) (e₅ .join .last .0) (d₄ e₅ .get32 .result) (j b₅) (top (j b₅) x) (low e₅) t₅) (b₅ .before .before .hash .ensures) (y .name-prefix .ensures))
+
+  kept : Rewritten (S z₅) (s z₅) t₅
+  kept = join-kept (S z₅) (sized z₅) fnv fnv-lt (s z₅) (p z₅) (z₅ .args .i) (key z₅) (L z₅) (j b₅) (fits b₅) (fewer e₅) (rejoined e₅) named
+
+cast-name-prefix : tie.Need-cast-name-prefix
+cast-name-prefix c = let d = d₄ (c .before .before .before .before .before) in omega (arith, deep-low d, twelve (S (z₃ d)) (sized (z₃ d)))
+
+name-prefix-requires : tie.Need-name-prefix-requires
+name-prefix-requires c κs =
+    let e = c .before .before .before .before .before in
+    let z = z₄ e in
+    let d = d₄ e in
+    let two : 2 * size (S z) ≤ p z * size (S z) = mul-le-mul-right (size (S z)) (L z .from) in (
+      sized z,
+      record {
+        long = omega (arith, rejoined e .long, inside z, two);
+        low = omega (arith, deep-read d, fewer e, page-low (S z) (sized z) fnv fnv-lt (s z) (p z) (z .args .i) (key z) (L z));
+        deep = deep-low d;
+        word = omega (arith, its-low e .1, L z .accepted .long .most, sized z .whole, sized z .most);
+      },
+    )
+
+settle-depth-requires : tie.Need-settle-depth-requires
+settle-depth-requires c κs =
+    let y = c .before .before .before in
+    let z = z₅ y in
+    let b = b₅ y in
+    let q = deep-read (d₄ (e₅ y)) in (
+      sized z,
+      settling (S z) (sized z) fnv fnv-lt (s z) (L z .accepted) (t₅ y) (kept y),
+      (λ _. subst (λ d. Directed (S z) fnv (t₅ y) d (pages (S z) (s z)) (t₅ y)) (sym q)
+          (join-directed (S z) (sized z) fnv fnv-lt (s z) (p z) (z .args .i) (key z) (L z) (j b) (fits b) (fewer (e₅ y)) (rejoined (e₅ y)) (named y))),
+    )
 
 same-length : tie.Need-same-length
 same-length c = search needs
@@ -191,17 +297,14 @@ same-length-2 : tie.Need-same-length-2
 same-length-2 c = search needs
 
 returns : tie.Need-returns
-returns c = let b = c .before .before .before .before .before .before .before .before .before .before .before .before .before in
-    let z = z₁ b in
-    let t = c .before .before .before .before .before .before .before .before .join in
-    let v = c .before .before .before .before .before .before .before .before .before .before .top-bits in
-    let l = less b (c .before .before .before .before .before .before .before .before .before .before .before .before .if1 .taken) in
-    let R = subst (λ v. Rejoined (S z) fnv (s z) (n z) (j b) v (key z) (t .last .0)) (bits b (v .result) (v .ensures)) (t .ensures .0) in (
-      settles (S z) (sized z) fnv fnv-lt (s z) (p z) (z .args .i) (key z) (L z) (j b) (fits b)
-          (join-written (S z) (sized z) fnv fnv-lt (s z) (p z) (z .args .i) (key z) (L z) (j b) (fits b) l R)
-          (join-holds (S z) (sized z) fnv fnv-lt (s z) (p z) (z .args .i) (key z) (L z) (j b) (fits b) l R)
-          (c .before .before .settle .ensures) (λ m. (c .slice-known6 .given m) .fits),
-      t .ensures .1,
+returns c =
+    let y = c .before .before .before .before .before .before in
+    let z = z₅ y in
+    let b = b₅ y in (
+      settles (S z) (sized z) fnv fnv-lt (s z) (p z) (z .args .i) (key z) (L z) (j b) (fits b) (kept y)
+          (join-then (S z) (sized z) fnv fnv-lt (s z) (p z) (z .args .i) (key z) (L z) (j b) (fits b) (fewer (e₅ y)) (rejoined (e₅ y)) (named y))
+          (c .before .before .settle-depth .ensures) (λ m. (c .slice-known7 .given m) .fits),
+      e₅ y .join .ensures .1,
     )
 
 sub-get16 : tie.Need-sub-get16
@@ -229,8 +332,8 @@ part-clear-page-end c = omega (arith, inside (z₂ (c .before)))
 clear-page-requires : tie.Need-clear-page-requires
 clear-page-requires c κs = search needs
 
-settle-requires-2 : tie.Need-settle-requires-2
-settle-requires-2 c κs = let d = c .before .before .before .before .before .before in
+settle-requires : tie.Need-settle-requires
+settle-requires c κs = let d = c .before .before .before .before .before .before in
     let z = z₂ d in
     let one : d .get16 .result ≡ 1 = omega (arith, c .before .before .before .before .before .if2 .taken) in (
       sized z,
@@ -246,9 +349,9 @@ returns-2 c = let d = c .before .before .before .before .before .before .before 
     let z = z₂ d in
     let one : d .get16 .result ≡ 1 = omega (arith, c .before .before .before .before .before .before .before .before .if2 .taken) in
     let w = c .before .before .before .before .before .before .clear-page in
-    let u = c .before .before .settle2 .last .0 in (
+    let u = c .before .before .settle .last .0 in (
       settles (S z) (sized z) fnv fnv-lt (s z) (p z) (z .args .i) (key z) (L z) (j (b₂ d)) (fits (b₂ d)) (cleared d one) (cleared-holds d one)
-          (subst (λ y. Directed (S z) fnv y (deepestIn (contents (S z) y)) (n z) u) (blank z (w .last .0) (w .ensures)) (c .before .before .settle2 .ensures)) (λ m. (c .slice-known8 .given m) .fits),
+          (subst (λ y. Directed (S z) fnv y (deepestIn (contents (S z) y)) (n z) u) (blank z (w .last .0) (w .ensures)) (c .before .before .settle .ensures)) (λ m. (c .slice-known9 .given m) .fits),
       refl,
     )
 
@@ -275,7 +378,7 @@ returns-3 c = let d = c .before .before .before .before .before in
     let R : Removed (g z) (z .args .i) (r .last .0) = rw (page-lent (S z) (s z) (p z)) at (r .ensures) in
     let two : 2 ≤ count (g z) = omega (arith, counted d, c .before .before .before .before .if2 .left, L z .rules .some) in (
       subst (Becomes (S z) fnv (s z) (then z)) (sym (back z (r .last .0)))
-          (loses (S z) (sized z) fnv fnv-lt (s z) (p z) (z .args .i) (key z) (L z) (j (b₂ d)) (fits (b₂ d)) (own d) two (r .last .0) R (λ m. subst (λ y. byte y m < 256) (back z (r .last .0)) ((c .slice-known9 .given m) .fits))),
+          (loses (S z) (sized z) fnv fnv-lt (s z) (p z) (z .args .i) (key z) (L z) (j (b₂ d)) (fits (b₂ d)) (own d) two (r .last .0) R (λ m. subst (λ y. byte y m < 256) (back z (r .last .0)) ((c .slice-known10 .given m) .fits))),
       refl,
     )
 
@@ -293,9 +396,14 @@ take-out-spec =
     hash-requires
     add-climb
     climb-requires
+    get32-requires
+    cast-run-of
+    run-of-requires
     top-bits-requires
     join-requires
-    settle-requires
+    cast-name-prefix
+    name-prefix-requires
+    settle-depth-requires
     same-length
     same-length-2
     returns
@@ -307,7 +415,7 @@ take-out-spec =
     part-clear-page-start
     part-clear-page-end
     clear-page-requires
-    settle-requires-2
+    settle-requires
     same-length-3
     returns-2
     sub-remove-slot

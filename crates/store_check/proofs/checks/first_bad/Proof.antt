@@ -1,44 +1,39 @@
 -- `store_check::first_bad` meets its contract. Assumes nothing.
 use borrow.Author.Needs.{needs}
-use mathlib.Core.Path.{refl}
-use Rattle.store.specs.Demands.{sized-1024}
-use Rattle.store.proofs.Paging.PageTies.{zeros}
+use denote.Ref.{now}
+use Rattle.store_check.proofs.Said.{ByDepth, by-depth}
 use Rattle.store_check.proofs.checks.first_bad.Statement.{statement}
 use Rattle.store_check.proofs.checks.first_bad.Tie as tie
 
-slice-aggregate-judge : tie.Need-slice-aggregate-judge
-slice-aggregate-judge c = search needs
+-- the size, told by its depth
+told : (a : tie.Start) → ByDepth (a .args .z)
+told a = by-depth (now (a .args .s)) (a .args .z) (a .pre .0)
 
-slice-aggregate-judge-2 : tie.Need-slice-aggregate-judge-2
-slice-aggregate-judge-2 c = search needs
-
-slice-aggregate-judge-3 : tie.Need-slice-aggregate-judge-3
-slice-aggregate-judge-3 c = search needs
-
-slice-aggregate-judge-4 : tie.Need-slice-aggregate-judge-4
-slice-aggregate-judge-4 c = search needs
-
-slice-aggregate-judge-5 : tie.Need-slice-aggregate-judge-5
-slice-aggregate-judge-5 c = search needs
-
-judge-requires : tie.Need-judge-requires
-judge-requires c κs = (
-  sized-1024,
-  c .before .before .before .before .before .before .pre,
-  record { dir-long = refl; counts-long = refl; hashes-long = refl; sums-long = refl; tab-long = refl; no-counts = zeros 258; no-sums = zeros 257; no-tab = zeros 1024 },
-)
+judge-1024-requires : tie.Need-judge-1024-requires
+judge-1024-requires c κs = let a = c .before .before .before in (told a .eight (c .if1 .taken), a .pre .1)
 
 returns : tie.Need-returns
 returns c = search needs
+
+judge-4096-requires : tie.Need-judge-4096-requires
+judge-4096-requires c κs = let a = c .before .before .before .before .before in (told a .ten (c .if2 .taken), a .pre .1)
+
+returns-2 : tie.Need-returns-2
+returns-2 c = search needs
+
+judge-16384-requires : tie.Need-judge-16384-requires
+judge-16384-requires c κs = let a = c .before .before .before .before .before in (told a .other (c .before .before .if1 .left) (c .if2 .left), a .pre .1)
+
+returns-3 : tie.Need-returns-3
+returns-3 c = search needs
 
 pub first-bad-spec : {M : Type 1} → statement M
 first-bad-spec =
     tie.close
     (tie.spec
-    slice-aggregate-judge
-    slice-aggregate-judge-2
-    slice-aggregate-judge-3
-    slice-aggregate-judge-4
-    slice-aggregate-judge-5
-    judge-requires
-    returns)
+    judge-1024-requires
+    returns
+    judge-4096-requires
+    returns-2
+    judge-16384-requires
+    returns-3)
