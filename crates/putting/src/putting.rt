@@ -13,7 +13,7 @@ use super::split::split_lent;
 use super::vacant::vacant_depth;
 use directory::free_pages;
 use directory::lowest_free;
-use directory::settle;
+use directory::name_prefix;
 use partition::Shape;
 use store_check::Length;
 
@@ -111,7 +111,7 @@ fn new_bucket(s: &mut [u8], z: Shape, x: u32, key: &[u8], place: &[u8]) -> store
     let a = p * size;
     let e = a + size;
     page::start_page(&mut s[a..e], k as u8, key, place);
-    settle(s, z, n);
+    name_prefix(s, z, x, k, d, p);
     store::Answer::New
 }
 
