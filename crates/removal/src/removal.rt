@@ -1,4 +1,5 @@
 // A row taken out of a store.
+ghost use mathlib.Core.Path.{_≡_};
 ghost use Rattle.ground.specs.Ladder.{Answers};
 ghost use Rattle.hash.specs.Fnv.{fnv};
 ghost use Rattle.partition.specs.Sizes.{shapeOf};
@@ -16,9 +17,9 @@ use partition::Shape;
 use query::Spot;
 use store_check::Length;
 
-// The row of the code, which is that of slot i of page p, goes: its page loses the record, is cleared, or is joined with others.
-fn take_out(s: &mut [u8], z: Shape, p: usize, i: usize, key: &[u8])
-    requires { ⌜ Sized z × Leaving z fnv (now s) p i (now key) ⌝ }
+// The row of the code of the hash x, which is that of slot i of page p, goes: its page loses the record, is cleared, or is joined with others.
+fn take_out(s: &mut [u8], z: Shape, p: usize, i: usize, key: &[u8], x: u32)
+    requires { ⌜ Sized z × Leaving z fnv (now s) p i (now key) × (x ≡ fnv (now key)) ⌝ }
     ensures { λ _. ⌜ Becomes z fnv (now (s .entry)) (removed z fnv (contents z (now (s .entry))) (now (key .entry))) (now (s .exit)) ⌝ }
 {
     let size = 8 + z.capacity;
@@ -26,7 +27,6 @@ fn take_out(s: &mut [u8], z: Shape, p: usize, i: usize, key: &[u8])
     let a = p * size;
     let e = a + size;
     let k = s[a + 1] as u32;
-    let x = hash::hash(key);
     let j = climb(s, z, x, k, 12 + key.len());
     let d = words::get32(s, 16);
     if j < k {
@@ -49,14 +49,15 @@ pub fn remove_row(s: &mut [u8], z: Shape, key: &[u8]) -> store::Answer
     requires { ⌜ Sized z × Accepted z fnv (now s) ⌝ }
     ensures { λ r. ⌜ Answers (removeAccepted z fnv (now (s .entry)) (now (key .entry))) (meaning r, now (s .exit)) ⌝ }
 {
-    match query::find_row(s, z, key) {
+    let x = hash::hash(key);
+    match query::find_row(s, z, key, x) {
         Spot::Nowhere => store::Answer::Refused(store::Refusal::NoCode),
         Spot::Here(p, i) => {
             let size = 8 + z.capacity;
             let a = p * size;
             let e = a + size;
             let old = page::read_place(&s[a..e], i);
-            take_out(s, z, p, i, key);
+            take_out(s, z, p, i, key, x);
             store::Answer::Found(old)
         }
     }

@@ -26,7 +26,7 @@ use Rattle.query.specs.Spots.{OnPage, StandsAt}
 -- where the row stands
 module _ (d : tie.After-p) where
   abbrev z : tie.Start
-  z = d .before .before .before .before .before .before
+  z = d .before .before .before .before .before .before .before
 
   abbrev S : Shape
   S = z .args .z
@@ -51,8 +51,11 @@ module _ (d : tie.After-p) where
       let o = stands .0 in
       record { accepted = z .pre .1; from = o .from; to = page-below S s p (o .within); rules = o .rules; slot = o .slot; coded = stands .1; known = stands .2 }
 
+hash-requires : tie.Need-hash-requires
+hash-requires c κs = search needs
+
 find-row-requires : tie.Need-find-row-requires
-find-row-requires c κs = c .before .before .before .pre
+find-row-requires c κs = let z = c .before .before .before .before in (z .pre .0, z .pre .1, c .before .hash .ensures)
 
 enum-told : tie.Need-enum-told
 enum-told c = search needs
@@ -82,13 +85,13 @@ read-place-requires : tie.Need-read-place-requires
 read-place-requires c κs = let d = c .before .before .before .before in rw (page-lent (S d) (s d) (p d)) (stands d .0 .rules .rules, stands d .0 .slot)
 
 take-out-requires : tie.Need-take-out-requires
-take-out-requires c κs = let d = c .before .before .before .before .before .before in (z d .pre .0, leaving d)
+take-out-requires c κs = let d = c .before .before .before .before .before .before in (z d .pre .0, leaving d, d .before .before .before .before .hash .ensures)
 
 same-length : tie.Need-same-length
 same-length c = search needs
 
 returns : tie.Need-returns
-returns c = let z = c .before .before .before .before .before .before in
+returns c = let z = c .before .before .before .before .before .before .before in
     let w = subst (λ (r : Spot). StandsAt (z .args .z) (now (z .args .s)) (now (z .args .key)) r) (c .enum-told .given .1) (c .before .before .find-row .ensures) in
     inr ((λ _. none-some w), refl)
 
@@ -104,6 +107,7 @@ pub remove-row-spec : {M : Type 1} → statement M
 remove-row-spec =
     tie.close
     (tie.spec
+    hash-requires
     find-row-requires
     enum-told
     enum-known-p

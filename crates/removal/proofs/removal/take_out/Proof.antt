@@ -80,19 +80,16 @@ module _ (z : tie.Start) where
 -- how far up the rows left fit
 module _ (b : tie.After-climb) where
   abbrev z₁ : tie.Start
-  z₁ = b .before .before .before .before .before .before .before
+  z₁ = b .before .before .before .before .before .before
 
   abbrev j : ℕ
   j = b .climb .result
 
   climbed : Climbed (S z₁) fnv (rowsHeld (S z₁) (s z₁)) (fnv (key z₁)) (depth (g z₁)) (12 + length (key z₁)) j
-  climbed = subst₂ (λ x k. Climbed (S z₁) fnv (rowsHeld (S z₁) (s z₁)) x k (12 + length (key z₁)) j) (b .before .before .hash .ensures) (sym (deep z₁)) (b .climb .ensures)
+  climbed = subst₂ (λ x k. Climbed (S z₁) fnv (rowsHeld (S z₁) (s z₁)) x k (12 + length (key z₁)) j) (z₁ .pre .2) (sym (deep z₁)) (b .climb .ensures)
 
   fits : Fits (S z₁) fnv (s z₁) (key z₁) j
   fits = climbed-fits (S z₁) (sized z₁) fnv fnv-lt (s z₁) (p z₁) (z₁ .args .i) (key z₁) (L z₁) (12 + length (key z₁)) j refl climbed
-
-  bits : (v : ℕ) → v ≡ top j (b .before .before .hash .result) → v ≡ top j (fnv (key z₁))
-  bits v e = e ∙ ap (top j) (b .before .before .hash .ensures)
 
   less : j < byte (s z₁) (p z₁ * size (S z₁) + 1) → j < depth (g z₁)
   less l = omega (arith, deep z₁)
@@ -144,18 +141,15 @@ slice-read-k c = omega (arith, inside (c .before .before .before .before))
 cast-k : tie.Need-cast-k
 cast-k c = let z = c .before .before .before .before in omega (arith, c .slice-known2 .given (p z * size (S z) + 1))
 
-hash-requires : tie.Need-hash-requires
-hash-requires c κs = search needs
-
 add-climb : tie.Need-add-climb
 add-climb c = search needs
 
 climb-requires : tie.Need-climb-requires
-climb-requires c κs = let z = c .before .before .before .before .before .before in (
+climb-requires c κs = let z = c .before .before .before .before .before in (
   sized z,
   record {
     accepted = L z .accepted;
-    is = subst₂ (λ x k. IsBucket (S z) fnv (rowsHeld (S z) (s z)) k (top k x)) (sym (c .before .hash .ensures)) (deep z) (its-bucket (S z) (sized z) fnv fnv-lt (s z) (p z) (z .args .i) (key z) (L z));
+    is = subst₂ (λ x k. IsBucket (S z) fnv (rowsHeld (S z) (s z)) k (top k x)) (sym (z .pre .2)) (deep z) (its-bucket (S z) (sized z) fnv fnv-lt (s z) (p z) (z .args .i) (key z) (L z));
     one = omega (arith, short z);
   },
 )
@@ -181,7 +175,7 @@ join-lent-requires : tie.Need-join-lent-requires
 join-lent-requires c κs =
     let b = b₃ (c .before .before) in
     let z = z₁ b in
-    subst (λ x. Joinable (S z) fnv (s z) (n z) x (j b) (key z)) (sym (b .before .before .hash .ensures))
+    subst (λ x. Joinable (S z) fnv (s z) (n z) x (j b) (key z)) (sym (z .pre .2))
     (joinable (S z) (sized z) fnv fnv-lt (s z) (p z) (z .args .i) (key z) (L z) (j b) (fits b) (less b (c .before .if1 .taken)))
 
 -- the rows joined
@@ -205,7 +199,7 @@ module _ (e : tie.After-join-lent) where
   fewer = less b₄ (e .before .before .if1 .taken)
 
   rejoined : Rejoined (S z₄) fnv (s z₄) (n z₄) (j b₄) v₄ (key z₄) low (e .join-lent .last .0)
-  rejoined = subst (λ x. Rejoined (S z₄) fnv (s z₄) (n z₄) (j b₄) (top (j b₄) x) (key z₄) low (e .join-lent .last .0)) (b₄ .before .before .hash .ensures) (e .join-lent .ensures)
+  rejoined = subst (λ x. Rejoined (S z₄) fnv (s z₄) (n z₄) (j b₄) (top (j b₄) x) (key z₄) low (e .join-lent .last .0)) (z₄ .pre .2) (e .join-lent .ensures)
 
   its-low : (2 ≤ low) × (low < pages (S z₄) (s z₄))
   its-low = (
@@ -230,7 +224,7 @@ module _ (y : tie.After-name-prefix) where
   named : PrefixNamed (S z₅) (e₅ .join-lent .last .0) (dirDepth (s z₅)) (j b₅) (v₄ e₅) (low e₅) t₅
   named =
       subst (λ d. PrefixNamed (S z₅) (e₅ .join-lent .last .0) d (j b₅) (v₄ e₅) (low e₅) t₅) (deep-read (d₄ e₅))
-      (subst (λ x. PrefixNamed (S z₅) (e₅ .join-lent .last .0) (d₄ e₅ .get32 .result) (j b₅) (top (j b₅) x) (low e₅) t₅) (b₅ .before .before .hash .ensures) (y .name-prefix .ensures))
+      (subst (λ x. PrefixNamed (S z₅) (e₅ .join-lent .last .0) (d₄ e₅ .get32 .result) (j b₅) (top (j b₅) x) (low e₅) t₅) (z₅ .pre .2) (y .name-prefix .ensures))
 
   kept : Rewritten (S z₅) (s z₅) t₅
   kept = join-kept (S z₅) (sized z₅) fnv fnv-lt (s z₅) (p z₅) (z₅ .args .i) (key z₅) (L z₅) (j b₅) (fits b₅) (fewer e₅) (rejoined e₅) named
@@ -350,7 +344,7 @@ module _ (y : tie.After-name-prefix2) where
       subst (λ q. PrefixNamed (S z₇) q (dirDepth (s z₇)) (depth (g z₇)) (top (depth (g z₇)) (fnv (key z₇))) 0 u₇) (cleared k₇)
       (subst (λ d. PrefixNamed (S z₇) (s₆ k₇) d (depth (g z₇)) (top (depth (g z₇)) (fnv (key z₇))) 0 u₇) (deep-read (e₆ k₇))
       (subst (λ k. PrefixNamed (S z₇) (s₆ k₇) (e₆ k₇ .get32 .result) k (top k (fnv (key z₇))) 0 u₇) (sym (deep z₇))
-      (subst (λ x. PrefixNamed (S z₇) (s₆ k₇) (e₆ k₇ .get32 .result) deep-byte (top deep-byte x) 0 u₇) (b₇ .before .before .hash .ensures) (y .name-prefix2 .ensures))))
+      (subst (λ x. PrefixNamed (S z₇) (s₆ k₇) (e₆ k₇ .get32 .result) deep-byte (top deep-byte x) 0 u₇) (z₇ .pre .2) (y .name-prefix2 .ensures))))
 
   kept₇ : Rewritten (S z₇) (s z₇) u₇
   kept₇ = clear-kept (S z₇) (sized z₇) fnv fnv-lt (s z₇) (p z₇) (z₇ .args .i) (key z₇) (L z₇) (j b₇) (fits b₇) (own (d₆ k₇)) (one-row k₇) unnamed
@@ -432,7 +426,6 @@ take-out-spec =
     add-k
     slice-read-k
     cast-k
-    hash-requires
     add-climb
     climb-requires
     get32-requires
