@@ -2,6 +2,7 @@
 ghost use mathlib.Core.Path.{_≡_};
 ghost use mathlib.Core.Bool.{true, false};
 ghost use Prim.Native.Nat.{_+_, _*_, _-_, _^_, _≤_, _<_};
+ghost use lib.Bits.{bitXor};
 ghost use lib.ListN.{length, set};
 ghost use Rattle.ground.specs.Says.{Says};
 ghost use Rattle.ground.specs.Lists.{part};
@@ -54,7 +55,7 @@ fn natural_at(page: &[u8], o: usize) -> bool
 
 // A slot's word and its record, in a page with frontier f.
 fn word_ok(page: &[u8], f: usize, w: usize) -> bool
-    requires { ⌜ f ≤ length (now page) ⌝ }
+    requires { ⌜ (f ≤ length (now page)) × (f ≤ 16384) ⌝ }
     ensures { λ r. ⌜ Says r (WordOk (now (page .entry)) f w) ⌝ }
 {
     // 1 above a length of 9 to 72, in one look
@@ -66,11 +67,10 @@ fn word_ok(page: &[u8], f: usize, w: usize) -> bool
         return false;
     }
     let o = w % 16384;
-    let l = t - 16384;
     if o < 8 {
         return false;
     }
-    if f < o + l {
+    if f + 16384 < o + t {
         return false;
     }
     natural_at(page, o)
@@ -301,6 +301,21 @@ pub fn shares(first: u32, x: u32, k: u8) -> bool
     ensures { λ r. ⌜ Says r (top k first ≡ top k x) ⌝ }
 {
     (k as u32) <= partition::shared_bits(first, x)
+}
+
+// What the difference of two hashes stays below where they share k bits.
+pub fn limit(k: u8) -> u64
+    requires { ⌜ k ≤ 32 ⌝ }
+    ensures { λ r. ⌜ r ≡ 2 ^ (32 - k) ⌝ }
+{
+    4294967296u64 >> (k as u32)
+}
+
+// Whether the difference of two hashes is below m: where m is a limit worked out once, cheaper than to count the bits they share.
+pub fn differ_below(first: u32, x: u32, m: u64) -> bool
+    ensures { λ r. ⌜ Says r (bitXor first x < m) ⌝ }
+{
+    ((first ^ x) as u64) < m
 }
 
 // Whether the hashes of a bucket page, the first of them given, share their first k bits: their differences or-ed have none there.

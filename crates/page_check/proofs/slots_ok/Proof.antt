@@ -95,7 +95,7 @@ get32-requires : tie.Need-get32-requires Inv-loop μ-loop
 get32-requires c κs = let s = c .before .before .before .before in omega (arith, s .pre .0 .room, s .pre .0 .start, s .pre .1, c .loop-test .taken, c .before .loop .inv .1)
 
 word-ok-requires : tie.Need-word-ok-requires Inv-loop μ-loop
-word-ok-requires c κs = room c
+word-ok-requires c κs = (room c, omega (arith, room c, start c .pre .0 .most))
 
 same-length : tie.Need-same-length Inv-loop μ-loop
 same-length c = search needs
