@@ -58,16 +58,7 @@ fn write_directory(s: &mut [u8], z: Shape, n: usize, d: u32)
     }
 }
 
-// Directory and depth are then as defined: those of the pages.
-pub fn settle(s: &mut [u8], z: Shape, n: usize)
-    requires { ⌜ Sized z × Settling z (now s) n ⌝ }
-    ensures { λ _. ⌜ Directed z fnv (now (s .entry)) (deepestIn (contents z (now (s .entry)))) n (now (s .exit)) ⌝ }
-{
-    let d = store::deepest(s, z, n);
-    write_directory(s, z, n, d as u32);
-}
-
-// The same, where the directory is known to be as defined if its depth d is.
+// Directory and depth are then as defined, those of the pages, where the directory is known to be if its depth d is.
 pub fn settle_depth(s: &mut [u8], z: Shape, n: usize, d: usize)
     requires { ⌜ Sized z × Settling z (now s) n × (deepestIn (contents z (now s)) ≡ d → Directed z fnv (now s) d n (now s)) ⌝ }
     ensures { λ _. ⌜ Directed z fnv (now (s .entry)) (deepestIn (contents z (now (s .entry)))) n (now (s .exit)) ⌝ }

@@ -9,7 +9,6 @@ mod directory;
 mod pages;
 
 pub use directory::name_prefix;
-pub use directory::settle;
 pub use directory::settle_depth;
 pub use pages::free_pages;
 pub use pages::lowest_free;

@@ -17,6 +17,10 @@ taken code h i r l e = rw (add-one, e, ← goes-on, ← drop-cons code i 0 l) re
 pub joined : (code : List ℕ) (h a r i j k n : ℕ) → each a (drop j code) ≡ each h (drop i code) → each r (drop k code) ≡ each a (drop j code) → n ≡ k → each r (drop n code) ≡ each h (drop i code)
 joined code h a r i j k n p q e = ap (λ x. each r (drop x code)) e ∙ q ∙ p
 
+-- from the same byte on
+pub until : (code : List ℕ) (h i j : ℕ) → i ≡ j → each h (drop i code) ≡ each h (drop j code)
+until code h i j e = ap (λ x. each h (drop x code)) e
+
 -- none is left
 pub none-left : (code : List ℕ) (h i : ℕ) → length code ≤ i → h ≡ each h (drop i code)
 none-left code h i l = sym (ends h) ∙ ap (each h) (sym (drop-of-length-le code l))

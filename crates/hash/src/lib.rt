@@ -38,40 +38,59 @@ fn four(h: u32, code: &[u8], i: usize) -> u32
     two(a, code, i + 2)
 }
 
-// The last r bytes, from i on: none or one.
-fn last_one(h: u32, code: &[u8], i: usize, r: usize) -> u32
-    requires { ⌜ (i + r ≡ length (now code)) × (r < 2) ⌝ }
-    ensures { λ x. ⌜ x ≡ each h (drop i (now (code .entry))) ⌝ }
+// Eight bytes from i on, taken in.
+fn eight(h: u32, code: &[u8], i: usize) -> u32
+    requires { ⌜ i + 8 ≤ length (now code) ⌝ }
+    ensures { λ r. ⌜ each r (drop (i + 8) (now (code .entry))) ≡ each h (drop i (now (code .entry))) ⌝ }
+{
+    let a = four(h, code, i);
+    four(a, code, i + 4)
+}
+
+// The first r bytes taken in: none or one.
+fn first_one(h: u32, code: &[u8], r: usize) -> u32
+    requires { ⌜ (r ≤ length (now code)) × (r < 2) ⌝ }
+    ensures { λ x. ⌜ each x (drop r (now (code .entry))) ≡ each h (now (code .entry)) ⌝ }
 {
     if r == 0 {
         return h;
     }
-    step(h, code[i])
+    step(h, code[0])
 }
 
-// The last r bytes, from i on, fewer than four.
-fn last_three(h: u32, code: &[u8], i: usize, r: usize) -> u32
-    requires { ⌜ (i + r ≡ length (now code)) × (r < 4) ⌝ }
-    ensures { λ x. ⌜ x ≡ each h (drop i (now (code .entry))) ⌝ }
+// The first r bytes taken in, fewer than four.
+fn first_three(h: u32, code: &[u8], r: usize) -> u32
+    requires { ⌜ (r ≤ length (now code)) × (r < 4) ⌝ }
+    ensures { λ x. ⌜ each x (drop r (now (code .entry))) ≡ each h (now (code .entry)) ⌝ }
 {
+    let a = first_one(h, code, r % 2);
     if r < 2 {
-        return last_one(h, code, i, r);
+        return a;
     }
-    let a = two(h, code, i);
-    last_one(a, code, i + 2, r - 2)
+    two(a, code, r % 2)
 }
 
-// The hash of any bytes, of any length: four at a time, since a turn of a loop costs as much as a byte.
+// The first r bytes taken in, fewer than eight.
+fn first_seven(h: u32, code: &[u8], r: usize) -> u32
+    requires { ⌜ (r ≤ length (now code)) × (r < 8) ⌝ }
+    ensures { λ x. ⌜ each x (drop r (now (code .entry))) ≡ each h (now (code .entry)) ⌝ }
+{
+    let a = first_three(h, code, r % 4);
+    if r < 4 {
+        return a;
+    }
+    four(a, code, r % 4)
+}
+
+// The hash of any bytes, of any length: the odd ones first, then eight at a time, since a turn of a loop costs as much as a byte.
 pub fn hash(code: &[u8]) -> u32
     ensures { λ r. ⌜ r ≡ fnv (now (code .entry)) ⌝ }
 {
-    let r = code.len() % 4;
-    let n = code.len() - r;
-    let mut h: u32 = 2166136261;
-    let mut i = 0;
-    while i < n {
-        h = four(h, code, i);
-        i += 4;
+    let mut i = code.len() % 8;
+    let mut h = first_seven(2166136261, code, i);
+    while i < code.len() {
+        h = eight(h, code, i);
+        i += 8;
     }
-    last_three(h, code, i, r)
+    h
 }

@@ -89,5 +89,5 @@ pub fn remove_known(s: &mut [u8], key: &[u8], known: bool) -> Answer
         return Answer::Refused(Refusal::BadCode);
     }
     let z = partition::shape_of(s);
-    removal::remove_lent(s, z, key)
+    removal::remove_row(s, z, key)
 }

@@ -30,6 +30,12 @@ pub record PackedTo (p : List ℕ) (n : ℕ) (q : List ℕ) : Type 0 where
   pub counted : count q ≡ n
   pub each : (i : ℕ) → i < n → PackedRow p i q
 
+-- q has the first i rows of p, and p has row i
+pub record PackingAt (p : List ℕ) (i : ℕ) (q : List ℕ) : Type 0 where
+  pub page : Slotted p
+  pub before : PackedTo p i q
+  pub within : i < count p
+
 abbrev pub Packed : List ℕ → List ℕ → Type 0
 Packed p q = PackedTo p (count p) q
 

@@ -14,11 +14,24 @@ pub record Recorded (p : List ℕ) (f : ℕ) (pl c q : List ℕ) : Type 0 where
   pub placed : part q f 8 ≡ pl
   pub coded : part q (f + 8) (length c) ≡ c
 
+-- there is room for one slot more than n, w is a slot word, and slot s is one of them or the next
+pub record Openable (p : List ℕ) (n s w : ℕ) : Type 0 where
+  pub within : s ≤ n
+  pub room : 4 * (n + 1) ≤ length p
+  pub word : w < 4294967296
+
 -- of n slots those from s on moved down by one, and w in slot s
 pub record Opened (p : List ℕ) (n s w : ℕ) (q : List ℕ) : Type 0 where
   pub old : Frame p (slotAt p n) (4 * (n + 1 - s)) q
   pub new : word q s ≡ w
   pub moved : (i : ℕ) → s ≤ i → i < n → word q (i + 1) ≡ word p i
+
+-- p has a header, and count, frontier and free go into 16 bits each
+pub record Headable (p : List ℕ) (n f r : ℕ) : Type 0 where
+  pub header : 8 ≤ length p
+  pub counted : n < 65536
+  pub fronted : f < 65536
+  pub freed : r < 65536
 
 -- count, frontier and free set
 pub record Headed (p : List ℕ) (n f r : ℕ) (q : List ℕ) : Type 0 where

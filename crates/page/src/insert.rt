@@ -1,8 +1,8 @@
 // A row put in at the frontier.
 ghost use mathlib.Core.Path.{_≡_};
-ghost use Prim.Native.Nat.{_+_, _*_, _≤_, _<_};
+ghost use Prim.Native.Nat.{_+_, _≤_};
 ghost use lib.ListN.{length};
-ghost use Rattle.page.specs.Steps.{Recorded, Opened, Headed, Insertable, Inserted};
+ghost use Rattle.page.specs.Steps.{Recorded, Openable, Opened, Headable, Headed, Insertable, Inserted};
 
 // A record, place and code, at f.
 fn write_record(page: &mut [u8], f: usize, place: &[u8], key: &[u8])
@@ -15,7 +15,7 @@ fn write_record(page: &mut [u8], f: usize, place: &[u8], key: &[u8])
 
 // Of n slots those from s on move down by one, and w goes to slot s.
 fn open_slot(page: &mut [u8], n: usize, s: usize, w: usize)
-    requires { ⌜ (s ≤ n) × (4 * (n + 1) ≤ length (now page)) × (w < 4294967296) ⌝ }
+    requires { ⌜ Openable (now page) n s w ⌝ }
     ensures { λ _. ⌜ Opened (now (page .entry)) n s w (now (page .exit)) ⌝ }
 {
     let size = page.len();
@@ -24,7 +24,7 @@ fn open_slot(page: &mut [u8], n: usize, s: usize, w: usize)
 }
 
 pub fn set_head(page: &mut [u8], n: usize, f: usize, r: usize)
-    requires { ⌜ (8 ≤ length (now page)) × (n < 65536) × (f < 65536) × (r < 65536) ⌝ }
+    requires { ⌜ Headable (now page) n f r ⌝ }
     ensures { λ _. ⌜ Headed (now (page .entry)) n f r (now (page .exit)) ⌝ }
 {
     words::put16(page, 2, n);

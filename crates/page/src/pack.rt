@@ -1,9 +1,9 @@
 // New pages, and pages packed.
 ghost use mathlib.Core.Path.{_≡_};
-ghost use Prim.Native.Nat.{_+_, _≤_, _<_};
+ghost use Prim.Native.Nat.{_+_, _≤_};
 ghost use lib.ListN.{length, replicate};
-ghost use Rattle.page.specs.Page.{Slotted, count};
-ghost use Rattle.page.specs.Packed.{Fresh, PackedTo, Packed, Startable, Started};
+ghost use Rattle.page.specs.Page.{Slotted};
+ghost use Rattle.page.specs.Packed.{Fresh, PackingAt, PackedTo, Packed, Startable, Started};
 use super::insert::insert_at_frontier;
 use super::insert::set_head;
 use super::read::code_at;
@@ -31,7 +31,7 @@ pub fn new_page(page: &mut [u8], d: u8)
 
 // Row i of a page goes behind the rows of another, which has the i rows before it.
 fn append(page: &mut [u8], from: &[u8], i: usize)
-    requires { ⌜ Slotted (now from) × PackedTo (now from) i (now page) × (i < count (now from)) ⌝ }
+    requires { ⌜ PackingAt (now from) i (now page) ⌝ }
     ensures { λ _. ⌜ PackedTo (now (from .entry)) (i + 1) (now (page .exit)) ⌝ }
 {
     insert_at_frontier(page, i, code_at(from, i), place_at(from, i));

@@ -4,7 +4,7 @@ ghost use Prim.Native.Nat.{_+_, _*_, _≤_, _<_};
 ghost use lib.ListN.{length};
 ghost use Rattle.words.specs.Codes.{Ordered};
 ghost use Rattle.page.specs.Page.{Slotted, off, len, code, place, count};
-ghost use Rattle.page.specs.Found.{FoundIn, CodeOut};
+ghost use Rattle.page.specs.Found.{FoundIn, CodeAsked, CodeOut};
 use crate::Extent;
 use crate::Found;
 use words::Order;
@@ -78,7 +78,7 @@ pub fn find_code(page: &[u8], key: &[u8]) -> Found
 
 // Slot i's code goes to the start of out; its length.
 pub fn read_code(page: &[u8], i: usize, out: &mut [u8]) -> usize
-    requires { ⌜ Slotted (now page) × (i < count (now page)) × (64 ≤ length (now out)) ⌝ }
+    requires { ⌜ CodeAsked (now page) i (now out) ⌝ }
     ensures { λ r. ⌜ CodeOut (now (page .entry)) i (now (out .entry)) r (now (out .exit)) ⌝ }
 {
     let c = code_at(page, i);

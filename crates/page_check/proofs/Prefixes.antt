@@ -1,9 +1,12 @@
 -- The hashes of a page share a prefix where each shares it with the first, and where their differences have no bit in it. Assumes nothing.
-use Prim.Native.Nat.{ℕ, _+_, _-_, _≤_, _<_}
-use mathlib.Core.Path.{_≡_, refl, sym, _∙_}
+use Prim.Native.Nat.{ℕ, _+_, _-_, _/_, _^_, _≤_, _<_}
+use mathlib.Core.Path.{_≡_, refl, sym, ap, subst, _∙_}
+use mathlib.Core.Logic.{_↔_}
 use mathlib.Core.List.{List}
+use native.Mathlib.Nat.{div-lt-iff-lt-mul, div-eq-of-lt, one-mul}
 use native.Mathlib.Omega.{arith}
 use borrow.Author.Count.{below-more}
+use lib.Pow.{pow-pos, pow-add, shl-shr}
 use lib.Bits.{bitOr, bitXor, or-shr, xor-shr, xor-self}
 use Rattle.words.proofs.Zeros.{or-zero, zero-or}
 use Rattle.partition.specs.Bits.{top}
@@ -28,6 +31,21 @@ module _ (k : ℕ) (small : k ≤ 32) where
 
   pub top-zero : top k 0 ≡ 0
   top-zero = top-xor 0 0 ∙ xor-self (top k 0)
+
+  -- and they share it where their difference is below 2 ^ (32 - k)
+  pub near : (a b : ℕ) → (bitXor a b < 2 ^ (32 - k)) ↔ (top k a ≡ top k b)
+  near a b = (
+    (λ h. xor-zero (top k a) (top k b) (sym (top-xor a b) ∙ top-is (bitXor a b) k small ∙ div-eq-of-lt h)),
+    (λ e.
+        let z : bitXor a b / 2 ^ (32 - k) ≡ 0 = sym (top-is (bitXor a b) k small) ∙ top-xor a b ∙ ap (λ n. bitXor n (top k b)) e ∙ xor-self (top k b) in
+        let y : bitXor a b / 2 ^ (32 - k) < 1 = omega arith in
+        subst (λ n. bitXor a b < n) (one-mul (2 ^ (32 - k))) (div-lt-iff-lt-mul (pow-pos (32 - k)) .0 y)),
+  )
+
+  pub limit-is : 4294967296 / 2 ^ k ≡ 2 ^ (32 - k)
+  limit-is =
+      let e : 32 - k + k ≡ 32 = omega arith in
+      ap (λ n. n / 2 ^ k) (ap (λ n. 2 ^ n) (sym e) ∙ pow-add 2 (32 - k) k) ∙ shl-shr (2 ^ (32 - k)) k
 
   pub ored-one : (f : ℕ → ℕ) (x : ℕ) → x ≡ f 0 → Ored k f x 1 0
   ored-one f x e = record { so = λ _ i h. let z : i ≡ 0 = omega arith in rw (z, e) refl; back = λ _. top-zero }

@@ -1,6 +1,6 @@
 -- What the pass over the slots has shown of the first of them. Assumes nothing.
-use Prim.Native.Nat.{ℕ, _+_, _-_, _≤_, _<_}
-use mathlib.Core.Path.{_≡_, refl, sym, subst}
+use Prim.Native.Nat.{ℕ, _+_, _*_, _-_, _≤_, _<_}
+use mathlib.Core.Path.{_≡_, refl, ap, _∙_}
 use mathlib.Core.List.{List}
 use native.Mathlib.Omega.{arith}
 use native.Mathlib.Numerals.{add-one}
@@ -12,7 +12,8 @@ use Rattle.words.specs.Le.{le32}
 use Rattle.words.specs.Zeros.{Zero}
 use Rattle.page.proofs.Sums.{total-more}
 use Rattle.page.specs.Page.{off, len, word, code, count, frontier, free, need, slotAt}
-use Rattle.page_check.specs.Rules.{WordOk, SlotsOk, prior, offOf, lenOf}
+use Rattle.page_check.specs.Rules.{WordOk, SlotsOk, Preceded, Codes, prior, offOf, lenOf, slotOf}
+use Rattle.page_check.specs.Big.{Lead, Led}
 use Rattle.page_check.specs.Table.{Table, NextOk}
 use Rattle.page_check.proofs.Table.{table-none, table-more, vacant-of}
 
@@ -30,30 +31,72 @@ pub word-is : (p : List ℕ) (i w : ℕ) → w ≡ le32 p (slotAt p i) → w ≡
 unfolding word
 word-is p i w e = e
 
-module _ (p t : List ℕ) (f j a b : ℕ) (last : part p a (b - a) ≡ prior p j) (s : Swept p j f t) where
-  pub swept-more : (q : List ℕ) → f ≤ length t → NextOk p t f a b (word p j) → q ≡ set t (offOf (word p j)) (lenOf (word p j)) → Swept p (j + 1) f q
+module _ (p t : List ℕ) (f j : ℕ) (s : Swept p j f t) where
+  pub swept-more : (q : List ℕ) → f ≤ length t → NextOk p t f j (word p j) → q ≡ set t (offOf (word p j)) (lenOf (word p j)) → Swept p (j + 1) f q
   unfolding off len code
   swept-more q h n e = record {
     words = below-more (λ i. WordOk p f (word p i)) j (s .words) (n .sound);
-    ascending = below-more (λ i. Before (prior p i) (code p i)) j (s .ascending) (subst (λ x. Before x (code p j)) last (n .rises));
+    ascending = below-more (λ i. Before (prior p i) (code p i)) j (s .ascending) (n .rises);
     table = table-more p t j f (s .table) q (n .sound .after) (omega (arith, n .sound .short)) (n .sound .inside) h (n .vacant) e;
   }
 
   -- where the slots keep their rules, so does the next
-  pub next-of : f ≡ frontier p → j < count p → SlotsOk p → NextOk p t f a b (word p j)
+  pub next-of : f ≡ frontier p → j < count p → SlotsOk p → NextOk p t f j (word p j)
   unfolding off len code
   next-of e h l = record {
     sound = rw e (l .words j h);
-    rises = subst (λ x. Before x (code p j)) (sym last) (l .ascending j h);
+    rises = l .ascending j h;
     vacant = vacant-of p t j f (s .table) (count p) h (l .starts);
   }
 
--- the code that the next slot's comes after
-pub last-more : (p : List ℕ) (j w : ℕ) → w ≡ word p j → 8 ≤ lenOf w → part p (offOf w + 8) (offOf w + lenOf w - (offOf w + 8)) ≡ prior p (j + 1)
+  -- the records before slot j lie in the page
+  pub preceded : (k : ℕ) → 8 ≤ k → k + 4 * (j + 1) ≡ length p → f ≤ length p → Preceded p k
+  unfolding off len
+  preceded k g e h =
+      let n : slotOf p k ≡ j = omega arith in
+      record {
+        start = g;
+        at = omega arith;
+        long = λ i l. omega (arith, s .words i (omega arith) .short);
+        inside = λ i l. omega (arith, s .words i (omega arith) .inside);
+      }
+
+-- the code that the next slot's comes after, with its lead
+pub led-more : (p : List ℕ) (j w f lead : ℕ) → w ≡ word p j → WordOk p f w → f ≤ length p → Lead p (offOf w + 8) (offOf w + lenOf w) lead → Led p (prior p (j + 1)) lead
 unfolding off len code
-last-more p j w e h =
-    let n : offOf w + lenOf w - (offOf w + 8) ≡ lenOf w - 8 = omega arith in
-    rw (n, add-one, e) refl
+led-more p j w f lead e s h l =
+    let n : offOf w + lenOf w - (offOf w + 8) ≡ lenOf w - 8 = omega (arith, s .short) in
+    record {
+      from = offOf w + 8;
+      to = offOf w + lenOf w;
+      lies = record { order = omega (arith, s .short); within = omega (arith, s .inside) };
+      is = rw (n, add-one, e) refl;
+      lead = l;
+    }
+
+pub led-none : (p : List ℕ) → 8 ≤ length p → Led p (prior p 0) 18446744073709551615
+unfolding part
+led-none p h = record { from = 8; to = 8; lies = record { order = omega arith; within = h }; is = refl; lead = record { eight = λ l. absurd (omega arith); fewer = λ _. refl } }
+
+-- the code before the slot at k
+pub before-none : (p : List ℕ) (k : ℕ) → Preceded p k → length p ≤ k + 4 → Codes p 131072 (prior p (slotOf p k))
+unfolding part
+before-none p k s h =
+    let e : slotOf p k ≡ 0 = omega (arith, s .at) in
+    record { long = omega arith; inside = omega (arith, s .start, s .at); is = rw e refl }
+
+pub before-some : (p : List ℕ) (k w : ℕ) → Preceded p k → k + 4 < length p → w ≡ le32 p (k + 4) → Codes p w (prior p (slotOf p k))
+unfolding word off len code
+before-some p k w s h e =
+    let j = slotOf p k - 1 in
+    let a : k + 4 ≡ slotAt p j = omega (arith, s .at) in
+    let g : slotOf p k ≡ j + 1 = omega (arith, s .at) in
+    let x : w ≡ word p j = e ∙ ap (le32 p) a in
+    record {
+      long = rw x (s .long j (omega arith));
+      inside = rw x (s .inside j (omega arith));
+      is = rw (g, add-one, x) refl;
+    }
 
 -- the needs of one slot more
 pub needs-more : (p : List ℕ) (j w : ℕ) → w ≡ word p j → total (need p) (j + 1) ≡ total (need p) j + 4 + lenOf w

@@ -36,6 +36,12 @@ entries-less (suc x ∷ t) zero h = omega arith
 entries-less (zero ∷ t) (suc k) h = entries-less t k h
 entries-less (suc x ∷ t) (suc k) h = omega (arith, entries-less t k h)
 
+-- a zero written over a zero
+pub set-zero : (t : List ℕ) (k : ℕ) → byte t k ≡ 0 → set t k 0 ≡ t
+set-zero [] k z = refl
+set-zero (x ∷ t) zero z = ap (λ y. y ∷ t) (sym z)
+set-zero (x ∷ t) (suc k) z = ap (λ u. x ∷ u) (set-zero t k z)
+
 -- no entry where all is zero
 pub entries-none : (t : List ℕ) → Zero t → entries t ≡ 0
 unfolding entries

@@ -13,7 +13,7 @@ use Rattle.words.specs.Zeros.{Zero}
 use Rattle.words.proofs.Zeros.{or-zero, zero-or}
 use Rattle.page.specs.Page.{In, off, len}
 use Rattle.page_check.specs.Table.{entries, Table, Inside, Laid}
-use Rattle.page_check.proofs.Table.{entries-less, entries-none, none-entries, inside-of}
+use Rattle.page_check.proofs.Table.{entries-less, entries-none, none-entries, inside-of, set-zero}
 
 abbrev Apart : List ℕ → ℕ → Type 0
 Apart p n = (i j k : ℕ) → i < n → j < n → In p i k → In p j k → i ≡ j
@@ -37,6 +37,12 @@ pub record Walked (p : List ℕ) (n f : ℕ) (t m : List ℕ) (x e met acc : ℕ
   pub spent : Apart p n → (k : ℕ) → k < x → byte m k ≡ 0
   pub clear : Laid p n f → acc ≡ 0
 
+-- g, where the last bytes of no record end, is x only where the last record, ending at e, does not end there
+pub record Gap (g x e : ℕ) : Type 0 where
+  pub to : g ≤ x
+  pub met : g < x → e ≡ x
+  pub none : 8 < x → g ≡ x → e < x
+
 module _ (p t : List ℕ) (n f : ℕ) (b : Table p n f t) where
   pub walked-none : 8 ≤ f → Walked p n f t t 8 8 0 0
   walked-none h = record {
@@ -59,8 +65,8 @@ module _ (p t : List ℕ) (n f : ℕ) (b : Table p n f t) where
 
   module _ (m : List ℕ) (x e met acc : ℕ) (w : Walked p n f t m x e met acc) (l : x < f) where
     -- a byte at which no record starts
-    pub walked-hole : byte m x ≡ 0 → Walked p n f t m (x + 1) e met (bitOr acc (byte p x))
-    walked-hole z = record {
+    hole : byte m x ≡ 0 → Walked p n f t m (x + 1) e met (bitOr acc (byte p x))
+    hole z = record {
       from = omega (arith, w .from);
       to = omega arith;
       later = λ k h. w .later k (omega arith);
@@ -77,6 +83,9 @@ module _ (p t : List ℕ) (n f : ℕ) (b : Table p n f t) where
           (λ s. let o : off p i ≡ x = omega (arith, y .from) in omega (arith, w .later x (omega arith), b .at i h, ap (byte t) o, b .short i h))
           (side (off p i) x)));
     }
+
+    pub walked-hole : (q : List ℕ) → byte m x ≡ 0 → q ≡ set m x 0 → Walked p n f t q (x + 1) e met (bitOr acc (byte p x))
+    walked-hole q z g = rw (g ∙ set-zero m x z) (hole z)
 
     -- the record that starts here
     pub here : 1 ≤ byte m x → (i : ℕ) × (i < n) × (off p i ≡ x) × (byte m x ≡ len p i)

@@ -1,4 +1,4 @@
 pub mod Rules
-pub mod Table
 pub mod Big
+pub mod Table
 pub mod Shared

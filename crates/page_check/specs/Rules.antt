@@ -3,9 +3,9 @@ use Prim.Native.Nat.{ℕ, zero, suc, _+_, _*_, _-_, _/_, _%_, _≤_, _<_}
 use mathlib.Core.Path.{_≡_}
 use mathlib.Core.List.{List, []}
 use lib.ListN.{length}
-use Rattle.ground.specs.Lists.{byte, total}
+use Rattle.ground.specs.Lists.{byte, part, total}
 use Rattle.words.specs.Codes.{Before}
-use Rattle.page.specs.Page.{off, count, frontier, free, code, word, need}
+use Rattle.page.specs.Page.{off, len, count, frontier, free, code, word, need}
 
 -- the header: the page's size, byte 0, the row count, and a frontier past the first record and not past the slots
 pub record HeadOk (p : List ℕ) : Type 0 where
@@ -42,6 +42,23 @@ pub record WordOk (p : List ℕ) (f w : ℕ) : Type 0 where
 abbrev pub prior : List ℕ → ℕ → List ℕ
 prior p zero = []
 prior p (suc i) = code p i
+
+-- the number of the slot at k
+abbrev pub slotOf : List ℕ → ℕ → ℕ
+slotOf p k = (length p - k) / 4 - 1
+
+-- a slot lies at k, after the header, and the records of the slots before it lie in the page
+pub record Preceded (p : List ℕ) (k : ℕ) : Type 0 where
+  pub start : 8 ≤ k
+  pub at : k + 4 * (slotOf p k + 1) ≡ length p
+  pub long : (i : ℕ) → i < slotOf p k → 8 ≤ len p i
+  pub inside : (i : ℕ) → i < slotOf p k → off p i + len p i ≤ length p
+
+-- w is the word of a record whose code is c
+pub record Codes (p : List ℕ) (w : ℕ) (c : List ℕ) : Type 0 where
+  pub long : 8 ≤ lenOf w
+  pub inside : offOf w + lenOf w ≤ length p
+  pub is : part p (offOf w + 8) (lenOf w - 8) ≡ c
 
 -- the slots with their records: each for itself, in code order, no two from one byte, and the needs with total free
 pub record SlotsOk (p : List ℕ) : Type 0 where

@@ -3,10 +3,12 @@ use Prim.Native.Nat.{ℕ, zero, suc, _+_, _-_, _≤_, _<_}
 use mathlib.Core.Path.{_≡_}
 use mathlib.Core.Logic.{_⊎_}
 use mathlib.Core.List.{List, [], _∷_}
+use lib.ListN.{length}
 use Rattle.ground.specs.Lists.{byte, part}
 use Rattle.words.specs.Codes.{Before}
 use Rattle.page.specs.Page.{In, off, len}
-use Rattle.page_check.specs.Rules.{WordOk, offOf, lenOf}
+use Rattle.page_check.specs.Rules.{WordOk, Preceded, offOf, lenOf, slotOf, prior}
+use Rattle.page_check.specs.Big.{Stretch, Lead, Led}
 
 -- how many bytes are not zero
 unfoldable pub entries : List ℕ → ℕ
@@ -35,8 +37,22 @@ pub record Laid (p : List ℕ) (n f : ℕ) : Type 0 where
   pub clear : (k : ℕ) → 8 ≤ k → k < f → ((i : ℕ) → i < n → In p i k → ⊥) → byte p k ≡ 0
   pub top : (i : ℕ) × (i < n) × (off p i + len p i ≡ f)
 
--- a slot's word w after a code from a up to b: its own rules, in code order, no entry at its start
-pub record NextOk (p t : List ℕ) (f a b w : ℕ) : Type 0 where
+-- the code before the slot at k and the one from x up to y, with their leads
+pub record Pair (p : List ℕ) (k lead x y next : ℕ) : Type 0 where
+  pub before : Preceded p k
+  pub led : Led p (prior p (slotOf p k)) lead
+  pub lies : Stretch p x y
+  pub leads : Lead p x y next
+
+-- the slot at k, whose word w keeps its own rules, with the leads of the code before and of its own, and a table as long as the page
+pub record Turn (p t : List ℕ) (f k lead w next : ℕ) : Type 0 where
   pub sound : WordOk p f w
-  pub rises : Before (part p a (b - a)) (part p (offOf w + 8) (lenOf w - 8))
+  pub room : f ≤ length p
+  pub pair : Pair p k lead (offOf w + 8) (offOf w + lenOf w) next
+  pub same : length t ≡ length p
+
+-- slot i's word w: its own rules, in code order, no entry at its start
+pub record NextOk (p t : List ℕ) (f i w : ℕ) : Type 0 where
+  pub sound : WordOk p f w
+  pub rises : Before (prior p i) (part p (offOf w + 8) (lenOf w - 8))
   pub vacant : byte t (offOf w) ≡ 0

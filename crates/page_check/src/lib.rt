@@ -2,6 +2,7 @@
 ghost use mathlib.Core.Path.{_≡_};
 ghost use mathlib.Core.Bool.{true, false};
 ghost use Prim.Native.Nat.{_+_, _*_, _-_, _^_, _≤_, _<_};
+ghost use lib.Bits.{bitXor};
 ghost use lib.ListN.{length, set};
 ghost use Rattle.ground.specs.Says.{Says};
 ghost use Rattle.ground.specs.Lists.{part};
@@ -10,8 +11,8 @@ ghost use Rattle.words.specs.Zeros.{Zero};
 ghost use Rattle.hash.specs.Fnv.{fnv};
 ghost use Rattle.partition.specs.Bits.{top};
 ghost use Rattle.page.specs.Page.{BucketPage, depth, count, frontier, code};
-ghost use Rattle.page_check.specs.Rules.{HeadOk, NaturalAt, WordOk, SlotsOk, offOf, lenOf};
-ghost use Rattle.page_check.specs.Table.{Table, Inside, Laid, NextOk};
+ghost use Rattle.page_check.specs.Rules.{HeadOk, NaturalAt, WordOk, SlotsOk, offOf, lenOf, slotOf, prior, Preceded, Codes};
+ghost use Rattle.page_check.specs.Table.{Table, Inside, Laid, Pair, Turn, NextOk};
 ghost use Rattle.page_check.specs.Big.{big, Stretch, Lead};
 ghost use Rattle.page_check.specs.Shared.{Alike, Share, Keeps};
 use words::Order;
@@ -54,7 +55,7 @@ fn natural_at(page: &[u8], o: usize) -> bool
 
 // A slot's word and its record, in a page with frontier f.
 fn word_ok(page: &[u8], f: usize, w: usize) -> bool
-    requires { ⌜ f ≤ length (now page) ⌝ }
+    requires { ⌜ (f ≤ length (now page)) × (f ≤ 16384) ⌝ }
     ensures { λ r. ⌜ Says r (WordOk (now (page .entry)) f w) ⌝ }
 {
     // 1 above a length of 9 to 72, in one look
@@ -66,11 +67,10 @@ fn word_ok(page: &[u8], f: usize, w: usize) -> bool
         return false;
     }
     let o = w % 16384;
-    let l = t - 16384;
     if o < 8 {
         return false;
     }
-    if f < o + l {
+    if f + 16384 < o + t {
         return false;
     }
     natural_at(page, o)
@@ -123,25 +123,39 @@ fn lead_of(page: &[u8], x: usize, y: usize) -> usize
     be64(page, x)
 }
 
-// Whether the first eight bytes alone show that a code of that lead comes before the one from x up to y.
-fn leads(page: &[u8], lead: usize, x: usize, y: usize) -> bool
-    requires { ⌜ Stretch (now page) x y ⌝ }
-    ensures { λ r. ⌜ (r ≡ true → (x + 8 ≤ y) × (lead < big 8 (now (page .entry)) x) × (lead < 18446744073709551615)) ⌝ }
+// Whether the first eight bytes alone show that a code of that lead comes before the one from x up to y, which has the other.
+fn leads(lead: usize, x: usize, y: usize, next: usize) -> bool
+    requires { ⌜ x ≤ y ⌝ }
+    ensures { λ r. ⌜ (r ≡ true → (x + 8 ≤ y) × (lead < next) × (lead < 18446744073709551615)) ⌝ }
 {
     if y - x < 8 {
         return false;
     }
-    lead < be64(page, x)
+    lead < next
 }
 
-// Whether the code from a up to b, which has that lead, comes before the one from x up to y.
-fn rises(page: &[u8], a: usize, b: usize, lead: usize, x: usize, y: usize) -> bool
-    requires { ⌜ Stretch (now page) a b × Lead (now page) a b lead × Stretch (now page) x y ⌝ }
-    ensures { λ r. ⌜ Says r (Before (part (now (page .entry)) a (b - a)) (part (now (page .entry)) x (y - x))) ⌝ }
+// The word of the slot before the one at k; before the first, that of an empty code.
+fn word_before(page: &[u8], k: usize) -> usize
+    requires { ⌜ Preceded (now page) k ⌝ }
+    ensures { λ r. ⌜ Codes (now (page .entry)) r (prior (now (page .entry)) (slotOf (now (page .entry)) k)) ⌝ }
 {
-    if leads(page, lead, x, y) {
+    if page.len() <= k + 4 {
+        return 131072;
+    }
+    words::get32(page, k + 4)
+}
+
+// Whether the code before the slot at k, which has that lead, comes before the one from x up to y, which has the other.
+fn rises(page: &[u8], k: usize, lead: usize, x: usize, y: usize, next: usize) -> bool
+    requires { ⌜ Pair (now page) k lead x y next ⌝ }
+    ensures { λ r. ⌜ Says r (Before (prior (now (page .entry)) (slotOf (now (page .entry)) k)) (part (now (page .entry)) x (y - x))) ⌝ }
+{
+    if leads(lead, x, y, next) {
         return true;
     }
+    let v = word_before(page, k);
+    let a = v % 16384 + 8;
+    let b = v % 16384 + v / 16384 % 16384;
     match words::compare(&page[a..b], &page[x..y]) {
         Order::Less => true,
         Order::Equal => false,
@@ -149,19 +163,24 @@ fn rises(page: &[u8], a: usize, b: usize, lead: usize, x: usize, y: usize) -> bo
     }
 }
 
-// A slot's word after a code from a up to b, which has that lead: its rules, code order, and its length entered at its start, where none was.
-fn next_ok(page: &[u8], tab: &mut [u8], f: usize, a: usize, b: usize, lead: usize, w: usize) -> bool
-    requires { ⌜ (f ≤ length (now page)) × Stretch (now page) a b × Lead (now page) a b lead × (length (now tab) ≡ length (now page)) ⌝ }
-    ensures says { λ r. ⌜ Says r (NextOk (now (page .entry)) (now (tab .entry)) f a b w) ⌝ }
+// The word of the slot at k, after a code of that lead: code order, and its length entered at its start, where none was.
+fn next_ok(
+    page: &[u8],
+    tab: &mut [u8],
+    f: usize,
+    k: usize,
+    lead: usize,
+    w: usize,
+    next: usize,
+) -> bool
+    requires { ⌜ Turn (now page) (now tab) f k lead w next ⌝ }
+    ensures says { λ r. ⌜ Says r (NextOk (now (page .entry)) (now (tab .entry)) f (slotOf (now (page .entry)) k) w) ⌝ }
     ensures entered { λ r. ⌜ (r ≡ true → now (tab .exit) ≡ set (now (tab .entry)) (offOf w) (lenOf w)) ⌝ }
     ensures kept { λ r. ⌜ (r ≡ false → now (tab .exit) ≡ now (tab .entry)) ⌝ }
 {
-    if !word_ok(page, f, w) {
-        return false;
-    }
     let o = w % 16384;
     let l = w / 16384 % 16384;
-    if !rises(page, a, b, lead, o + 8, o + l) {
+    if !rises(page, k, lead, o + 8, o + l, next) {
         return false;
     }
     if tab[o] != 0 {
@@ -171,35 +190,37 @@ fn next_ok(page: &[u8], tab: &mut [u8], f: usize, a: usize, b: usize, lead: usiz
     true
 }
 
-// The slots with their records, in one pass: a up to b is the code before slot i's, none before the first.
+// The slots with their records, in one pass, each at k; lead is that of the code before, none before the first.
 fn slots_ok(page: &[u8], tab: &mut [u8], n: usize, f: usize) -> bool
     requires { ⌜ HeadOk (now page) × (n ≡ count (now page)) × (f ≡ frontier (now page)) × (length (now tab) ≡ length (now page)) × Zero (now tab) ⌝ }
     ensures says { λ r. ⌜ Says r (SlotsOk (now (page .entry))) ⌝ }
     ensures entered { λ r. ⌜ (r ≡ true → Table (now (page .entry)) n f (now (tab .exit))) ⌝ }
     ensures inside { λ r. ⌜ Inside f (now (tab .exit)) ⌝ }
 {
-    let mut i = 0;
-    let mut a = 8;
-    let mut b = 8;
+    let end = page.len() - 4 * n;
+    let mut k = page.len();
     let mut lead = usize::MAX;
-    let mut needs = 0;
-    while i < n {
-        let w = words::get32(page, page.len() - 4 * (i + 1));
-        if !next_ok(page, tab, f, a, b, lead, w) {
+    let mut lens = 0;
+    while end < k {
+        k -= 4;
+        let w = words::get32(page, k);
+        if !word_ok(page, f, w) {
             return false;
         }
+        let o = w % 16384;
         let l = w / 16384 % 16384;
-        a = w % 16384 + 8;
-        b = w % 16384 + l;
-        lead = lead_of(page, a, b);
-        needs = needs + 4 + l;
-        i += 1;
+        let next = lead_of(page, o + 8, o + l);
+        if !next_ok(page, tab, f, k, lead, w, next) {
+            return false;
+        }
+        lead = next;
+        lens = lens + l;
     }
-    words::get16(page, 6) + needs == page.len() - 8
+    words::get16(page, 6) + 4 * n + lens == page.len() - 8
 }
 
-// From 8 to the frontier by the table: over each record that is met, its entry taken back, and the bytes of none or-ed.
-// Met records lie apart; that all n are met, those bytes are zero and the last ends at f is that the records are laid well.
+// From 8 to the frontier by the table: over each record that is met, its entry taken back, and the bytes of none or-ed; gap is where the last of these ends.
+// Met records lie apart; that all n are met, those bytes are zero and none of them is the last before f is that the records are laid well.
 fn walk(page: &[u8], tab: &mut [u8], n: usize, f: usize) -> bool
     requires { ⌜ (17 ≤ f) × (f ≤ length (now page)) × (length (now tab) ≡ length (now page)) × Table (now page) n f (now tab) ⌝ }
     ensures says { λ r. ⌜ Says r (Laid (now (page .entry)) n f) ⌝ }
@@ -207,19 +228,19 @@ fn walk(page: &[u8], tab: &mut [u8], n: usize, f: usize) -> bool
     ensures inside { λ r. ⌜ Inside f (now (tab .exit)) ⌝ }
 {
     let mut pos = 8;
-    let mut end = 8;
+    let mut gap = 8;
     let mut met = 0;
     let mut acc: u8 = 0;
     while pos < f {
         let l = tab[pos] as usize;
+        tab[pos] = 0;
         if l == 0 {
             acc = acc | page[pos];
             pos += 1;
+            gap = pos;
             continue;
         }
-        tab[pos] = 0;
         pos += l;
-        end = pos;
         met += 1;
     }
     if acc != 0 {
@@ -228,7 +249,7 @@ fn walk(page: &[u8], tab: &mut [u8], n: usize, f: usize) -> bool
     if met != n {
         return false;
     }
-    end == f
+    gap < f
 }
 
 // The rules after the header, of n rows and frontier f: where they hold, the table is zero again.
@@ -280,6 +301,21 @@ pub fn shares(first: u32, x: u32, k: u8) -> bool
     ensures { λ r. ⌜ Says r (top k first ≡ top k x) ⌝ }
 {
     (k as u32) <= partition::shared_bits(first, x)
+}
+
+// What the difference of two hashes stays below where they share k bits.
+pub fn limit(k: u8) -> u64
+    requires { ⌜ k ≤ 32 ⌝ }
+    ensures { λ r. ⌜ r ≡ 2 ^ (32 - k) ⌝ }
+{
+    4294967296u64 >> (k as u32)
+}
+
+// Whether the difference of two hashes is below m: where m is a limit worked out once, cheaper than to count the bits they share.
+pub fn differ_below(first: u32, x: u32, m: u64) -> bool
+    ensures { λ r. ⌜ Says r (bitXor first x < m) ⌝ }
+{
+    ((first ^ x) as u64) < m
 }
 
 // Whether the hashes of a bucket page, the first of them given, share their first k bits: their differences or-ed have none there.

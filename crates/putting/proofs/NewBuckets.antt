@@ -1,16 +1,18 @@
 -- PUT of a new code where no page holds its hash: a bucket of the row alone in the lowest free page, or refusal 7. Over any page size and hash. Assumes nothing.
-use mathlib.Core.Path.{_≡_, refl, sym, ap, subst, _∙_}
+use mathlib.Core.Path.{_≡_, refl, sym, ap, subst, subst₂, _∙_}
+use mathlib.Core.Bool.{true≢false}
 use mathlib.Core.List.{List, [], _∷_}
-use mathlib.Core.Logic.{inl, inr, ⊎-elim, _↔_}
+use mathlib.Core.Logic.{_⊎_, inl, inr, ⊎-elim, _↔_}
 use mathlib.Core.Option.{none}
 use Prim.Native.Nat.{ℕ, suc, _+_, _-_, _/_, _^_, _≤_, _<_}
 use native.Mathlib.Omega.{arith}
-use lib.ListN.{length, set}
+use native.Mathlib.Decide.{ℕ-discrete}
+use lib.ListN.{length, getD, set}
 use Rattle.ground.proofs.Tests.{none-some}
 use Rattle.ground.specs.Lists.{byte}
 use Rattle.ground.specs.Ladder.{Answers}
 use Rattle.ground.proofs.Sides.{side}
-use Rattle.page.specs.Page.{depth}
+use Rattle.page.specs.Page.{Record, depth, code}
 use Rattle.page.specs.Packed.{Started}
 use Rattle.partition.specs.Bits.{top}
 use Rattle.partition.specs.declared.Shape.{Shape}
@@ -19,23 +21,41 @@ use Rattle.partition.specs.Listing.{placeOf}
 use Rattle.partition.proofs.Bits.{top-step}
 use Rattle.partition.proofs.Path.{path-le}
 use Rattle.partition.proofs.Rows.{load, load-mono}
-use Rattle.store.specs.Pages.{pages, page, dirDepth, entryAt, Page, bucket, contents, rowsHeld, deepestIn, setPage}
-use Rattle.store.specs.Accepted.{Accepted}
+use Rattle.store.specs.Pages.{size, pages, page, dirDepth, entryAt, Page, free, bucket, contents, rowsHeld, deepestIn, setPage}
+use Rattle.store.specs.Accepted.{Calls, Accepted}
 use Rattle.store.specs.Moves.{find, isFree, record-at, putNew, frees}
 use Rattle.store.specs.Tables.{new, refused, Refusal6, Refusal7, putAccepted}
 use Rattle.store.specs.Demands.{Sized, Hash}
 use Rattle.store.proofs.Accepted.Rules.{opened}
-use Rattle.store.proofs.Showing.Shows.{Shows}
-use Rattle.store.proofs.Showing.Showing.{accepted-shows, pages-held}
+use Rattle.store.proofs.Showing.Shows.{prefixOn, Shows}
+use Rattle.store.proofs.Showing.Showing.{first-code, accepted-shows, pages-held}
+use Rattle.store.proofs.Showing.Rooms.{bucket-one, held-set, fill-keeps, find-free}
+use Rattle.store.proofs.Accepted.Named.{deepest-le, deepest-bound}
+use Rattle.store.proofs.Accepted.Accepting.{accepted-laid}
+use Rattle.store.proofs.Paging.Depths.{kind-byte}
+use Rattle.store.proofs.Paging.Views.{set-same, set-other, set-entry as entry-kept}
 use Rattle.store.proofs.Accepted.Unique.{page-long}
 use Rattle.store.proofs.Accepted.Reading.{entryOf, lookup-none}
 use Rattle.store.proofs.Put.PutCases.{unheld-six, unheld-seven, put-unheld-is}
 use Rattle.store.proofs.Put.PutRows.{put-shown}
 use Rattle.store_check.proofs.Naming.{room as room-for}
-use Rattle.directory.specs.Directory.{Directed, Rewritten}
+use Rattle.directory.specs.Directory.{CallsFor, EntryFor, names, PrefixNamed, Directed, Rewritten}
+use Rattle.directory.proofs.Frees.{used-page}
+use Rattle.directory.proofs.Renews.{prefix-pages, prefix-holds, prefix-kept, renewed}
 use Rattle.putting.specs.Put.{newRow, Puttable, Homeless, Unset, Vacant}
 use Rattle.directory.proofs.Vacancy.{off, set-entry, some-row}
 use Rattle.directory.proofs.Settles.{rewritten-set, set-holds, unwritten, settled}
+use Rattle.putting.proofs.Splits.{rewritten-then, rewritten-self}
+
+-- a free page that gets a bucket no deeper than the deepest leaves the largest depth
+deepest-filled : (gs : List Page) (i k : ℕ) (rs : List Record) → i < length gs → getD gs i free ≡ free → k ≤ deepestIn gs → deepestIn (set gs i (bucket k rs)) ≡ deepestIn gs
+deepest-filled gs i k rs b f l =
+    let g : Page = bucket k rs in
+    let most : deepestIn (set gs i g) ≤ deepestIn gs =
+    deepest-le (set gs i g) (deepestIn gs) (λ j m qs x. ⊎-elim (λ y. omega (arith, l, bucket-one (y .1) .0)) (λ y. deepest-bound gs j m qs (y .1)) (held-set gs i g b j m qs x)) in
+    let least : deepestIn gs ≤ deepestIn (set gs i g) =
+    deepest-le gs (deepestIn (set gs i g)) (λ j m qs x. deepest-bound (set gs i g) j m qs (fill-keeps gs i g f j m qs x)) in
+    omega (arith, most, least)
 
 module _ (S : Shape) (h : List ℕ → ℕ) (hash : Hash h) (s : List ℕ) (x : ℕ) (c pl : List ℕ) (O : Homeless S h s x c pl) where
   abbrev P : Puttable S h s c pl
@@ -129,16 +149,83 @@ module _ (S : Shape) (h : List ℕ → ℕ) (hash : Hash h) (s : List ℕ) (x : 
         set-holds S s s (unwritten S sized h hash s A) f (omega arith) to q (Q .page) (Q .long ∙ page-long S s f to) (omega (arith, Q .deep, K .low, low-d))
         ∙ (λ x. set gs (i x) (bucket (Q .deep x) (Q .rowsOf x))) ∙ sym is
 
-    pub unheld-new : (u : List ℕ) → Directed S h (setPage S s f q) (deepestIn (contents S (setPage S s f q))) (pages S s) u → ((i : ℕ) → byte u i < 256)
-        → Answers (putAccepted S h s (newRow c pl)) (new, u)
-    unheld-new u D b =
-        inr (
-          (λ _. none-some absent),
+    -- and its entries name it
+    module _ (t : List ℕ) (N : PrefixNamed S (setPage S s f q) (dirDepth s) k (top k (h c)) f t) where
+      abbrev s₁ : List ℕ
+      s₁ = setPage S s f q
+
+      abbrev v : ℕ
+      v = top k (h c)
+
+      long : length q ≡ size S
+      long = Q .long ∙ page-long S s f to
+
+      kept : Rewritten S s t
+      kept = rewritten-then S s s₁ t wrote (prefix-kept S s₁ t d k v f N (rewritten-self S s s₁ wrote))
+
+      holds-then : contents S t ≡ putNew S h gs r
+      holds-then = prefix-holds S s₁ t d k v f N ∙ holds
+
+      pages-then : (j : ℕ) → 2 ≤ j → j < pages S s → page S t j ≡ page S s₁ j
+      pages-then j a b = prefix-pages S s₁ t d k v f N j a (subst (λ n. j < n / size S) (sym (wrote .long)) b)
+
+      its : page S t f ≡ q
+      its = pages-then f (omega arith) to ∙ set-same S s f q to long
+
+      begins : top (depth q) (h (code q 0)) ≡ v
+      begins = sym (first-code h q (Q .page)) ∙ (λ x. prefixOn h (Q .deep x) (Q .rowsOf x))
+
+      -- the page calls for what its prefix calls for
+      now-calls : (i : ℕ) → CallsFor S h t d i f → Calls d k v i
+      now-calls i x = subst₂ (λ l w. Calls d l w i) (Q .deep) begins (subst (λ g. Calls d (depth g) (top (depth g) (h (code g 0))) i) its (x .calls))
+
+      calls-now : (i : ℕ) → Calls d k v i → CallsFor S h t d i f
+      calls-now i x = record {
+        used = ap (λ g. byte g 0) its ∙ Q .page .rules .one;
+        calls = subst (λ g. Calls d (depth g) (top (depth g) (h (code g 0))) i) (sym its) (subst₂ (λ l w. Calls d l w i) (sym (Q .deep)) (sym begins) x);
+      }
+
+      was-free : byte (page S s f) 0 ≡ 1 → ⊥
+      was-free b =
+          let i : f - 2 ≡ find isFree gs = omega arith in
+          true≢false (sym (ap isFree (find-free gs some .1)) ∙ ap (λ j. isFree (getD gs j free)) (sym i) ∙ used-page S s f (omega arith) to (λ y. omega (arith, y, b, kind-byte S s f)))
+
+      each : (j : ℕ) → 2 ≤ j → j < pages S s
+          → (page S t j ≡ page S s j) ⊎ (((i : ℕ) → CallsFor S h s d i j → Calls d k v i) × ((i : ℕ) → CallsFor S h t d i j → Calls d k v i))
+      each j a b = go (ℕ-discrete j f)
+        where
+          go : Dec (j ≡ f) → (page S t j ≡ page S s j) ⊎ (((i : ℕ) → CallsFor S h s d i j → Calls d k v i) × ((i : ℕ) → CallsFor S h t d i j → Calls d k v i))
+          go (yes w) = inr ((λ i x. absurd (was-free (subst (λ m. byte (page S s m) 0 ≡ 1) w (x .used)))), (λ i x. now-calls i (subst (CallsFor S h t d i) w x)))
+          go (no n) = inl (pages-then j a b ∙ set-other S s f q to long j n)
+
+      others : (i : ℕ) → i < S .entries → (Calls d k v i → ⊥) → entryAt S t i ≡ entryAt S s i
+      others i l n = ⊎-elim (λ y. absurd (n (y .0))) (λ y. y .1 ∙ entry-kept S s f q to long (omega arith) i (omega (arith, sized .whole))) (N .entry i l)
+
+      own : (i : ℕ) → i < S .entries → Calls d k v i → EntryFor S h t d (pages S s) i (entryAt S t i)
+      own i l x = ⊎-elim
+          (λ y. names (omega (arith, y .1)) (omega (arith, y .1, to)) (subst (CallsFor S h t d i) (sym (y .1)) (calls-now i x)))
+          (λ y. absurd (y .0 x))
+          (N .entry i l)
+
+      -- the depth stays, since the bucket is no deeper
+      same-depth : deepestIn (contents S t) ≡ dirDepth s
+      same-depth =
+          let now : dirDepth s ≡ deepestIn gs = accepted-laid S h sized hash s A .deep in
+          let at = find-free gs some in
+          ap deepestIn (holds-then ∙ is) ∙ deepest-filled gs (find isFree gs) k (record-at 8 r ∷ []) (at .0) (at .1) (omega (arith, K .low, now)) ∙ sym now
+
+      directed : Directed S h t (deepestIn (contents S t)) (pages S s) t
+      directed = subst (λ n. Directed S h t n (pages S s) t) (sym same-depth) (renewed S sized h s A k v t kept (record { pages = each; others = others; own = own }))
+
+      pub unheld-new : ((i : ℕ) → byte t i < 256) → Answers (putAccepted S h s (newRow c pl)) (new, t)
+      unheld-new b =
           inr (
-            (λ _. six),
+            (λ _. none-some absent),
             inr (
-              (λ _. room),
-              (refl, rw (← holds) (settled S sized h hash s A (setPage S s f q) wrote u D (r ∷ rowsHeld S s) (rw holds (put-shown S h sized hash s r A absent six room)) b)),
+              (λ _. six),
+              inr (
+                (λ _. room),
+                (refl, rw (← holds-then) (settled S sized h hash s A t kept t directed (r ∷ rowsHeld S s) (rw holds-then (put-shown S h sized hash s r A absent six room)) b)),
+              ),
             ),
-          ),
-        )
+          )

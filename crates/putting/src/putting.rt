@@ -13,7 +13,7 @@ use super::split::split_lent;
 use super::vacant::vacant_depth;
 use directory::free_pages;
 use directory::lowest_free;
-use directory::settle;
+use directory::name_prefix;
 use partition::Shape;
 use store_check::Length;
 
@@ -71,6 +71,30 @@ fn insert_lent(
     insert_new(s, z, p, i, key, place, &mut scratch[0..size])
 }
 
+// The same, where most pages have the room at the frontier: only one that has not, and is packed first, pays for a page to work in.
+fn insert_fitting(
+    s: &mut [u8],
+    z: Shape,
+    p: usize,
+    i: usize,
+    key: &[u8],
+    place: &[u8],
+) -> store::Answer
+    requires { ⌜ Insertion z fnv (now s) p i (now key) (now place) ⌝ }
+    ensures { λ r. ⌜ Answers (putAccepted z fnv (now (s .entry)) (newRow (now (key .entry)) (now (place .entry)))) (meaning r, now (s .exit)) ⌝ }
+{
+    let size = 8 + z.capacity;
+    let a = p * size;
+    let e = a + size;
+    let n = words::get16(&s[a..e], 2);
+    let f = words::get16(&s[a..e], 4);
+    if f + 4 * n + 12 + key.len() <= size {
+        page::insert_at_frontier(&mut s[a..e], i, key, place);
+        return store::Answer::New;
+    }
+    insert_lent(s, z, p, i, key, place)
+}
+
 // No bucket holds the hash x of the code: a new one takes the lowest free page.
 fn new_bucket(s: &mut [u8], z: Shape, x: u32, key: &[u8], place: &[u8]) -> store::Answer
     requires { ⌜ Homeless z fnv (now s) x (now key) (now place) ⌝ }
@@ -87,7 +111,7 @@ fn new_bucket(s: &mut [u8], z: Shape, x: u32, key: &[u8], place: &[u8]) -> store
     let a = p * size;
     let e = a + size;
     page::start_page(&mut s[a..e], k as u8, key, place);
-    settle(s, z, n);
+    name_prefix(s, z, x, k, d, p);
     store::Answer::New
 }
 
@@ -113,7 +137,7 @@ fn put_on(s: &mut [u8], z: Shape, p: usize, key: &[u8], place: &[u8], mode: u64)
             }
             let room = words::get16(&s[a..e], 6);
             if 12 + key.len() <= room {
-                return insert_lent(s, z, p, i, key, place);
+                return insert_fitting(s, z, p, i, key, place);
             }
             split_lent(s, z, p, i, key, place)
         }

@@ -78,7 +78,7 @@ pub fn place_of(s: &[u8], z: Shape, key: &[u8]) -> Answer
     requires { ⌜ Sized z × Accepted z fnv (now s) ⌝ }
     ensures { λ r. ⌜ Answers (lookedUp z (now (s .entry)) (now (key .entry))) (meaning r) ⌝ }
 {
-    match spots::find_row(s, z, key) {
+    match spots::find_row(s, z, key, hash::hash(key)) {
         Spot::Here(p, i) => {
             let size = 8 + z.capacity;
             let a = p * size;

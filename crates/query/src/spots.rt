@@ -26,12 +26,12 @@ pub fn entry_of(s: &[u8], z: Shape, x: u32) -> usize
     words::get32(s, 8 + z.capacity + 4 * i)
 }
 
-// Where a code's row stands.
-pub fn find_row(s: &[u8], z: Shape, key: &[u8]) -> Spot
-    requires { ⌜ Sized z × Accepted z fnv (now s) ⌝ }
+// Where the row of a code of the hash x stands.
+pub fn find_row(s: &[u8], z: Shape, key: &[u8], x: u32) -> Spot
+    requires { ⌜ Sized z × Accepted z fnv (now s) × (x ≡ fnv (now key)) ⌝ }
     ensures { λ r. ⌜ StandsAt z (now (s .entry)) (now (key .entry)) r ⌝ }
 {
-    let p = entry_of(s, z, hash::hash(key));
+    let p = entry_of(s, z, x);
     if p == 0 {
         return Spot::Nowhere;
     }

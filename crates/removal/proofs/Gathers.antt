@@ -1,12 +1,12 @@
 -- Rows gathered on a page of their own, one after another. Assumes nothing.
-use mathlib.Core.Path.{_≡_, refl, sym, ap, subst, _∙_}
+use mathlib.Core.Path.{_≡_, refl, sym, ap, subst, subst₂, _∙_}
 use mathlib.Core.List.{List, [], _∷_, _++_, map, append-assoc, append-nil, flatMap}
-use mathlib.Core.Bool.{true, false}
+use mathlib.Core.Bool.{Bool, true, false}
 use mathlib.Core.Option.{some, none}
-use Prim.Native.Nat.{ℕ, suc, _+_, _*_, _≤_, _<_, max, Ordering, Ordering·lt, Ordering·eq, Ordering·gt}
+use Prim.Native.Nat.{ℕ, zero, suc, _+_, _*_, _≤_, _<_, max, Ordering, Ordering·lt, Ordering·eq, Ordering·gt}
 use native.Mathlib.Omega.{arith}
 use native.Mathlib.Numerals.{add-one}
-use lib.ListN.{length, getD, drop, length-map}
+use lib.ListN.{length, getD, set, drop, length-map}
 use lib.Seq.{drop-cons, drop-length}
 use Rattle.ground.proofs.Tests.{none-some}
 use Rattle.ground.proofs.Tables.{getD-tab, length-tab}
@@ -15,7 +15,7 @@ use Rattle.words.proofs.Orders.{order-refl, order-eq}
 use Rattle.page.specs.Page.{Record, Slotted, BucketPage, Belongs, rows, rowAt, count, code, place, frontier, depth, free as spare}
 use Rattle.page.specs.Steps.{Insertable, Inserted}
 use Rattle.page.proofs.Sums.{count-more, slot-code}
-use Rattle.partition.specs.Partition.{Row, need, needs, Reordered, chain}
+use Rattle.partition.specs.Partition.{Row, need, needs, Reordered, front, chain}
 use Rattle.partition.specs.Listing.{by, insert, without, inOrder, placeOf, Once}
 use Rattle.partition.proofs.Reorders.{same-order, turned, append-same, needs-same, needs-append, to-front}
 use Rattle.partition.proofs.Maps.{cut, passed}
@@ -25,7 +25,7 @@ use Rattle.store.specs.Pages.{Page, free, read, asRow, rowsOn, rowsIn}
 use Rattle.store.specs.Moves.{pick, within, record-at, frontierOf, atFrontier}
 use Rattle.store.proofs.Accepted.Unique.{read-used}
 use Rattle.store.proofs.Paging.PageTies.{rows-tab, page-needs, page-order, page-frontier, inserted-rows, found-at}
-use Rattle.removal.specs.Join.{Housed, Tight, Taking, Gathered, Storable, rowOf, rowsAt, othersOn, othersIn}
+use Rattle.removal.specs.Join.{Housed, Tight, Taking, Gathered, Storable, rowOf, rowsAt, othersIn}
 
 -- ---- rows left out of lists
 
@@ -198,25 +198,50 @@ none-added {p} t = record { long = refl; tight = t; deep = refl; all = subst (Re
 
 -- ---- the pages of a prefix
 
+-- rows before others
+before-rows : (a b c : List Row) → Reordered (a ++ (b ++ c)) (b ++ (a ++ c))
+before-rows a [] c = same-order (a ++ c)
+before-rows a (y ∷ b) c = chain (to-front a y (b ++ c)) (front y (before-rows a b c))
+
+-- the rows that are still to come, in another order
+pub coming-reordered : {p q : List ℕ} {rs xs ys : List Row} → Reordered xs ys → Coming p rs xs q → Coming p rs ys q
+coming-reordered {p} {q} e k = record { long = k .long; tight = k .tight; deep = k .deep; all = chain (append-same (same-order (rowsAt q)) (turned e)) (k .all) }
+
 module _ (h : List ℕ → ℕ) (j v : ℕ) (c : List ℕ) where
+  -- the rows of another code of a page of the prefix
+  abbrev pub othersOn : Page → List Row
+  othersOn g = cut c (rowsOn (pick (within h j v g) g free))
+
   -- a page of the prefix, and another
-  pub others-on : (g : List ℕ) → BucketPage g → within h j v (read g) ≡ true → othersOn h j v c (read g) ≡ cut c (rowsAt g)
+  pub others-on : (g : List ℕ) → BucketPage g → within h j v (read g) ≡ true → othersOn (read g) ≡ cut c (rowsAt g)
   others-on g b e = ap (λ t. cut c (rowsOn (pick t (read g) free))) e ∙ ap (λ x. cut c (rowsOn x)) (read-used g b)
 
-  pub others-off : (g : Page) → within h j v g ≡ false → othersOn h j v c g ≡ []
+  others-off : (g : Page) → within h j v g ≡ false → othersOn g ≡ []
   unfolding without
   others-off g e = ap (λ t. cut c (rowsOn (pick t g free))) e
 
-  others-cons : (g : Page) (gs : List Page) → othersIn h j v c (g ∷ gs) ≡ othersOn h j v c g ++ othersIn h j v c gs
+  others-cons : (g : Page) (gs : List Page) → othersIn h j v c (g ∷ gs) ≡ othersOn g ++ othersIn h j v c gs
   unfolding rowsIn flatMap
   others-cons g gs = cut-append c (rowsOn (pick (within h j v g) g free)) (rowsIn (map (λ x. pick (within h j v x) x free) gs))
 
-  -- from page m on
-  pub pages-next : (gs : List Page) (m : ℕ) → m < length gs → othersIn h j v c (drop m gs) ≡ othersOn h j v c (getD gs m free) ++ othersIn h j v c (drop (m + 1) gs)
-  pages-next gs m l =
-      ap (othersIn h j v c) (drop-cons gs m free l) ∙ others-cons (getD gs m free) (drop (suc m) gs)
-      ∙ ap (λ k. othersOn h j v c (getD gs m free) ++ othersIn h j v c (drop k gs)) (sym (add-one m))
+  -- one page's rows, and those of the pages without it
+  pub one-out : (gs : List Page) (m : ℕ) → m < length gs → Reordered (othersIn h j v c gs) (othersOn (getD gs m free) ++ othersIn h j v c (set gs m free))
+  one-out [] m l = absurd (omega arith)
+  one-out (g ∷ gs) zero l =
+      let e : othersIn h j v c (free ∷ gs) ≡ othersIn h j v c gs = others-cons free gs ∙ ap (λ x. x ++ othersIn h j v c gs) (others-off free refl) in
+      subst₂ Reordered (sym (others-cons g gs)) (ap (λ x. othersOn g ++ x) (sym e)) (same-order (othersOn g ++ othersIn h j v c gs))
+  one-out (g ∷ gs) (suc m) l =
+      subst₂ Reordered (sym (others-cons g gs)) (ap (λ x. othersOn (getD gs m free) ++ x) (sym (others-cons g (set gs m free))))
+      (chain (append-same (same-order (othersOn g)) (one-out gs m (omega arith))) (before-rows (othersOn g) (othersOn (getD gs m free)) (othersIn h j v c (set gs m free))))
 
-  pub pages-end : (gs : List Page) (m : ℕ) → m ≡ length gs → othersIn h j v c (drop m gs) ≡ []
+  -- no page of the prefix is left
+  pub all-out : (gs : List Page) → othersIn h j v c (map (λ g. pick (within h j v g) free g) gs) ≡ []
   unfolding without rowsIn flatMap
-  pages-end gs m e = ap (λ k. othersIn h j v c (drop k gs)) e ∙ ap (othersIn h j v c) (drop-length gs)
+  all-out [] = refl
+  all-out (g ∷ gs) =
+      others-cons (pick (within h j v g) free g) (map (λ x. pick (within h j v x) free x) gs)
+      ∙ ap (λ x. x ++ othersIn h j v c (map (λ x. pick (within h j v x) free x) gs)) (others-off (pick (within h j v g) free g) (go (within h j v g) refl)) ∙ all-out gs
+    where
+      go : (b : Bool) → within h j v g ≡ b → within h j v (pick b free g) ≡ false
+      go true e = refl
+      go false e = e

@@ -11,6 +11,7 @@ use Rattle.ground.specs.Lists.{tab}
 use Rattle.ground.proofs.Sides.{side}
 use Rattle.page.specs.Page.{BucketPage, count, depth, rowAt}
 use Rattle.page.specs.Packed.{Fresh, Packed}
+use Rattle.partition.specs.Bits.{top}
 use Rattle.partition.specs.Partition.{Row, needs, Reordered}
 use Rattle.partition.specs.Listing.{inOrder}
 use Rattle.partition.proofs.Reorders.{needs-same}
@@ -49,7 +50,10 @@ fresh-taking {p} {d} {q} rs F h = record {
   all = subst₂ (λ m x. Housed m (x ++ rs)) (sym (F .long)) (sym (no-rows q (F .none))) h;
 }
 
-module _ (S : Shape) (h : List ℕ → ℕ) (s : List ℕ) (n j v a b : ℕ) (c : List ℕ) (J : Joinable S h s n j v a b c) where
+module _ (S : Shape) (h : List ℕ → ℕ) (s : List ℕ) (n x j : ℕ) (c : List ℕ) (J : Joinable S h s n x j c) where
+  abbrev v : ℕ
+  v = top j x
+
   abbrev gs : List Page
   gs = contents S s
 
@@ -59,7 +63,7 @@ module _ (S : Shape) (h : List ℕ → ℕ) (s : List ℕ) (n j v a b : ℕ) (c 
   pub low-within : low < n
   low-within = omega (arith, J .there, listed S s n (J .prefix .sound))
 
-  module _ {p q g u k : List ℕ} (l : length p ≡ size S) (F : Fresh p j q) (G : Gathered q (othersIn h j v c gs) g) (E : Emptied S h s n j v 2 u) (K : Packed g k) where
+  module _ {p q g u k : List ℕ} (l : length p ≡ size S) (F : Fresh p j q) (G : Gathered q (othersIn h j v c gs) g) (E : Emptied S h s n j v u) (K : Packed g k) where
     all : Reordered (rowsAt g) (othersIn h j v c gs)
     all = subst (λ x. Reordered (rowsAt g) (x ++ othersIn h j v c gs)) (no-rows q (F .none)) (G .all)
 
@@ -92,14 +96,14 @@ module _ (S : Shape) (h : List ℕ → ℕ) (s : List ℕ) (n j v a b : ℕ) (c 
     rejoined = record {
       long = set-long S u low k there long ∙ E .long;
       start = λ i l. let m : 2 * size S ≤ low * size S = mul-le-mul-right (size S) (omega arith) in set-below S u low k there long i (omega (arith, m)) ∙ E .low i l;
-      sound = λ x f t. go x f t (ℕ-discrete x low);
+      sound = λ y f t. go y f t (ℕ-discrete y low);
       holds = set-contents S u low k there long (omega arith) ∙ (λ i. set (emptied-holds S h s n j v (J .prefix .sound) u E i) (at i) (now-reads i));
       lowest = refl;
-      rest = λ x f t ne. set-other S u low k there long x ne ∙ E .from x f t;
+      rest = λ y f t ne. set-other S u low k there long y ne ∙ E .pages y f t;
     }
       where
         go : (x : ℕ) → 2 ≤ x → x < n → Dec (x ≡ low) → SoundPage S (page S (setPage S u low k) x)
-        go x f t (yes e) = subst (SoundPage S) (sym (ap (page S (setPage S u low k)) e ∙ set-same S u low k there long)) (used its (omega (arith, deep, J .prefix .bits)))
+        go x f t (yes e) = subst (SoundPage S) (sym (ap (page S (setPage S u low k)) e ∙ set-same S u low k there long)) (used its (omega (arith, deep, J .prefix .bits, J .prefix .deep)))
         go x f t (no ne) = subst (SoundPage S) (sym (set-other S u low k there long x ne)) (emptied-sound S h s n j v (J .prefix .sound) u E x f t)
 
         at : low - 2 ≡ find (within h j v) gs

@@ -1,6 +1,5 @@
 -- The pages of a prefix, as their bytes show them. Over any page size. Assumes nothing.
-use mathlib.Core.Path.{_≡_, refl, sym, ap, subst, _∙_}
-use mathlib.Core.Bool.{true}
+use mathlib.Core.Path.{_≡_, refl, ap, _∙_}
 use mathlib.Core.List.{List}
 use Prim.Native.Nat.{ℕ, zero, suc, _+_, _-_, _*_, _/_, _≤_, _<_}
 use native.Mathlib.Omega.{arith}
@@ -8,28 +7,23 @@ use native.Mathlib.Nat.{mul-div-cancel, le-div-iff-mul-le, suc-mul}
 use lib.Dec.{eqb}
 use lib.ListN.{length, getD}
 use Rattle.ground.specs.Lists.{byte, tab}
-use Rattle.ground.proofs.Tests.{untrue}
 use Rattle.ground.proofs.Parts.{length-part}
 use Rattle.page.specs.Page.{Record, BucketPage, count, code, depth, rowAt}
 use Rattle.partition.specs.Bits.{top}
 use Rattle.partition.specs.declared.Shape.{Shape}
-use Rattle.partition.proofs.Sizes.{twelve}
-use Rattle.store.specs.Demands.{Sized}
 use Rattle.store.specs.Pages.{size, pages, page, free, bucket, read, reading, contents}
 use Rattle.store.specs.Moves.{within}
 use Rattle.store.proofs.Accepted.Unique.{read-used, held}
 use Rattle.store.proofs.Paging.Views.{apart}
 use Rattle.store.proofs.Showing.Showing.{pages-held}
 use Rattle.directory.specs.Directory.{SoundPage, free as unused, used, Settling}
-use Rattle.removal.specs.Prefix.{Testable, PageTested}
-use Rattle.removal.specs.Join.{Prefixed}
-use Rattle.words.proofs.Bytes.{le32-same}
 
 pub read-free : (g : List ℕ) → byte g 0 ≡ 0 → read g ≡ free
 unfolding read
 read-free g e = ap (λ b. reading b g) e
 
-used-page : (S : Shape) {g : List ℕ} → SoundPage S g → (byte g 0 ≡ 0 → ⊥) → BucketPage g
+-- a sound page that is in use is a bucket's
+pub used-page : (S : Shape) {g : List ℕ} → SoundPage S g → (byte g 0 ≡ 0 → ⊥) → BucketPage g
 used-page S (unused z) n = absurd (n (z 0))
 used-page S (used b d) n = b
 
@@ -41,13 +35,6 @@ within-tab h j v k f (suc n) l = refl
 -- a bucket page is within a prefix by its first code
 pub within-used : (h : List ℕ → ℕ) (j v : ℕ) (g : List ℕ) → BucketPage g → within h j v (read g) ≡ eqb (top j (h (code g 0))) v
 within-used h j v g b = ap (within h j v) (read-used g b) ∙ within-tab h j v (depth g) (rowAt g) (count g) (b .some)
-
-pub within-page : (h : List ℕ → ℕ) (j v : ℕ) (g : List ℕ) → Testable g j → within h j v (read g) ≡ true → BucketPage g
-within-page h j v g T e = T .rules (λ z. untrue (sym (ap (within h j v) (read-free g z)) ∙ e))
-
--- a sound page may be tested for any prefix that a bucket can have
-pub testable : (S : Shape) → Sized S → (g : List ℕ) (j : ℕ) → SoundPage S g → length g ≡ size S → j ≤ S .deepest → Testable g j
-testable S sized g j w l b = record { least = omega (arith, l, sized .least); rules = used-page S w; bits = omega (arith, b, twelve S sized) }
 
 -- page p has the size's bytes
 pub page-whole : (S : Shape) (s : List ℕ) (p : ℕ) → p * size S + size S ≤ length s → length (page S s p) ≡ size S
@@ -72,18 +59,3 @@ module _ (S : Shape) (s : List ℕ) (n : ℕ) (P : Settling S s n) where
 
   pub page-there : (p : ℕ) → p < n → p * size S + size S ≤ length s
   page-there p b = omega (arith, P .long, apart (size S) p n b)
-
-  pub page-testable : Sized S → (j : ℕ) → j ≤ S .deepest → (p : ℕ) → 2 ≤ p → p < n → Testable (page S s p) j
-  page-testable sized j l p a b = testable S sized (page S s p) j (P .pages p a b) (page-whole S s p (page-there p b)) l
-
--- a page of a store that has a run for the prefix, in the store and in one with the same directory and the same page
-pub page-tested : (S : Shape) (h : List ℕ → ℕ) (s : List ℕ) (n j v a b : ℕ) → Prefixed S h s n j v a b → (t : List ℕ) → length t ≡ length s → ((k : ℕ) → k < 2 * size S → byte t k ≡ byte s k)
-    → (p : ℕ) → 2 ≤ p → p < n → page S t p ≡ page S s p → PageTested S h t p j v a b
-page-tested S h s n j v a b P t long same p two to e = record {
-  entries = record { sized = P .sized; long = omega (arith, long, page-there S s n (P .sound) 1 (omega (arith, P .sound .least))); most = P .entries };
-  there = omega (arith, long, page-there S s n (P .sound) p to);
-  page = subst (λ g. Testable g j) (sym e) (page-testable S s n (P .sound) (P .sized) j (P .bits) p two to);
-  named = λ w.
-      let N = P .named p two to (ap (λ g. within h j v (read g)) (sym e) ∙ w) in
-      record { entry = N .entry; from = N .from; to = N .to; names = le32-same s t (size S + 4 * N .entry) (λ i l. same (size S + 4 * N .entry + i) (omega (arith, P .sized .whole, P .entries, N .to))) ∙ N .names };
-}

@@ -20,11 +20,10 @@ use Rattle.page.specs.Page.{Slotted, BucketPage, depth, count, code, place, row
 use Rattle.page.specs.Steps.{Removed}
 use Rattle.page.proofs.Sums.{len-of-code}
 use Rattle.partition.specs.Bits.{top}
-use Rattle.partition.specs.Partition.{Row, need, needs, rowsOf, IsBucket, first, after as after-last, Reordered}
-use Rattle.partition.proofs.Directory.{holds-range, entry-hash, entries-size, run-within}
+use Rattle.partition.specs.Partition.{Row, need, needs, rowsOf, IsBucket, Reordered}
+use Rattle.partition.proofs.Directory.{entry-hash}
 use Rattle.partition.proofs.Sizes.{twelve}
 use Rattle.partition.proofs.Sum.{prefix-row}
-use Rattle.partition.proofs.Tree.{pfx}
 use Rattle.partition.specs.Listing.{without, inOrder, placeOf, Once}
 use Rattle.partition.proofs.Bits.{top-step, top-lt}
 use Rattle.partition.proofs.Laws.{Shallowest, share-fewer, bucket-shallowest}
@@ -42,7 +41,7 @@ use Rattle.store.specs.Moves.{pick, find, holds, within, packFrom, packed, clea
 use Rattle.store.specs.Tables.{Becomes}
 use Rattle.store.specs.Demands.{Sized, Hash}
 use Rattle.store.proofs.Accepted.Rules.{opened}
-use Rattle.store.proofs.Showing.Shows.{firstCode, prefixOn, Holding, Shows}
+use Rattle.store.proofs.Showing.Shows.{firstCode, prefixOn, Holding, OnPage, Shows}
 use Rattle.store.proofs.Showing.Shown.{within-on, within-pages, find-least, find-passes}
 use Rattle.store.proofs.Accepted.Named.{calls-hash}
 use Rattle.store.proofs.Accepted.Unique.{read-zero, read-used, held, page-long}
@@ -57,12 +56,12 @@ use Rattle.store.proofs.Showing.Within.{one-depth, rows-within}
 use Rattle.store.proofs.Accepted.Accepting.{Laid, accepted-laid, laid-becomes}
 use Rattle.store.proofs.Paging.PageTies.{row-in, zeros, read-cleared, page-once, found-at, removed-rows}
 use Rattle.store.proofs.Paging.Views.{set-long, set-same, set-other, set-below, set-contents}
-use Rattle.directory.specs.Directory.{CallsFor, names, PrefixNamed, Directed, SoundPage, free as vacant, used as occupied, Rewritten}
+use Rattle.directory.specs.Directory.{CallsFor, none, names, PrefixNamed, Directed, SoundPage, free as vacant, used as occupied, Rewritten}
 use Rattle.directory.proofs.Directories.{calls-same}
 use Rattle.directory.proofs.Laying.{on-page}
-use Rattle.directory.proofs.Renews.{packed-bits, prefix-pages, prefix-holds, prefix-kept, renewed}
-use Rattle.removal.specs.Prefix.{NamedIn, Climbed}
-use Rattle.removal.specs.Join.{othersIn, RunNames, Joinable, joinedPages, Rejoined}
+use Rattle.directory.proofs.Renews.{packed-bits, prefix-pages, prefix-holds, prefix-kept, one-calls, entry-calls, renewed}
+use Rattle.removal.specs.Prefix.{Climbed}
+use Rattle.removal.specs.Join.{othersIn, OfPrefix, NamedBy, Joinable, joinedPages, Rejoined}
 use Rattle.removal.specs.Remove.{Leaving, rowsLeft, Fits}
 use Rattle.directory.proofs.OnePage.{laid-set}
 use Rattle.directory.proofs.Settles.{unwritten, settling, settled}
@@ -262,6 +261,57 @@ module _ (S : Shape) (sized : Sized S) (h : List ℕ → ℕ) (hash : Hash h) (s
           nothing : needs (rowsOf h (rowsLeft S s c) j (top j x)) ≡ 0
           nothing = ap (λ d. needs (rowsOf h (rowsLeft S s c) d (top d x))) own ∙ rest-needs ∙ none-needed
 
+      -- and the entries that its prefix calls for name nothing
+      module _ {u : List ℕ} (N : PrefixNamed S t (dirDepth s) k (top k x) 0 u) where
+        pub clear-kept : Rewritten S s u
+        clear-kept =
+            let e : pages S t ≡ pages S s = ap (λ n. n / size S) (clear-written .long) in
+            let K = prefix-kept S t u (dirDepth s) k (top k x) 0 N (record { long = refl; low = λ m l. refl; sound = λ q a b. clear-written .sound q a (omega (arith, b, e)) }) in
+            record { long = K .long ∙ clear-written .long; low = λ m l. K .low m l ∙ clear-written .low m l; sound = λ q a b. K .sound q a (omega (arith, b, e)) }
+
+        pub clear-then : contents S u ≡ removed S h gs c
+        clear-then = prefix-holds S t u (dirDepth s) k (top k x) 0 N ∙ clear-holds
+
+        still-there : (q : ℕ) → 2 ≤ q → q < pages S s → page S u q ≡ page S t q
+        still-there q a b = prefix-pages S t u (dirDepth s) k (top k x) 0 N q a (subst (λ n. q < n / size S) (sym (clear-written .long)) b)
+
+        other-page : (q : ℕ) → 2 ≤ q → q < pages S s → (q ≡ p → ⊥) → page S u q ≡ page S s q
+        other-page q a b n = still-there q a b ∙ set-other S s p (replicate (size S) 0) (L .to) zero-long q n
+
+        -- the cleared page calls for nothing
+        calls-nothing : (m : ℕ) → CallsFor S h u (dirDepth s) m p → ⊥
+        calls-nothing m w =
+            let e : page S u p ≡ replicate (size S) 0 = still-there p (L .from) (L .to) ∙ set-same S s p (replicate (size S) 0) (L .to) zero-long in
+            omega (arith, w .used, ap (λ l. byte l 0) e, zeros (size S) 0)
+
+        own-bits : top k (h (code g 0)) ≡ top k x
+        own-bits = sym (first-code h g (L .rules)) ∙ begins
+
+        pub clear-directed : Directed S h u (dirDepth s) (pages S s) u
+        clear-directed = renewed S sized h s (L .accepted) k (top k x) u clear-kept (record {
+          pages = λ q a b. page-then q a b (ℕ-discrete q p);
+          others = λ m l n. ⊎-elim
+              (λ w. absurd (n (w .0)))
+              (λ w. w .1 ∙ le32-same s t (size S + 4 * m) (λ e b. set-below S s p (replicate (size S) 0) (L .to) zero-long (size S + 4 * m + e) (omega (arith, sized .whole, mul-le-mul-right (size S) (L .from)))))
+              (N .entry m l);
+          own = λ m l w. ⊎-elim (λ o. none (o .1) (λ q a b f. nobody m l w q a b f (ℕ-discrete q p))) (λ o. absurd (o .0 w)) (N .entry m l);
+        })
+          where
+            page-then : (q : ℕ) → 2 ≤ q → q < pages S s → Dec (q ≡ p)
+                → (page S u q ≡ page S s q) ⊎ (((m : ℕ) → CallsFor S h s (dirDepth s) m q → Calls (dirDepth s) k (top k x) m) × ((m : ℕ) → CallsFor S h u (dirDepth s) m q → Calls (dirDepth s) k (top k x) m))
+            page-then q a b (yes e) = inr (
+              (λ m w. subst (λ z. Calls (dirDepth s) k z m) own-bits (subst (CallsFor S h s (dirDepth s) m) e w .calls)),
+              (λ m w. absurd (calls-nothing m (subst (CallsFor S h u (dirDepth s) m) e w))),
+            )
+            page-then q a b (no n) = inl (other-page q a b n)
+
+            -- of the other pages none called for an entry of this one's
+            nobody : (m : ℕ) → m < S .entries → Calls (dirDepth s) k (top k x) m → (q : ℕ) → 2 ≤ q → q < pages S s → CallsFor S h u (dirDepth s) m q → Dec (q ≡ p) → ⊥
+            nobody m l w q a b f (yes e) = calls-nothing m (subst (CallsFor S h u (dirDepth s) m) e f)
+            nobody m l w q a b f (no n) =
+                let mine = one-calls S sized h s (L .accepted) m p l (L .from) (L .to) (record { used = slotted .one; calls = subst (λ z. Calls (dirDepth s) k z m) (sym own-bits) w }) in
+                n (sym (one-calls S sized h s (L .accepted) m q l a b (calls-same S h s u (dirDepth s) m q (other-page q a b n) f)) ∙ mine)
+
     -- ---- rows left at a smaller depth: joined
 
     module _ (less : j < k) where
@@ -294,34 +344,77 @@ module _ (S : Shape) (sized : Sized S) (h : List ℕ → ℕ) (hash : Hash h) (s
         slotted .long i (L .slot),
       )
 
-      -- a page of the prefix is named by an entry of the prefix's run
-      run-names : RunNames S h s (pages S s) j v (first (dirDepth s) (pfx j v)) (after-last (dirDepth s) (pfx j v))
-      run-names q from to e = go (opened S h s (L .accepted) .stands q from to)
+      -- a page of the prefix is named by an entry that the prefix calls for
+      named : (q : ℕ) → OfPrefix S h s (pages S s) j v q → NamedBy S s j v q
+      named q o = go (opened S h s (L .accepted) .stands q (o .from) (o .to))
         where
-          go : Stands S h s q → NamedIn S s (first (dirDepth s) (pfx j v)) (after-last (dirDepth s) (pfx j v)) q
-          go (unused z _) = absurd (untrue (sym (ap (within h j v) (read-zero (page S s q) z)) ∙ e))
+          go : Stands S h s q → NamedBy S s j v q
+          go (unused z _) = untrue (sym (ap (within h j v) (read-zero (page S s q) z)) ∙ o .is)
           go (used b low f) =
               let y : ℕ = h (code (page S s q) 0) in
               let d : ℕ = dirDepth s in
               let m = depth (page S s q) in
-              let t : top j y ≡ v = eqb-true (top j y) v (sym (within-used h j v (page S s q) (b .rules)) ∙ e) in
-              let r = holds-range d (top d y) (pfx j v) .0 (calls-top d j v y (omega (arith, less, page-low)) (top-lt x j (hash c)) t .bits) in
+              let t : top j y ≡ v = eqb-true (top j y) v (sym (within-used h j v (page S s q) (b .rules)) ∙ o .is) in
               record {
                 entry = top d y;
-                from = r .0;
-                to = r .1;
+                calls = calls-top d j v y (omega (arith, less, page-low)) (top-lt x j (hash c)) t;
                 names = f (top d y) (entry-within S h sized hash s (opened S h s (L .accepted) .page0 .depth) y (hash (code (page S s q) 0))) .1
                     (calls-top d m (top m y) y low (top-lt y m (hash (code (page S s q) 0))) refl);
               }
 
-      pub joinable : (from to : ℕ) → from ≡ first (dirDepth s) (pfx j v) → to ≡ after-last (dirDepth s) (pfx j v) → to ≤ 2 ^ dirDepth s → Joinable S h s (pages S s) j v from to c
-      joinable from to e f l = record {
+      -- and what such an entry names is a page of the prefix
+      module _ (e : ℕ) (w : Calls (dirDepth s) j v e) (from : 2 ≤ entryAt S s e) (to : entryAt S s e < pages S s) (b : Bucket h (page S s (entryAt S s e))) (low : depth (page S s (entryAt S s e)) ≤ dirDepth s)
+          (f : CallsFor S h s (dirDepth s) e (entryAt S s e)) where
+        abbrev there : List ℕ
+        there = page S s (entryAt S s e)
+
+        abbrev its-hash : ℕ
+        its-hash = e * 2 ^ (32 - dirDepth s)
+
+        small : dirDepth s ≤ 32
+        small = omega (arith, opened S h s (L .accepted) .page0 .depth, twelve S sized)
+
+        entry-bits : top j its-hash ≡ v
+        entry-bits = calls-hash (dirDepth s) j v e small (omega (arith, less, page-low)) w
+
+        page-bits : prefixOn h (depth there) (rows there) ≡ top (depth there) its-hash
+        page-bits = first-code h there (b .rules) ∙ sym (calls-hash (dirDepth s) (depth there) (top (depth there) (h (code there 0))) e small low (f .calls))
+
+        on : OnPage S h rs (depth there) (rows there)
+        on = shows .page (entryAt S s e - 2) (depth there) (rows there) (held S s (entryAt S s e) from to ∙ read-used there (b .rules))
+
+        no-shorter : j ≤ depth there
+        no-shorter = ⊎-elim
+            (λ l. one-depth S h rs x j k its-bucket (omega arith) (depth there) (subst (IsBucket S h rs (depth there)) (page-bits ∙ share-fewer its-hash x (depth there) j (omega arith) entry-bits) (on .is)))
+            (λ l. l)
+            (side (depth there) j)
+
+        entry-of : OfPrefix S h s (pages S s) j v (entryAt S s e)
+        entry-of = record {
+          from = from;
+          to = to;
+          is = ap (within h j v) (read-used there (b .rules)) ∙ within-on h j v (depth there) (rows there) (on .some) .1 (share-fewer (h (firstCode (rows there))) its-hash j (depth there) no-shorter page-bits ∙ entry-bits);
+        }
+
+      names-of : (e : ℕ) → Calls (dirDepth s) j v e → (entryAt S s e ≡ 0 → ⊥) → OfPrefix S h s (pages S s) j v (entryAt S s e)
+      names-of e w z = ⊎-elim (λ n. absurd (z n)) (λ r. go r (opened S h s (L .accepted) .stands (entryAt S s e) (r .0) (r .1))) (opened S h s (L .accepted) .page1 .range e inside)
+        where
+          inside : e < S .entries
+          inside = let m : 2 ^ dirDepth s ≤ 2 ^ S .deepest = pow-mono (opened S h s (L .accepted) .page0 .depth) in omega (arith, m, w .below, sized .deep)
+
+          go : (2 ≤ entryAt S s e) × (entryAt S s e < pages S s) → Stands S h s (entryAt S s e) → OfPrefix S h s (pages S s) j v (entryAt S s e)
+          go r (unused _ n) = absurd (n e inside refl)
+          go r (used b low _) = entry-of e w (r .0) (r .1) b low (entry-calls S sized h s (L .accepted) e inside (r .0) (r .1))
+
+      pub joinable : Joinable S h s (pages S s) (h c) j c
+      joinable = record {
         prefix = record {
           sized = sized;
-          sound = settling S sized h hash s (L .accepted) s before;
-          bits = omega (arith, less, page-shallow (before .sound p (L .from) (L .to)));
-          entries = let m : 2 ^ dirDepth s ≤ 2 ^ S .deepest = pow-mono (opened S h s (L .accepted) .page0 .depth) in omega (arith, l, sized .deep);
-          named = subst₂ (RunNames S h s (pages S s) j v) (sym e) (sym f) run-names;
+          sound = settling S sized h hash s (L .accepted) s (unwritten S sized h hash s (L .accepted));
+          deep = opened S h s (L .accepted) .page0 .depth;
+          bits = omega (arith, less, page-low);
+          named = named;
+          names = names-of;
         };
         housed = record { once = once; fit = omega (arith, needs-same others-left, F .fit) };
         some = omega (arith, needs-same others-left, positive);
@@ -330,9 +423,6 @@ module _ (S : Shape) (sized : Sized S) (h : List ℕ → ℕ) (hash : Hash h) (s
         where
           inside : p - 2 < length gs
           inside = within-pages gs (p - 2) k (rows g) holding
-
-          before : Rewritten S s s
-          before = unwritten S sized h hash s (L .accepted)
 
       -- a page of the prefix is no shallower, and what it calls for the prefix calls for
       module _ (q : ℕ) (from : 2 ≤ q) (to : q < pages S s) (is : within h j v (read (page S s q)) ≡ true) where
@@ -380,13 +470,9 @@ module _ (S : Shape) (sized : Sized S) (h : List ℕ → ℕ) (hash : Hash h) (s
             R .holds ∙ ap (λ l. set (map (λ y. pick (within h j v y) free y) gs) (find (within h j v) gs) (bucket j (packFrom 8 l))) (order-same others-left once)
             ∙ sym (Cases.removed-joins S h rs gs c old shows (L .known) hash j shallow positive (λ e. omega (arith, e, same .0)))
 
-        run-end : after-last (dirDepth s) (pfx j v) ≤ 2 ^ dirDepth s
-        unfolding first
-        run-end = omega (arith, entries-size (dirDepth s) (pfx j v), run-within x j (dirDepth s) (hash c) (omega (arith, less, page-low)))
-
         -- the page that the rows are on: of the prefix before, and its bucket then
         inside-low : find (within h j v) gs < length gs
-        inside-low = joinable (first (dirDepth s) (pfx j v)) (after-last (dirDepth s) (pfx j v)) refl refl run-end .there
+        inside-low = joinable .there
 
         pub low-from : 2 ≤ low
         low-from = omega (arith, R .lowest)

@@ -7,14 +7,15 @@ use lib.ListN.{length, set, replicate}
 use Rattle.ground.specs.Lists.{byte}
 use Rattle.words.specs.Codes.{GoodCode}
 use Rattle.page.specs.Page.{Slotted, Natural, rows, depth, count, code, place, frontier, free as spare}
+use Rattle.partition.specs.Bits.{top}
 use Rattle.partition.specs.declared.Shape.{Shape}
 use Rattle.partition.specs.Partition.{Row, needs, Reordered}
 use Rattle.partition.specs.Listing.{without, inOrder, Once}
-use Rattle.store.specs.Pages.{size, Page, free, bucket, page, read, contents, asRow, rowsOn, rowsIn, setPage}
+use Rattle.store.specs.Pages.{size, Page, free, bucket, page, read, dirDepth, entryAt, contents, asRow, rowsIn}
+use Rattle.store.specs.Accepted.{Calls}
 use Rattle.store.specs.Moves.{pick, find, within, packFrom}
 use Rattle.store.specs.Demands.{Sized}
 use Rattle.directory.specs.Directory.{SoundPage, Settling}
-use Rattle.removal.specs.Prefix.{NamedIn}
 
 -- ---- rows on a page
 
@@ -67,9 +68,11 @@ pub record SlotTaking (p g : List ℕ) (i : ℕ) (c : List ℕ) : Type 0 where
   pub slot : i < count g
   pub room : Taking p (otherAt c g i)
 
--- those of a page of the prefix
-abbrev pub othersOn : (List ℕ → ℕ) → ℕ → ℕ → List ℕ → Page → List Row
-othersOn h j v c g = others c (rowsOn (pick (within h j v g) g free))
+-- page q of the store s, and room on p for its rows that are
+pub record PageTaking (S : Shape) (p s : List ℕ) (q : ℕ) (c : List ℕ) : Type 0 where
+  pub there : q * size S + size S ≤ length s
+  pub slots : Slotted (page S s q)
+  pub room : Taking p (others c (rowsAt (page S s q)))
 
 -- those of the pages of the prefix
 abbrev pub othersIn : (List ℕ → ℕ) → ℕ → ℕ → List ℕ → List Page → List Row
@@ -77,44 +80,48 @@ othersIn h j v c gs = others c (rowsIn (map (λ g. pick (within h j v g) g free)
 
 -- ---- the pages of a prefix
 
--- each of n pages that is of the prefix v of j bits is named by an entry from a up to b
-abbrev pub RunNames : Shape → (List ℕ → ℕ) → List ℕ → ℕ → ℕ → ℕ → ℕ → ℕ → Type 0
-RunNames S h s n j v a b = (p : ℕ) → 2 ≤ p → p < n → within h j v (read (page S s p)) ≡ true → NamedIn S s a b p
+-- page p of the store is in use; page 0 is no bucket
+pub record Used (S : Shape) (s : List ℕ) (p : ℕ) : Type 0 where
+  pub some : p ≡ 0 → ⊥
+  pub kind : byte s (p * size S) ≡ 0 → ⊥
 
--- a store of n sound pages, and a prefix of as many bits as a bucket can have, with its run of entries
-pub record Prefixed (S : Shape) (h : List ℕ → ℕ) (s : List ℕ) (n j v a b : ℕ) : Type 0 where
-  pub sized : Sized S
-  pub sound : Settling S s n
-  pub bits : j ≤ S .deepest
-  pub entries : b ≤ S .entries
-  pub named : RunNames S h s n j v a b
-
--- page p of the store is of the prefix
+-- page p of the store is of the prefix v of j bits
 abbrev pub isOf : Shape → (List ℕ → ℕ) → ℕ → ℕ → List ℕ → ℕ → Bool
 isOf S h j v s p = within h j v (read (page S s p))
 
--- the store with page p cleared, if it is of the prefix
-abbrev pub clearedIf : Shape → (List ℕ → ℕ) → ℕ → ℕ → List ℕ → ℕ → List ℕ
-clearedIf S h j v s p = pick (isOf S h j v s p) (setPage S s p (replicate (size S) 0)) s
+-- and one of its n pages
+pub record OfPrefix (S : Shape) (h : List ℕ → ℕ) (s : List ℕ) (n j v p : ℕ) : Type 0 where
+  pub from : 2 ≤ p
+  pub to : p < n
+  pub is : isOf S h j v s p ≡ true
 
--- t is s with the pages of the prefix, of those from p on, cleared
-pub record Emptied (S : Shape) (h : List ℕ → ℕ) (s : List ℕ) (n j v p : ℕ) (t : List ℕ) : Type 0 where
+-- an entry that the prefix v of j bits calls for names page p
+pub record NamedBy (S : Shape) (s : List ℕ) (j v p : ℕ) : Type 0 where
+  pub entry : ℕ
+  pub calls : Calls (dirDepth s) j v entry
+  pub names : entryAt S s entry ≡ p
+
+-- a store of n sound pages, and the prefix of j bits of the hash x: the entries that it calls for name its pages, and no other
+pub record Prefixed (S : Shape) (h : List ℕ → ℕ) (s : List ℕ) (n x j : ℕ) : Type 0 where
+  pub sized : Sized S
+  pub sound : Settling S s n
+  pub deep : dirDepth s ≤ S .deepest
+  pub bits : j ≤ dirDepth s
+  pub named : (p : ℕ) → OfPrefix S h s n j (top j x) p → NamedBy S s j (top j x) p
+  pub names : (i : ℕ) → Calls (dirDepth s) j (top j x) i → (entryAt S s i ≡ 0 → ⊥) → OfPrefix S h s n j (top j x) (entryAt S s i)
+
+-- t is s with the pages of the prefix cleared
+pub record Emptied (S : Shape) (h : List ℕ → ℕ) (s : List ℕ) (n j v : ℕ) (t : List ℕ) : Type 0 where
   pub long : length t ≡ length s
   pub low : (k : ℕ) → k < 2 * size S → byte t k ≡ byte s k
-  pub below : (q : ℕ) → 2 ≤ q → q < p → page S t q ≡ page S s q
-  pub from : (q : ℕ) → p ≤ q → q < n → page S t q ≡ pick (isOf S h j v s q) (replicate (size S) 0) (page S s q)
-
--- a page of the size, all zero, lent to gather rows on
-pub record Scratch (S : Shape) (p : List ℕ) : Type 0 where
-  pub sized : Sized S
-  pub blank : p ≡ replicate (size S) 0
+  pub pages : (q : ℕ) → 2 ≤ q → q < n → page S t q ≡ pick (isOf S h j v s q) (replicate (size S) 0) (page S s q)
 
 -- rows of another code than c to join, and a page of the prefix to hold them
-pub record Joinable (S : Shape) (h : List ℕ → ℕ) (s : List ℕ) (n j v a b : ℕ) (c : List ℕ) : Type 0 where
-  pub prefix : Prefixed S h s n j v a b
-  pub housed : Housed (size S) (othersIn h j v c (contents S s))
-  pub some : 0 < needs (othersIn h j v c (contents S s))
-  pub there : find (within h j v) (contents S s) < length (contents S s)
+pub record Joinable (S : Shape) (h : List ℕ → ℕ) (s : List ℕ) (n x j : ℕ) (c : List ℕ) : Type 0 where
+  pub prefix : Prefixed S h s n x j
+  pub housed : Housed (size S) (othersIn h j (top j x) c (contents S s))
+  pub some : 0 < needs (othersIn h j (top j x) c (contents S s))
+  pub there : find (within h j (top j x)) (contents S s) < length (contents S s)
 
 -- what the pages hold with those rows packed into the lowest-numbered page of the prefix, and its other pages cleared
 abbrev pub joinedPages : (List ℕ → ℕ) → ℕ → ℕ → List ℕ → List Page → List Page

@@ -1,16 +1,16 @@
 // The rows of a prefix joined on one page. Over any page shape.
 ghost use mathlib.Core.Path.{_≡_};
 ghost use mathlib.Core.List.{[], _∷_};
-ghost use Prim.Native.Nat.{_+_, _<_};
+ghost use Prim.Native.Nat.{_+_, _*_, _≤_, _<_, min};
+ghost use lib.ListN.{length, replicate};
 ghost use Rattle.ground.specs.Says.{Says};
 ghost use Rattle.hash.specs.Fnv.{fnv};
 ghost use Rattle.page.specs.Page.{Slotted, count, code};
-ghost use Rattle.store.specs.Pages.{page as pageOf, contents, read};
-ghost use Rattle.store.specs.Moves.{pick, find, within};
-ghost use Rattle.removal.specs.Prefix.{PageTested};
-ghost use Rattle.removal.specs.Join.{Taking, Gathered, Storable, rowOf, rowsAt, others, otherAt, SlotTaking, othersOn, othersIn};
-ghost use Rattle.removal.specs.Join.{Prefixed, isOf, clearedIf, Emptied, Scratch, Joinable, Rejoined};
-use super::prefix::is_of;
+ghost use Rattle.partition.specs.Bits.{top};
+ghost use Rattle.store.specs.Pages.{size as sizeOf, page as pageOf, contents, setPage};
+ghost use Rattle.store.specs.Moves.{find, within};
+ghost use Rattle.removal.specs.Join.{Taking, Gathered, Storable, rowOf, rowsAt, others, otherAt, SlotTaking, PageTaking, othersIn};
+ghost use Rattle.removal.specs.Join.{Used, Emptied, Joinable, Rejoined};
 use page::Found;
 use partition::Shape;
 use words::Order;
@@ -63,114 +63,88 @@ fn add_rows(to: &mut [u8], from: &[u8], key: &[u8])
     }
 }
 
-// Page p's rows of another code go to another page, if page p is of the prefix, of which the run of entries is from a up to b.
-fn add_page(
-    to: &mut [u8],
-    s: &[u8],
-    z: Shape,
-    p: usize,
-    j: u32,
-    v: u64,
-    a: usize,
-    b: usize,
-    key: &[u8],
-)
-    requires { ⌜ PageTested z fnv (now s) p j v a b × Taking (now to) (othersOn fnv j v (now key) (read (pageOf z (now s) p))) ⌝ }
-    ensures { λ _. ⌜ Gathered (now (to .entry)) (othersOn fnv j v (now (key .entry)) (read (pageOf z (now (s .entry)) p))) (now (to .exit)) ⌝ }
+// Whether page p is in use; page 0 is no bucket.
+fn is_used(s: &[u8], z: Shape, p: usize) -> bool
+    requires { ⌜ p * sizeOf z + sizeOf z ≤ length (now s) ⌝ }
+    ensures { λ r. ⌜ Says r (Used z (now (s .entry)) p) ⌝ }
 {
-    if is_of(s, z, p, j, v, a, b) {
-        let size = 8 + z.capacity;
-        let start = p * size;
-        let end = start + size;
-        add_rows(to, &s[start..end], key);
+    if p == 0 {
+        return false;
     }
+    if s[p * (8 + z.capacity)] == 0 {
+        return false;
+    }
+    true
 }
 
-// The rows of another code on all pages of the prefix go to another page.
-fn gather(
-    to: &mut [u8],
-    s: &[u8],
-    z: Shape,
-    n: usize,
-    j: u32,
-    v: u64,
-    a: usize,
-    b: usize,
-    key: &[u8],
-)
-    requires { ⌜ Prefixed z fnv (now s) n j v a b × Taking (now to) (othersIn fnv j v (now key) (contents z (now s))) ⌝ }
-    ensures { λ _. ⌜ Gathered (now (to .entry)) (othersIn fnv j v (now (key .entry)) (contents z (now (s .entry)))) (now (to .exit)) ⌝ }
+// Page p's rows of another code go to another page, and page p is cleared; the lower of two page numbers.
+fn take_page(to: &mut [u8], s: &mut [u8], z: Shape, p: usize, key: &[u8], low: usize) -> usize
+    requires { ⌜ PageTaking z (now to) (now s) p (now key) ⌝ }
+    ensures gathered { λ _. ⌜ Gathered (now (to .entry)) (others (now (key .entry)) (rowsAt (pageOf z (now (s .entry)) p))) (now (to .exit)) ⌝ }
+    ensures wrote { λ _. ⌜ now (s .exit) ≡ setPage z (now (s .entry)) p (replicate (sizeOf z) 0) ⌝ }
+    ensures lowest { λ r. ⌜ r ≡ min low p ⌝ }
 {
-    let mut p = 2;
-    while p < n {
-        add_page(to, s, z, p, j, v, a, b, key);
-        p += 1;
-    }
-}
-
-// Page p is cleared if it is of the prefix; the lowest-numbered page so far.
-fn clear_if(
-    s: &mut [u8],
-    z: Shape,
-    p: usize,
-    j: u32,
-    v: u64,
-    a: usize,
-    b: usize,
-    low: usize,
-) -> usize
-    requires { ⌜ PageTested z fnv (now s) p j v a b ⌝ }
-    ensures wrote { λ r. ⌜ now (s .exit) ≡ clearedIf z fnv j v (now (s .entry)) p ⌝ }
-    ensures lowest { λ r. ⌜ r ≡ pick (isOf z fnv j v (now (s .entry)) p) p low ⌝ }
-{
-    if !is_of(s, z, p, j, v, a, b) {
-        return low;
-    }
     let size = 8 + z.capacity;
     let start = p * size;
     let end = start + size;
+    add_rows(to, &s[start..end], key);
     page::clear_page(&mut s[start..end]);
+    if low < p {
+        return low;
+    }
     p
 }
 
-// The pages of the prefix are cleared; the lowest-numbered of them.
-fn clear_all(s: &mut [u8], z: Shape, n: usize, j: u32, v: u64, a: usize, b: usize) -> usize
-    requires { ⌜ Prefixed z fnv (now s) n j v a b ⌝ }
-    ensures wrote { λ r. ⌜ Emptied z fnv (now (s .entry)) n j v 2 (now (s .exit)) ⌝ }
-    ensures lowest { λ r. ⌜ r ≡ 2 + find (within fnv j v) (contents z (now (s .entry))) ⌝ }
+// The rows of another code on the pages of the prefix of j bits of x go to another page, and these pages are cleared: entry after entry of the prefix's run, so that no other page is looked at. The lowest-numbered of them.
+fn gather(to: &mut [u8], s: &mut [u8], z: Shape, n: usize, x: u32, j: u32, key: &[u8]) -> usize
+    requires { ⌜ Joinable z fnv (now s) n x j (now key) × Taking (now to) (othersIn fnv j (top j x) (now key) (contents z (now s))) ⌝ }
+    ensures gathered { λ _. ⌜ Gathered (now (to .entry)) (othersIn fnv j (top j x) (now (key .entry)) (contents z (now (s .entry)))) (now (to .exit)) ⌝ }
+    ensures cleared { λ _. ⌜ Emptied z fnv (now (s .entry)) n j (top j x) (now (s .exit)) ⌝ }
+    ensures lowest { λ r. ⌜ r ≡ 2 + find (within fnv j (top j x)) (contents z (now (s .entry))) ⌝ }
 {
+    let d = words::get32(s, 16) as u32;
+    let run = partition::run_of(x, j, d);
+    let end = run.to;
+    let mut i = run.from;
     let mut low = n;
-    let mut p = n;
-    while 2 < p {
-        p -= 1;
-        low = clear_if(s, z, p, j, v, a, b, low);
+    while i < end {
+        let p = words::get32(s, 8 + z.capacity + 4 * i);
+        i += 1;
+        if is_used(s, z, p) {
+            low = take_page(to, s, z, p, key, low);
+        }
     }
     low
 }
 
-// The rows of the prefix of another code go packed into the lowest-numbered of its pages, and the others are cleared; they are gathered on a page lent, which comes back as it was. The page that they are on.
-pub fn join(
-    s: &mut [u8],
-    z: Shape,
-    n: usize,
-    j: u32,
-    v: u64,
-    a: usize,
-    b: usize,
-    key: &[u8],
-    scratch: &mut [u8],
-) -> usize
-    requires { ⌜ Scratch z (now scratch) × Joinable z fnv (now s) n j v a b (now key) ⌝ }
-    ensures wrote { λ r. ⌜ Rejoined z fnv (now (s .entry)) n j v (now (key .entry)) r (now (s .exit)) ⌝ }
-    ensures lent { λ _. ⌜ now (scratch .exit) ≡ now (scratch .entry) ⌝ }
+// The rows of the prefix of another code go packed into the lowest-numbered of its pages, and the others are cleared; they are gathered on a page lent. The page that they are on.
+fn join(s: &mut [u8], z: Shape, n: usize, x: u32, j: u32, key: &[u8], scratch: &mut [u8]) -> usize
+    requires { ⌜ (length (now scratch) ≡ sizeOf z) × Joinable z fnv (now s) n x j (now key) ⌝ }
+    ensures { λ r. ⌜ Rejoined z fnv (now (s .entry)) n j (top j x) (now (key .entry)) r (now (s .exit)) ⌝ }
 {
     page::new_page(scratch, j as u8);
-    gather(scratch, s, z, n, j, v, a, b, key);
-    let low = clear_all(s, z, n, j, v, a, b);
+    let low = gather(scratch, s, z, n, x, j, key);
     let size = 8 + z.capacity;
     let start = low * size;
     let end = start + size;
     page::pack_into(&mut s[start..end], scratch);
-    page::clear_page(scratch);
     low
+}
+
+// The same with a page lent, by the size, so that a small one pays for no more.
+pub fn join_lent(s: &mut [u8], z: Shape, n: usize, x: u32, j: u32, key: &[u8]) -> usize
+    requires { ⌜ Joinable z fnv (now s) n x j (now key) ⌝ }
+    ensures { λ r. ⌜ Rejoined z fnv (now (s .entry)) n j (top j x) (now (key .entry)) r (now (s .exit)) ⌝ }
+{
+    let size = 8 + z.capacity;
+    if size <= 1024 {
+        let mut scratch = [0u8; 1024];
+        return join(s, z, n, x, j, key, &mut scratch[0..size]);
+    }
+    if size <= 4096 {
+        let mut scratch = [0u8; 4096];
+        return join(s, z, n, x, j, key, &mut scratch[0..size]);
+    }
+    let mut scratch = [0u8; 16384];
+    join(s, z, n, x, j, key, &mut scratch[0..size])
 }

@@ -200,3 +200,11 @@ module _ (S : Shape) (s : List ℕ) (n : ℕ) (T : AllStand S s n) where
         (λ l j q. let m : k ≡ j = omega arith in subst (λ x. S .capacity < needs (rowsOf fnv (rowsHeld S s) x (top x (first p)))) m (omega (arith, held))),
         (λ P. omega (arith, held, P k (sym is))),
       )
+
+-- in a directory of depth 0 no bucket has a prefix to shorten
+pub undivided : (S : Shape) (s : List ℕ) (n : ℕ) → AllStand S s n → dirDepth s ≡ 0 → (q : ℕ) → 2 ≤ q → q < n → Parted S fnv s q
+undivided S s n a z q l m j e = go (a .each q l m)
+  where
+    go : Stands S fnv s q → S .capacity < needs (rowsOf fnv (rowsHeld S s) j (top j (fnv (code (page S s q) 0))))
+    go (unused g _) = absurd (omega (arith, g 1, e))
+    go (used b k _) = absurd (omega (arith, k, z, e))

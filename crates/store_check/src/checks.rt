@@ -43,7 +43,7 @@ fn judge(
     if p < n {
         return p;
     }
-    let q = first_joinable(s, z, n, hashes, sums);
+    let q = first_joinable(s, z, n, d, hashes, sums);
     if q < n {
         return q;
     }

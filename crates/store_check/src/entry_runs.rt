@@ -71,15 +71,15 @@ fn all_below(dir: &[u32], a: usize, b: usize, n: u32) -> bool
     ok
 }
 
-// Whether the entries are in range for n pages, and zero from m on.
+// Whether the entries are in range for n pages, and zero from m on, which is in range.
 pub fn ranges(dir: &[u32], n: u32, m: usize) -> bool
-    requires { ⌜ m ≤ length (now dir) ⌝ }
+    requires { ⌜ (m ≤ length (now dir)) × (1 ≤ n) ⌝ }
     ensures { λ r. ⌜ Says r (Ranges (now (dir .entry)) n m) ⌝ }
 {
-    if !none_is(dir, 0, dir.len(), 1) {
+    if !none_is(dir, 0, m, 1) {
         return false;
     }
-    if !all_below(dir, 0, dir.len(), n) {
+    if !all_below(dir, 0, m, n) {
         return false;
     }
     all_are(dir, m, dir.len(), 0)

@@ -71,11 +71,12 @@ pub fn first_unsound(
             break 'pages p;
         }
         let k = pg[1];
+        let m = page_check::limit(k);
         let first = page_check::hash_slot(pg, 0);
         let count = words::get16(pg, 2);
         let mut i = 1;
         'slots: while i < count {
-            if !page_check::shares(first, page_check::hash_slot(pg, i), k) {
+            if !page_check::differ_below(first, page_check::hash_slot(pg, i), m) {
                 break 'pages p;
             }
             i += 1;

@@ -7,7 +7,7 @@ ghost use Rattle.ground.specs.Says.{Says};
 ghost use Rattle.hash.specs.Fnv.{fnv};
 ghost use Rattle.words.specs.Moves.{Span};
 ghost use Rattle.words.specs.Zeros.{Zero};
-ghost use Rattle.store.specs.Pages.{pages};
+ghost use Rattle.store.specs.Pages.{pages, dirDepth};
 ghost use Rattle.store.specs.Accepted.{Parted};
 ghost use Rattle.store_check.specs.First.{FirstBad};
 ghost use Rattle.store_check.specs.Begun.{AllStand};
@@ -70,11 +70,21 @@ fn parted_ok(s: &[u8], z: Shape, hashes: &[u32], sums: &[u32], p: usize) -> bool
     z.capacity < (sums[b] - sums[a]) as usize
 }
 
-// The first page that does not keep it, or n.
-pub fn first_joinable(s: &[u8], z: Shape, n: usize, hashes: &[u32], sums: &mut [u32]) -> usize
-    requires { ⌜ AllStand z (now s) n × Hashed z (now s) n (now hashes) × (length (now sums) ≡ z .entries + 1) × Zero (now sums) ⌝ }
+// The first page that does not keep it, or n. Where the directory's depth d is 0, no bucket has a prefix to shorten.
+pub fn first_joinable(
+    s: &[u8],
+    z: Shape,
+    n: usize,
+    d: u32,
+    hashes: &[u32],
+    sums: &mut [u32],
+) -> usize
+    requires { ⌜ AllStand z (now s) n × Hashed z (now s) n (now hashes) × (length (now sums) ≡ z .entries + 1) × Zero (now sums) × (d ≡ dirDepth (now s)) ⌝ }
     ensures { λ r. ⌜ FirstBad n (Parted z fnv (now (s .entry))) r ⌝ }
 {
+    if d == 0 {
+        return n;
+    }
     digest(s, z, n, hashes, sums);
     add_up(sums);
     let mut p = 2;

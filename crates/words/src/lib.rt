@@ -1,6 +1,6 @@
 // Bytes of a slice: little-endian numbers, copies and shifts, zeros, and the byte order of codes.
 ghost use mathlib.Core.Path.{_≡_};
-ghost use Prim.Native.Nat.{_+_, _*_, _^_, _≤_, _<_};
+ghost use Prim.Native.Nat.{_+_, _*_, _^_, _≤_, _<_, min};
 ghost use lib.ListN.{length};
 ghost use Rattle.ground.specs.Says.{Says};
 ghost use Rattle.words.specs.Le.{le16, le32};
@@ -153,27 +153,38 @@ pub enum Order {
     Greater,
 }
 
+// The smaller of two lengths.
+fn shorter(m: usize, n: usize) -> usize
+    ensures { λ r. ⌜ r ≡ min m n ⌝ }
+{
+    if n < m {
+        return n;
+    }
+    m
+}
+
 // Two codes in byte order: unsigned, a shorter code before its extensions.
 pub fn compare(a: &[u8], b: &[u8]) -> Order
     ensures { λ r. ⌜ Ordered (now (a .entry)) (now (b .entry)) r ⌝ }
 {
+    let n = shorter(a.len(), b.len());
     let mut i = 0;
-    while i < a.len() {
-        if b.len() <= i {
-            return Order::Greater;
-        }
+    while i < n {
         let x = a[i];
         let y = b[i];
-        if x < y {
-            return Order::Less;
-        }
-        if y < x {
+        if x != y {
+            if x < y {
+                return Order::Less;
+            }
             return Order::Greater;
         }
         i += 1;
     }
     if i < b.len() {
         return Order::Less;
+    }
+    if i < a.len() {
+        return Order::Greater;
     }
     Order::Equal
 }

@@ -2,26 +2,27 @@
 use Prim.Native.Nat.{_-_, _%_, _≤_}
 use mathlib.Core.Path.{_≡_, sym, _∙_}
 use native.Mathlib.Omega.{arith}
-use lib.ListN.{drop}
+use lib.ListN.{length, drop}
 use Rattle.fnv.specs.Fnv.{fnv, each}
 use Rattle.fnv.specs.Fnv.Laws.{starts}
+use Rattle.hash.proofs.Bytes.{none-left}
 use Rattle.hash.proofs.hash.Statement.{statement}
 use Rattle.hash.proofs.hash.Tie as tie
 
 abbrev Inv-loop : tie.InvT-loop
-Inv-loop code r n h₀ i₀ h i = (i % 4 ≡ 0) × (i ≤ n) × (each h (drop i code) ≡ fnv code)
+Inv-loop code i₀ h₀ i h = (i ≤ length code) × ((length code - i) % 8 ≡ 0) × (each h (drop i code) ≡ fnv code)
 
 abbrev μ-loop : tie.MeasureT-loop
-μ-loop code r n h₀ i₀ h i = n - i
+μ-loop code i₀ h₀ i h = length code - i
 
-sub-n : tie.Need-sub-n Inv-loop μ-loop
-sub-n c = omega arith
+first-seven-requires : tie.Need-first-seven-requires Inv-loop μ-loop
+first-seven-requires c κs = omega arith
 
 loop-holds : tie.Need-loop-holds Inv-loop μ-loop
-loop-holds c = (omega arith, omega arith, sym (starts _))
+loop-holds c = (omega arith, omega arith, c .first-seven .ensures ∙ sym (starts _))
 
-four-requires : tie.Need-four-requires Inv-loop μ-loop
-four-requires c κs = omega arith
+eight-requires : tie.Need-eight-requires Inv-loop μ-loop
+eight-requires c κs = omega arith
 
 add-i : tie.Need-add-i Inv-loop μ-loop
 add-i c = omega arith
@@ -30,13 +31,10 @@ loop-less : tie.Need-loop-less Inv-loop μ-loop
 loop-less c = omega arith
 
 loop-again : tie.Need-loop-again Inv-loop μ-loop
-loop-again c = (omega arith, omega arith, c .four .ensures ∙ c .before .before .loop .inv .2)
-
-last-three-requires : tie.Need-last-three-requires Inv-loop μ-loop
-last-three-requires c κs = omega arith
+loop-again c = (omega arith, omega arith, c .eight .ensures ∙ c .before .before .loop .inv .2)
 
 returns : tie.Need-returns Inv-loop μ-loop
-returns c = c .last-three .ensures ∙ c .before .before .loop .inv .2
+returns c = let l = c .before .loop in none-left _ (l .h) (l .i) (omega arith) ∙ l .inv .2
 
 pub hash-spec : {M : Type 1} → statement M
 hash-spec =
@@ -44,11 +42,10 @@ hash-spec =
     (tie.spec
     Inv-loop
     μ-loop
-    sub-n
+    first-seven-requires
     loop-holds
-    four-requires
+    eight-requires
     add-i
     loop-less
     loop-again
-    last-three-requires
     returns)

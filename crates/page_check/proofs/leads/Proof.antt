@@ -12,11 +12,8 @@ sub-if1 c = search needs
 returns : tie.Need-returns
 returns c = λ e. untrue e
 
-be64-requires : tie.Need-be64-requires
-be64-requires c κs = search needs
-
 returns-2 : tie.Need-returns-2
-returns-2 c = λ e. (omega arith, omega (arith, ltb-true _ (c .be64 .result) e), omega (arith, ltb-true _ (c .be64 .result) e))
+returns-2 c = let a = c .before .args in λ e. (omega arith, ltb-true (a .lead) (a .next) e, omega (arith, ltb-true (a .lead) (a .next) e))
 
 pub leads-spec : {M : Type 1} → statement M
-leads-spec = tie.close (tie.spec sub-if1 returns be64-requires returns-2)
+leads-spec = tie.close (tie.spec sub-if1 returns returns-2)

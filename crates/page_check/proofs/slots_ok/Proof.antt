@@ -1,131 +1,222 @@
 -- `page_check::slots_ok` meets its contract. Assumes nothing.
-use Prim.Native.Nat.{_+_, _*_, _-_, _≤_}
-use mathlib.Core.Path.{_≡_, refl, _∙_}
-use mathlib.Core.Logic.{inr}
+use Prim.Native.Nat.{ℕ, _+_, _*_, _-_, _≤_, _<_}
+use mathlib.Core.Path.{_≡_, refl, sym, ap, subst, _∙_}
+use mathlib.Core.List.{List}
 use native.Mathlib.Omega.{arith}
 use borrow.Author.Tests.{not-true, not-false}
 use borrow.Author.Needs.{needs}
-use lib.ListN.{length}
+use lib.ListN.{length, set}
 use Rattle.ground.proofs.Tests.{says-true, says-false, says-eqb, untrue}
-use Rattle.ground.specs.Lists.{part, total}
+use Rattle.ground.specs.Lists.{total}
+use Rattle.words.specs.Le.{le32}
 use Rattle.page.specs.Page.{need, word, count}
-use Rattle.page_check.specs.Rules.{SlotsOk, prior}
+use Rattle.page_check.specs.Rules.{WordOk, SlotsOk, prior, slotOf, offOf, lenOf}
 use Rattle.page_check.specs.Table.{NextOk}
-use Rattle.page_check.specs.Big.{Lead}
+use Rattle.page_check.specs.Big.{Led}
 use Rattle.page_check.proofs.Table.{inside-of}
-use Rattle.page_check.proofs.Sweep.{Swept, swept-none, swept-more, next-of, last-more, needs-more, word-is, slots-all}
+use Rattle.page_check.proofs.Sweep.{Swept, swept-none, swept-more, next-of, preceded, led-more, led-none, needs-more, word-is, slots-all}
 use Rattle.page_check.proofs.slots_ok.Statement.{statement}
 use Rattle.page_check.proofs.slots_ok.Tie as tie
 
+-- i slots were taken
 abbrev Inv-loop : tie.InvT-loop
-Inv-loop page tab₀ n f i₀ a₀ b₀ lead₀ needs₀ tab i a b lead needs = (i ≤ n) × (a ≤ b) × (b ≤ length page) × (length tab ≡ length tab₀) × (needs ≡ total (need page) i) × (needs ≤ 76 * i) × Swept page i f tab × (part page a (b - a) ≡ prior page i) × Lead page a b lead
+Inv-loop page tab₀ n f end k₀ lead₀ lens₀ tab k lead lens = (i : ℕ) × (k + 4 * i ≡ length page) × (i ≤ n) × (length tab ≡ length tab₀) × (lens + 4 * i ≡ total (need page) i) × (lens ≤ 72 * i) × Swept page i f tab × Led page (prior page i) lead
 
 abbrev μ-loop : tie.MeasureT-loop
-μ-loop page tab₀ n f i₀ a₀ b₀ lead₀ needs₀ tab i a b lead needs = n - i
+μ-loop page tab₀ n f end k₀ lead₀ lens₀ tab k lead lens = k
+
+-- a turn's slot, and its word
+module _ (c : tie.After-get32 Inv-loop μ-loop) where
+  abbrev start : tie.Start Inv-loop μ-loop
+  start = c .before .before .before .before .before
+
+  abbrev p : List ℕ
+  p = start .args .page .now
+
+  abbrev f-of : ℕ
+  f-of = start .args .f
+
+  abbrev at : tie.At-loop Inv-loop μ-loop
+  at = c .before .before
+
+  abbrev i-of : ℕ
+  i-of = at .loop .inv .0
+
+  abbrev k-of : ℕ
+  k-of = at .loop .k - 4
+
+  swept : Swept p i-of f-of (at .loop .tab)
+  swept = at .loop .inv .6
+
+  low : f-of + 4 * start .args .n ≤ length p
+  low = omega (arith, start .pre .0 .room, start .pre .1, start .pre .2)
+
+  room : f-of ≤ length p
+  room = omega (arith, low)
+
+  some : i-of < start .args .n
+  some = omega (arith, low, c .before .loop-test .taken, at .loop .inv .1, at .loop .inv .2)
+
+  here : k-of + 4 * (i-of + 1) ≡ length p
+  here = omega (arith, low, some, at .loop .inv .1)
+
+  high : 8 ≤ k-of
+  high = omega (arith, low, some, here, start .pre .0 .start, start .pre .2)
+
+  number : slotOf p k-of ≡ i-of
+  number = omega (arith, here)
+
+  word-of : c .get32 .result ≡ word p i-of
+  word-of = word-is p i-of (c .get32 .result) (c .get32 .ensures .0 ∙ ap (le32 p) (omega (arith, here)))
+
+  follows : SlotsOk p → NextOk p (at .loop .tab) f-of i-of (c .get32 .result)
+  follows h = subst (λ w. NextOk p (at .loop .tab) f-of i-of w) (sym word-of) (next-of p (at .loop .tab) f-of i-of swept (start .pre .2) (omega (arith, some, start .pre .1)) h)
+
+-- its own rules
+sound : (c : tie.Else1 Inv-loop μ-loop) → let g = c .before .before in WordOk (p g) (f-of g) (g .get32 .result)
+sound c = let g = c .before .before in says-true {P = WordOk (p g) (f-of g) (g .get32 .result)} (c .before .word-ok .result) (not-false _ (c .if1 .left)) (c .before .word-ok .ensures)
+
+mul-end : tie.Need-mul-end Inv-loop μ-loop
+mul-end c = omega (arith, c .before .before .pre .0 .room, c .before .before .pre .0 .most, c .before .before .pre .1)
+
+sub-end : tie.Need-sub-end Inv-loop μ-loop
+sub-end c = omega (arith, c .before .before .pre .0 .room, c .before .before .pre .1)
 
 loop-holds : tie.Need-loop-holds Inv-loop μ-loop
-unfolding total part
+unfolding total
 loop-holds c =
     let s = c .before .before in
-    (omega arith, omega arith, omega (arith, s .pre), refl, refl, omega arith, swept-none _ _ _ (s .pre .4), refl, inr refl)
+    (0, omega arith, omega arith, refl, refl, omega arith, swept-none _ _ _ (s .pre .4), led-none _ (omega (arith, s .pre .0 .least)))
 
-add-get32 : tie.Need-add-get32 Inv-loop μ-loop
-add-get32 c = search needs
-
-mul-get32 : tie.Need-mul-get32 Inv-loop μ-loop
-mul-get32 c = search needs
-
-sub-get32 : tie.Need-sub-get32 Inv-loop μ-loop
-sub-get32 c = omega (arith, c .before .before .before .before .pre)
+sub-k : tie.Need-sub-k Inv-loop μ-loop
+sub-k c = let s = c .before .before .before .before in omega (arith, s .pre .0 .room, s .pre .0 .start, s .pre .1, c .loop-test .taken)
 
 get32-requires : tie.Need-get32-requires Inv-loop μ-loop
-get32-requires c κs = omega (arith, c .before .before .before .before .pre)
+get32-requires c κs = let s = c .before .before .before .before in omega (arith, s .pre .0 .room, s .pre .0 .start, s .pre .1, c .loop-test .taken, c .before .loop .inv .1)
 
-next-ok-requires : tie.Need-next-ok-requires Inv-loop μ-loop
-next-ok-requires c κs = let l = c .before .before .before .loop in (omega arith, record { order = omega arith; within = omega arith }, l .inv .8, omega arith)
+word-ok-requires : tie.Need-word-ok-requires Inv-loop μ-loop
+word-ok-requires c κs = (room c, omega (arith, room c, start c .pre .0 .most))
 
 same-length : tie.Need-same-length Inv-loop μ-loop
 same-length c = search needs
 
 returns : tie.Need-returns Inv-loop μ-loop
 returns c =
-    let s = c .before .before .before .before .before .before .before .before .before .before in
-    let l = c .before .before .before .before .before .before .before .loop in
-    let g = c .before .before .before .before .before .get32 in
-    let w : g .result ≡ word (s .args .page .now) (l .i) = word-is _ _ _ (g .ensures .0) in
-    let n = c .before .before .before .next-ok in (
-      (λ h. says-false (n .result) (not-true _ (c .if1 .taken)) (n .ensures .0) (rw w (next-of _ _ (s .args .f) (l .i) (l .a) (l .b) (l .inv .7) (l .inv .6) (s .pre .2) (omega arith) h))),
-      ((λ e. untrue e), rw (n .ensures .1 .1 (not-true _ (c .if1 .taken))) (inside-of _ _ _ _ (l .inv .6 .table))),
+    let g = c .before .before in (
+      (λ h. says-false {P = WordOk (p g) (f-of g) (g .get32 .result)} (c .before .word-ok .result) (not-true _ (c .if1 .taken)) (c .before .word-ok .ensures) (follows g h .sound)),
+      ((λ e. untrue e), inside-of _ _ _ _ (swept g .table)),
     )
 
--- the slot that was just taken
-next : (c : tie.Else1 Inv-loop μ-loop) → let s = c .before .before .before .before .before .before .before .before .before .before .args in let l = c .before .before .before .before .before .before .before .loop in NextOk (s .page .now) (l .tab) (s .f) (l .a) (l .b) (c .before .before .before .before .before .get32 .result)
-next c = says-true (c .before .before .before .next-ok .result) (not-false _ (c .if1 .left)) (c .before .before .before .next-ok .ensures .0)
+add-lead-of : tie.Need-add-lead-of Inv-loop μ-loop
+add-lead-of c = omega arith
 
-add-a : tie.Need-add-a Inv-loop μ-loop
-add-a c = omega arith
-
-add-b : tie.Need-add-b Inv-loop μ-loop
-add-b c = omega arith
+add-lead-of-2 : tie.Need-add-lead-of-2 Inv-loop μ-loop
+add-lead-of-2 c = omega arith
 
 lead-of-requires : tie.Need-lead-of-requires Inv-loop μ-loop
-lead-of-requires c κs =
-    let s = c .before .before .before .before .before .before .before .before .before .before in
-    let x = next c in
-    record { order = omega (arith, x .sound); within = omega (arith, x .sound, s .pre) }
+lead-of-requires c κs = let g = c .before .before in record { order = omega (arith, sound c .short); within = omega (arith, sound c .inside, room g) }
 
-add-needs : tie.Need-add-needs Inv-loop μ-loop
-add-needs c = let s = c .before .before .before .before .before .before .before .before .before .before .before in omega (arith, s .pre)
-
-add-needs-2 : tie.Need-add-needs-2 Inv-loop μ-loop
-add-needs-2 c = let s = c .before .before .before .before .before .before .before .before .before .before .before in omega (arith, s .pre)
-
-add-i : tie.Need-add-i Inv-loop μ-loop
-add-i c = omega arith
-
-loop-less : tie.Need-loop-less Inv-loop μ-loop
-loop-less c = omega arith
-
-loop-again : tie.Need-loop-again Inv-loop μ-loop
-loop-again c =
-    let s = c .before .before .before .before .before .before .before .before .before .before .before in
-    let l = c .before .before .before .before .before .before .before .before .loop in
-    let g = c .before .before .before .before .before .before .get32 in
-    let w : g .result ≡ word (s .args .page .now) (l .i) = word-is _ _ _ (g .ensures .0) in
-    let k = c .before .before .before .before .next-ok in
-    let x = next (c .before) in (
-      omega arith,
-      omega (arith, x .sound),
-      omega (arith, x .sound, s .pre),
-      k .kept .1 .0 ∙ l .inv .3,
-      omega (arith, needs-more (s .args .page .now) (l .i) (g .result) w),
-      omega (arith, x .sound),
-      swept-more _ _ (s .args .f) (l .i) (l .a) (l .b) (l .inv .7) (l .inv .6) _ (omega (arith, s .pre)) (rw w at x) (rw w at (k .ensures .1 .0 (not-false _ (c .before .if1 .left)))),
-      last-more _ (l .i) (g .result) w (omega (arith, x .sound)),
-      c .lead-of .ensures,
-    )
-
-get16-requires : tie.Need-get16-requires Inv-loop μ-loop
-get16-requires c κs = omega (arith, c .before .before .before .before .pre)
-
-add-result : tie.Need-add-result Inv-loop μ-loop
-add-result c = omega (arith, c .before .before .before .before .before .pre)
-
-sub-result : tie.Need-sub-result Inv-loop μ-loop
-sub-result c = omega (arith, c .before .before .before .before .before .pre)
+next-ok-requires : tie.Need-next-ok-requires Inv-loop μ-loop
+next-ok-requires c κs =
+    let e = c .before .before in
+    let g = e .before .before in
+    let l = at g .loop in
+    record {
+      sound = sound e;
+      room = room g;
+      pair = record {
+        before = preceded (p g) (l .tab) (f-of g) (i-of g) (swept g) (k-of g) (high g) (here g) (room g);
+        led = rw (number g) (l .inv .7);
+        lies = record { order = omega (arith, sound e .short); within = omega (arith, sound e .inside, room g) };
+        leads = c .before .lead-of .ensures;
+      };
+      same = l .inv .3 ∙ start g .pre .3;
+    }
 
 same-length-2 : tie.Need-same-length-2 Inv-loop μ-loop
 same-length-2 c = search needs
 
 returns-2 : tie.Need-returns-2 Inv-loop μ-loop
 returns-2 c =
-    let s = c .before .before .before .before .before in
-    let p = s .args .page .now in
-    let l = c .before .before .loop in
-    let e : l .i ≡ count p = omega arith in
-    let u : l .needs ≡ total (need p) (count p) = rw e at (l .inv .4) in
-    let w : Swept p (count p) (s .args .f) (l .tab) = rw e at (l .inv .6) in (
-      says-eqb {P = SlotsOk p} (c .get16 .result + l .needs) (length p - 8) (λ z. slots-all p (l .tab) (s .args .f) (s .pre .2) w (omega arith)) (λ h. omega (arith, h .unused)),
+    let n = c .before .before .before .next-ok in
+    let g = c .before .before .before .before .before .before .before .before in (
+      (λ h. says-false (n .result) (not-true _ (c .if2 .taken)) (n .ensures .0) (rw (number g) (follows g h))),
+      ((λ e. untrue e), rw (n .ensures .1 .1 (not-true _ (c .if2 .taken))) (inside-of _ _ _ _ (swept g .table))),
+    )
+
+-- the slot that was just taken
+next : (c : tie.Else2 Inv-loop μ-loop) → let g = c .before .before .before .before .before .before .before .before in NextOk (p g) (at g .loop .tab) (f-of g) (i-of g) (g .get32 .result)
+next c =
+    let g = c .before .before .before .before .before .before .before .before in
+    subst (λ i. NextOk (p g) (at g .loop .tab) (f-of g) i (g .get32 .result)) (number g)
+    (says-true {P = NextOk (p g) (at g .loop .tab) (f-of g) (slotOf (p g) (k-of g)) (g .get32 .result)} (c .before .before .before .next-ok .result) (not-false _ (c .if2 .left)) (c .before .before .before .next-ok .ensures .0))
+
+add-lens : tie.Need-add-lens Inv-loop μ-loop
+add-lens c =
+    let g = c .before .before .before .before .before .before .before .before in
+    omega (arith, at g .loop .inv .5, some g, low g, start g .pre .0 .most, next c .sound .long)
+
+loop-less : tie.Need-loop-less Inv-loop μ-loop
+loop-less c = let g = c .before .before .before .before .before .before .before .before in omega (arith, high g)
+
+loop-again : tie.Need-loop-again Inv-loop μ-loop
+loop-again c =
+    let g = c .before .before .before .before .before .before .before .before in
+    let l = at g .loop in
+    let n = c .before .before .before .next-ok in
+    let x = next c in
+    let w = word-of g in (
+      i-of g + 1,
+      here g,
+      omega (arith, some g),
+      n .kept .1 .0 ∙ l .inv .3,
+      omega (arith, needs-more (p g) (i-of g) (g .get32 .result) w, l .inv .4),
+      omega (arith, x .sound .long, l .inv .5),
+      swept-more (p g) (l .tab) (f-of g) (i-of g) (swept g) _ (omega (arith, room g, l .inv .3, start g .pre .3))
+          (subst (λ v. NextOk (p g) (l .tab) (f-of g) (i-of g) v) w x) (n .ensures .1 .0 (not-false _ (c .if2 .left)) ∙ ap (λ v. set (l .tab) (offOf v) (lenOf v)) w),
+      led-more (p g) (i-of g) (g .get32 .result) (f-of g) _ w (x .sound) (room g) (c .before .before .before .before .before .lead-of .ensures),
+    )
+
+get16-requires : tie.Need-get16-requires Inv-loop μ-loop
+get16-requires c κs = omega (arith, c .before .before .before .before .pre .0 .least)
+
+-- past the last slot
+module _ (c : tie.After-get16 Inv-loop μ-loop) where
+  abbrev begun : tie.Start Inv-loop μ-loop
+  begun = c .before .before .before .before .before
+
+  abbrev last : tie.At-loop Inv-loop μ-loop
+  last = c .before .before
+
+  all : last .loop .inv .0 ≡ count (begun .args .page .now)
+  all = omega (arith, begun .pre .0 .room, begun .pre .1, last .loop .inv .1, last .loop .inv .2, c .before .loop-test .left)
+
+  small : last .loop .lens ≤ 294912
+  small = omega (arith, last .loop .inv .5, all, begun .pre .0 .room, begun .pre .0 .most)
+
+mul-result : tie.Need-mul-result Inv-loop μ-loop
+mul-result c = omega (arith, begun c .pre .0 .room, begun c .pre .0 .most, begun c .pre .1)
+
+add-result : tie.Need-add-result Inv-loop μ-loop
+add-result c = omega (arith, begun c .pre .0 .room, begun c .pre .0 .most, begun c .pre .1, c .get16 .ensures .1)
+
+add-result-2 : tie.Need-add-result-2 Inv-loop μ-loop
+add-result-2 c = omega (arith, begun c .pre .0 .room, begun c .pre .0 .most, begun c .pre .1, c .get16 .ensures .1, small c)
+
+sub-result : tie.Need-sub-result Inv-loop μ-loop
+sub-result c = omega (arith, begun c .pre .0 .least)
+
+same-length-3 : tie.Need-same-length-3 Inv-loop μ-loop
+same-length-3 c = search needs
+
+returns-3 : tie.Need-returns-3 Inv-loop μ-loop
+returns-3 c =
+    let s = begun c in
+    let q = s .args .page .now in
+    let l = last c .loop in
+    let u : l .lens + 4 * count q ≡ total (need q) (count q) = subst (λ i. l .lens + 4 * i ≡ total (need q) i) (all c) (l .inv .4) in
+    let w : Swept q (count q) (s .args .f) (l .tab) = subst (λ i. Swept q i (s .args .f) (l .tab)) (all c) (l .inv .6) in (
+      says-eqb {P = SlotsOk q} (c .get16 .result + 4 * s .args .n + l .lens) (length q - 8) (λ z. slots-all q (l .tab) (s .args .f) (s .pre .2) w (omega (arith, z, u, c .get16 .ensures .0, s .pre .1))) (λ h. omega (arith, h .unused, u, c .get16 .ensures .0, s .pre .1)),
       ((λ _. rw (s .pre .1) (w .table)), inside-of _ _ _ _ (w .table)),
     )
 
@@ -135,24 +226,27 @@ slots-ok-spec =
     (tie.spec
     Inv-loop
     μ-loop
+    mul-end
+    sub-end
     loop-holds
-    add-get32
-    mul-get32
-    sub-get32
+    sub-k
     get32-requires
-    next-ok-requires
+    word-ok-requires
     same-length
     returns
-    add-a
-    add-b
+    add-lead-of
+    add-lead-of-2
     lead-of-requires
-    add-needs
-    add-needs-2
-    add-i
+    next-ok-requires
+    same-length-2
+    returns-2
+    add-lens
     loop-less
     loop-again
     get16-requires
+    mul-result
     add-result
+    add-result-2
     sub-result
-    same-length-2
-    returns-2)
+    same-length-3
+    returns-3)

@@ -1,40 +1,45 @@
 -- `page_check::walk` meets its contract. Assumes nothing.
-use Prim.Native.Nat.{_+_, _-_}
+use Prim.Native.Nat.{ℕ, _+_, _-_}
 use mathlib.Core.Path.{_≡_, refl}
+use mathlib.Core.Logic.{⊎-elim}
 use native.Mathlib.Omega.{arith}
 use borrow.Author.Needs.{needs}
 use lib.ListN.{length, length-set, set}
 use Rattle.ground.specs.Lists.{byte}
-use Rattle.ground.proofs.Tests.{says-eqb, untrue}
-use Rattle.page_check.proofs.Walked.{Walked, walked-none, walked-hole, walked-record, inside-still, emptied, laid-of, met-all, end-top}
+use Rattle.ground.proofs.Sides.{side}
+use Rattle.ground.proofs.Tests.{says-ltb, untrue}
+use Rattle.page_check.proofs.Walked.{Walked, Gap, walked-none, walked-hole, walked-record, inside-still, emptied, laid-of, met-all, end-top}
 use Rattle.page_check.proofs.walk.Statement.{statement}
 use Rattle.page_check.proofs.walk.Tie as tie
 
 abbrev Inv-loop : tie.InvT-loop
-Inv-loop page tab₀ n f pos₀ end₀ met₀ acc₀ tab pos end met acc = (length tab ≡ length tab₀) × Walked page n f tab₀ tab pos end met acc
+Inv-loop page tab₀ n f pos₀ gap₀ met₀ acc₀ tab pos gap met acc = (length tab ≡ length tab₀) × (end : ℕ) × Walked page n f tab₀ tab pos end met acc × Gap gap pos end
 
 abbrev μ-loop : tie.MeasureT-loop
-μ-loop page tab₀ n f pos₀ end₀ met₀ acc₀ tab pos end met acc = f - pos
+μ-loop page tab₀ n f pos₀ gap₀ met₀ acc₀ tab pos gap met acc = f - pos
 
 -- past the record at pos
 jump : (c : tie.Else1 Inv-loop μ-loop) → let a = c .before .before .before .before .args in let l = c .before .before .before .loop in
     Walked (a .page .now) (a .n) (a .f) (a .tab .now) (set (l .tab) (l .pos) 0) (l .pos + byte (l .tab) (l .pos)) (l .pos + byte (l .tab) (l .pos)) (l .met + 1) (l .acc)
-jump c = walked-record _ _ _ _ (c .before .before .before .before .pre .3) _ _ _ _ _ (c .before .before .before .loop .inv .1) (omega arith) _ (omega (arith, c .if1 .left)) refl
+jump c = walked-record _ _ _ _ (c .before .before .before .before .pre .3) _ _ _ _ _ (c .before .before .before .loop .inv .2) (omega arith) _ (omega (arith, c .if1 .left)) refl
 
 -- at the frontier
-over : (c : tie.After-loop Inv-loop μ-loop) → let a = c .before .before .args in let l = c .before .loop in Walked (a .page .now) (a .n) (a .f) (a .tab .now) (l .tab) (a .f) (l .end) (l .met) (l .acc)
+over : (c : tie.After-loop Inv-loop μ-loop) → let a = c .before .before .args in let l = c .before .loop in Walked (a .page .now) (a .n) (a .f) (a .tab .now) (l .tab) (a .f) (l .inv .1) (l .met) (l .acc)
 over c =
-    let e : c .before .loop .pos ≡ c .before .before .args .f = omega arith in
-    rw e at (c .before .loop .inv .1)
+    let e : c .before .loop .pos ≡ c .before .before .args .f = omega (arith, c .before .loop .inv .2 .to) in
+    rw e at (c .before .loop .inv .2)
 
 loop-holds : tie.Need-loop-holds Inv-loop μ-loop
-loop-holds c = (refl, walked-none _ _ _ _ (c .pre .3) (omega (arith, c .pre)))
+loop-holds c = (refl, 8, walked-none _ _ _ _ (c .pre .3) (omega (arith, c .pre)), record { to = omega arith; met = λ h. absurd (omega arith); none = λ h. absurd (omega arith) })
 
 slice-read-l : tie.Need-slice-read-l Inv-loop μ-loop
 slice-read-l c = omega arith
 
 cast-l : tie.Need-cast-l Inv-loop μ-loop
 cast-l c = record { fits = omega (arith, c .slice-known .given (c .before .before .loop .pos)) }
+
+slice-write-tab : tie.Need-slice-write-tab Inv-loop μ-loop
+slice-write-tab c = omega arith
 
 shared-slice-read-acc : tie.Need-shared-slice-read-acc Inv-loop μ-loop
 shared-slice-read-acc c = omega arith
@@ -47,11 +52,12 @@ loop-less c = omega arith
 
 loop-again : tie.Need-loop-again Inv-loop μ-loop
 loop-again c =
-    let l = c .before .before .before .before .loop in
-    (l .inv .0, walked-hole _ _ _ _ (c .before .before .before .before .before .pre .3) _ _ _ _ _ (l .inv .1) (omega arith) (c .before .if1 .taken))
-
-slice-write-tab : tie.Need-slice-write-tab Inv-loop μ-loop
-slice-write-tab c = omega arith
+    let l = c .before .before .before .before .loop in (
+      simp length-set (l .inv .0),
+      l .inv .1,
+      walked-hole _ _ _ _ (c .before .before .before .before .before .pre .3) _ _ _ _ _ (l .inv .2) (omega arith) _ (c .before .if1 .taken) refl,
+      record { to = omega arith; met = λ h. absurd (omega arith); none = λ _ _. omega (arith, l .inv .2 .till) },
+    )
 
 add-pos-2 : tie.Need-add-pos-2 Inv-loop μ-loop
 add-pos-2 c = omega (arith, jump c .to)
@@ -63,7 +69,13 @@ loop-less-2 : tie.Need-loop-less-2 Inv-loop μ-loop
 loop-less-2 c = omega (arith, c .if1 .left)
 
 loop-again-2 : tie.Need-loop-again-2 Inv-loop μ-loop
-loop-again-2 c = (simp length-set (c .before .before .before .loop .inv .0), jump c)
+loop-again-2 c =
+    let l = c .before .before .before .loop in (
+      simp length-set (l .inv .0),
+      l .pos + byte (l .tab) (l .pos),
+      jump c,
+      record { to = omega (arith, l .inv .3 .to); met = λ _. refl; none = λ _ h. absurd (omega (arith, l .inv .3 .to, c .if1 .left)) },
+    )
 
 same-length : tie.Need-same-length Inv-loop μ-loop
 same-length c = search needs
@@ -89,8 +101,12 @@ returns-3 : tie.Need-returns-3 Inv-loop μ-loop
 returns-3 c =
     let w = over (c .before .before) in
     let s = c .before .before .before .before .pre in
-    let l = c .before .before .before .loop in (
-      says-eqb (l .end) (c .before .before .before .before .args .f) (λ e. laid-of _ _ _ _ (s .3) _ _ _ _ w (s .0) (c .before .if2 .left) (c .if3 .left) e) (λ d. end-top _ _ _ _ (s .3) _ _ _ _ w d),
+    let f = c .before .before .before .before .args .f in
+    let l = c .before .before .before .loop in
+    let x : l .pos ≡ f = omega (arith, l .inv .2 .to, c .before .before .loop-test .left) in (
+      says-ltb (l .gap) f
+          (λ h. laid-of _ _ _ _ (s .3) _ _ _ _ w (s .0) (c .before .if2 .left) (c .if3 .left) (omega (arith, l .inv .3 .met (omega (arith, h, x)), x)))
+          (λ d. ⊎-elim (λ h. h) (λ h. absurd (omega (arith, end-top _ _ _ _ (s .3) _ _ _ _ w d, l .inv .3 .none (omega (arith, s .0, x)) (omega (arith, h, x, l .inv .3 .to)), x))) (side (l .gap) f)),
       ((λ _. emptied _ _ _ _ (s .3) _ _ _ _ w (c .if3 .left)), inside-still _ _ _ _ (s .3) _ _ _ _ w),
     )
 
@@ -103,11 +119,11 @@ walk-spec =
     loop-holds
     slice-read-l
     cast-l
+    slice-write-tab
     shared-slice-read-acc
     add-pos
     loop-less
     loop-again
-    slice-write-tab
     add-pos-2
     add-met
     loop-less-2

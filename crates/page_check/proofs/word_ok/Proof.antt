@@ -11,14 +11,14 @@ returns c = λ w. omega (arith, w .kind-one, w .short)
 returns-2 : tie.Need-returns-2
 returns-2 c = λ w. omega (arith, w .kind-one, w .long)
 
-sub-l : tie.Need-sub-l
-sub-l c = search needs
-
 returns-3 : tie.Need-returns-3
 returns-3 c = search needs
 
 add-if4 : tie.Need-add-if4
-add-if4 c = search needs
+add-if4 c = omega arith
+
+add-if4-2 : tie.Need-add-if4-2
+add-if4-2 c = omega arith
 
 returns-4 : tie.Need-returns-4
 returns-4 c = λ w. omega (arith, w .inside)
@@ -37,9 +37,9 @@ word-ok-spec =
     (tie.spec
     returns
     returns-2
-    sub-l
     returns-3
     add-if4
+    add-if4-2
     returns-4
     natural-at-requires
     returns-5)

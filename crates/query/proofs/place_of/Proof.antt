@@ -23,13 +23,13 @@ use Rattle.query.proofs.place_of.Tie as tie
 -- where the row was found
 module _ (b : tie.After-p) where
   abbrev S : Shape
-  S = b .before .before .before .before .before .args .z
+  S = b .before .before .before .before .before .before .args .z
 
   abbrev store : List ℕ
-  store = now (b .before .before .before .before .before .args .s)
+  store = now (b .before .before .before .before .before .before .args .s)
 
   abbrev key : List ℕ
-  key = now (b .before .before .before .before .before .args .key)
+  key = now (b .before .before .before .before .before .before .args .key)
 
   abbrev page-no : ℕ
   page-no = b .p .given .0 .0
@@ -40,8 +40,11 @@ module _ (b : tie.After-p) where
   here : StandsAt S store key (Here page-no slot-no)
   here = subst (StandsAt S store key) (b .p .given .1) (b .before .before .find-row .ensures)
 
+hash-requires : tie.Need-hash-requires
+hash-requires c κs = search needs
+
 find-row-requires : tie.Need-find-row-requires
-find-row-requires c κs = search needs
+find-row-requires c κs = let z = c .before .before .before in (z .pre .0, z .pre .1, c .hash .ensures)
 
 enum-known-p : tie.Need-enum-known-p
 enum-known-p c = search needs
@@ -87,6 +90,7 @@ pub place-of-spec : {M : Type 1} → statement M
 place-of-spec =
     tie.close
     (tie.spec
+    hash-requires
     find-row-requires
     enum-known-p
     add-size

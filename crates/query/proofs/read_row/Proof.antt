@@ -37,7 +37,7 @@ part-read-code-end c = omega (arith, on (c .before .before .before) .within)
 read-code-requires : tie.Need-read-code-requires
 read-code-requires c κs = let b = c .before .before .before .before .before in
     let w = on b in
-    rw (page-lent (b .args .z) (now (b .args .s)) (b .args .p)) (w .rules .rules, w .slot, b .pre .1)
+    rw (page-lent (b .args .z) (now (b .args .s)) (b .args .p)) (record { page = w .rules .rules; within = w .slot; room = b .pre .1 })
 
 sub-read-place : tie.Need-sub-read-place
 sub-read-place c = search needs

@@ -35,7 +35,7 @@ same-length-2 c = search needs
 returns-2 : tie.Need-returns-2
 returns-2 c =
     let z = c .before .before .before .before in
-    let e : deepestIn (contents (z .args .z) (now (z .args .s))) ≡ z .args .d = sym (c .before .deepest .ensures .0) ∙ c .if1 .left in
+    let e : deepestIn (contents (z .args .z) (now (z .args .s))) ≡ z .args .d = omega (arith, c .before .deepest .ensures .0, c .if1 .left) in
     subst (λ d. Directed (z .args .z) fnv (now (z .args .s)) d (z .args .n) (now (z .args .s))) (sym e) (z .pre .2 e)
 
 pub settle-depth-spec : {M : Type 1} → statement M

@@ -42,7 +42,7 @@ returns c =
     let two = c .before .before in
     let one = two .before .before .before .before in
     let s = one .before .before .before in
-    opened (s .pre .0) (s .pre .1) (one .move-down .ensures) (two .put32 .ensures)
+    opened (s .pre .within) (s .pre .room) (one .move-down .ensures) (two .put32 .ensures)
 
 pub open-slot-spec : {M : Type 1} → statement M
 open-slot-spec =

@@ -13,7 +13,7 @@ place-at-requires c κs = search needs
 insert-at-frontier-requires : tie.Need-insert-at-frontier-requires
 insert-at-frontier-requires c κs =
     let s = c .before .before .before .before .before in
-    rw (c .before .code-at .ensures, c .place-at .ensures) (insertable (s .args .from .now) (s .args .i) (s .args .page .now) (s .pre .0) (s .pre .1) (s .pre .2))
+    rw (c .before .code-at .ensures, c .place-at .ensures) (insertable (s .args .from .now) (s .args .i) (s .args .page .now) (s .pre .page) (s .pre .before) (s .pre .within))
 
 same-length : tie.Need-same-length
 same-length c = search needs
@@ -23,7 +23,7 @@ returns c =
     let w = c .before .before in
     let k = w .before in
     let s = k .before .before .before .before .before in
-    appended (s .args .from .now) (s .args .i) (s .args .page .now) (s .pre .0) (s .pre .1) (s .pre .2) (w .insert-at-frontier .last .0) (rw (k .before .code-at .ensures, k .place-at .ensures) at (w .insert-at-frontier .ensures))
+    appended (s .args .from .now) (s .args .i) (s .args .page .now) (s .pre .page) (s .pre .before) (s .pre .within) (w .insert-at-frontier .last .0) (rw (k .before .code-at .ensures, k .place-at .ensures) at (w .insert-at-frontier .ensures))
 
 pub append-spec : {M : Type 1} → statement M
 append-spec =

@@ -20,7 +20,7 @@ sub-set-head : tie.Need-sub-set-head
 sub-set-head c = search needs
 
 set-head-requires : tie.Need-set-head-requires
-set-head-requires c κs = simp length-set (omega (arith, c .before .before .before .clear .ensures .len))
+set-head-requires c κs = record { header = simp length-set (omega (arith, c .before .before .before .clear .ensures .len)); counted = omega arith; fronted = omega arith; freed = omega arith }
 
 same-length : tie.Need-same-length
 same-length c = c .before .before .set-head .ensures .old .len ∙ simp length-set (c .before .before .before .before .before .before .clear .ensures .len)

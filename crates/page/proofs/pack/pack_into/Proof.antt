@@ -29,7 +29,7 @@ loop-holds c =
 append-requires : tie.Need-append-requires Inv-loop μ-loop
 append-requires c κs =
     let s = c .before .before .before .before .before .before .before .before .before .before .before in
-    (s .pre .0, c .before .before .loop .inv .1, omega (arith, c .before .before .before .before .before .before .before .before .get16 .ensures .0))
+    record { page = s .pre .0; before = c .before .before .loop .inv .1; within = omega (arith, c .before .before .before .before .before .before .before .before .get16 .ensures .0) }
 
 add-i : tie.Need-add-i Inv-loop μ-loop
 add-i c = omega arith

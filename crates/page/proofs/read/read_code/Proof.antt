@@ -16,7 +16,7 @@ code-at-requires c κs = search needs
 
 -- there is room for the code
 fits : (s : tie.Start) → length (code (s .args .page .now) (s .args .i)) ≤ length (s .args .out .now)
-fits s = omega (arith, lies (s .args .i) (s .pre .0) (s .pre .1), len-of-code (s .args .page .now) (s .args .i) (s .pre .0) (s .pre .1), s .pre .2)
+fits s = omega (arith, lies (s .args .i) (s .pre .page) (s .pre .within), len-of-code (s .args .page .now) (s .args .i) (s .pre .page) (s .pre .within), s .pre .room)
 
 copy-at-requires : tie.Need-copy-at-requires
 copy-at-requires c κs = rw (c .before .code-at .ensures) (omega (arith, fits (c .before .before .before .before)))

@@ -1,10 +1,10 @@
--- `putting::new_bucket` meets its contract: refusal 7, else the row alone in the lowest free page, then the directory. Assumes nothing.
+-- `putting::new_bucket` meets its contract: refusal 7, else the row alone in the lowest free page, which its entries then name. Assumes nothing.
 use Rattle.putting.proofs.NewBuckets.{own-unset, unheld-full, wrote, unheld-new}
 use Rattle.putting.proofs.Puts.{given-back}
 use Rattle.query.proofs.Finds.{long-enough}
-use Rattle.directory.proofs.Settles.{long-pages, settling}
+use Rattle.directory.proofs.Settles.{long-pages}
 use Rattle.putting.specs.Put.{Puttable, Unset, Vacant}
-use Rattle.directory.specs.Directory.{Settling}
+use Rattle.directory.specs.Directory.{PrefixNamed, Namable, Rewritten}
 use Rattle.store.proofs.Accepted.Rules.{opened}
 use Rattle.store.proofs.Accepted.Unique.{within, page-long}
 use Rattle.store.proofs.Paging.Views.{page-lent}
@@ -105,9 +105,8 @@ module _ (b : tie.After-start-page) where
   started : Started (page (S zs) (s zs) (p lowest-at)) k (key zs) (place zs) q
   started = rw (page-lent (S zs) (s zs) (p lowest-at)) at (b .start-page .ensures)
 
-  settles : Settling (S zs) (setPage (S zs) (s zs) (p lowest-at) q) (pages (S zs) (s zs))
-  settles = settling (S zs) (P zs .sized) fnv fnv-lt (s zs) (P zs .accepted) (setPage (S zs) (s zs) (p lowest-at) q)
-      (wrote (S zs) fnv fnv-lt (s zs) (x zs) (key zs) (place zs) (zs .pre) (some (tested lowest-at)) k vacant (p lowest-at) (lowest-at .lowest-free .ensures .0) (to lowest-at) q started)
+  rewritten : Rewritten (S zs) (s zs) (setPage (S zs) (s zs) (p lowest-at) q)
+  rewritten = wrote (S zs) fnv fnv-lt (s zs) (x zs) (key zs) (place zs) (zs .pre) (some (tested lowest-at)) k vacant (p lowest-at) (lowest-at .lowest-free .ensures .0) (to lowest-at) q started
 
 add-size : tie.Need-add-size
 add-size c = omega (arith, long (c .before .before .before .before))
@@ -179,11 +178,20 @@ start-page-requires c κs =
       room = omega (arith, n, Z .least, P z .good .most);
     }
 
-settle-requires : tie.Need-settle-requires
-settle-requires c κs =
+name-prefix-requires : tie.Need-name-prefix-requires
+name-prefix-requires c κs =
     let b = c .before .before .before in
+    let g = b .before .before .before .before in
+    let l = lowest-at b in
     let z = zs b in
-    (P z .sized, rw (given-back (S z) (s z) (p (lowest-at b)) (q b)) (settles b))
+    let Z = P z .sized in
+    let here : Namable (S z) (setPage (S z) (s z) (p l) (q b)) (g .get32 .result) (k b) (p l) = record {
+      long = omega (arith, long z, rewritten b .long);
+      low = b .before .before .vacant-depth .ensures .low;
+      deep = shallow g;
+      word = omega (arith, to l, P z .accepted .long .most, Z .whole, Z .most);
+    } in
+    (Z, rw (given-back (S z) (s z) (p l) (q b)) here)
 
 same-length-2 : tie.Need-same-length-2
 same-length-2 c = search needs
@@ -193,9 +201,11 @@ returns-2 c =
     let b = c .before .before .before .before .before .before in
     let z = zs b in
     let l = lowest-at b in
-    let D = rw (given-back (S z) (s z) (p l) (q b)) at (c .before .before .settle .ensures) in
-    unheld-new (S z) fnv fnv-lt (s z) (x z) (key z) (place z) (z .pre) (some (tested l)) (k b) (vacant b) (p l) (l .lowest-free .ensures .0) (to l) (q b) (started b) (c .before .before .settle .last .0) D
-    (λ i. (c .slice-known3 .given i) .fits)
+    let g = b .before .before .before .before in
+    let t = c .before .before .name-prefix .last .0 in
+    let N : PrefixNamed (S z) (setPage (S z) (s z) (p l) (q b)) (dirDepth (s z)) (k b) (top (k b) (fnv (key z))) (p l) t =
+    subst₂ (λ d x. PrefixNamed (S z) (setPage (S z) (s z) (p l) (q b)) d (k b) (top (k b) x) (p l) t) (deep g) (z .pre .hash) (rw (given-back (S z) (s z) (p l) (q b)) at (c .before .before .name-prefix .ensures)) in
+    unheld-new (S z) fnv fnv-lt (s z) (x z) (key z) (place z) (z .pre) (some (tested l)) (k b) (vacant b) (p l) (l .lowest-free .ensures .0) (to l) (q b) (started b) t N (λ i. (c .slice-known3 .given i) .fits)
 
 pub new-bucket-spec : {M : Type 1} → statement M
 new-bucket-spec =
@@ -217,6 +227,6 @@ new-bucket-spec =
     part-start-page-end
     cast-start-page
     start-page-requires
-    settle-requires
+    name-prefix-requires
     same-length-2
     returns-2)

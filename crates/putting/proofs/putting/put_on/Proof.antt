@@ -152,8 +152,8 @@ get16-requires c κs = let z = c .before .before .before .before .before .before
 add-if3 : tie.Need-add-if3
 add-if3 c = search needs
 
-insert-lent-requires : tie.Need-insert-lent-requires
-insert-lent-requires c κs =
+insert-fitting-requires : tie.Need-insert-fitting-requires
+insert-fitting-requires c κs =
     let b = c .before .before in
     let e = a2 (b2 b) in
     let q = z e .pre in
@@ -174,7 +174,7 @@ same-length-3 c = search needs
 
 returns-3 : tie.Need-returns-3
 returns-3 c =
-    let w = c .before .before .insert-lent in
+    let w = c .before .before .insert-fitting in
     let b = c .before .before .before .before .before in
     let e = a2 (b2 b) in
     let-new (S e) fnv (s e) (z e .args .mode) (row e) (absent (b2 b)) (b .before .before .before .if2 .left) (meaning (w .result), w .last .0) (w .ensures)
@@ -231,7 +231,7 @@ put-on-spec =
     part-get16-end
     get16-requires
     add-if3
-    insert-lent-requires
+    insert-fitting-requires
     same-length-3
     returns-3
     split-lent-requires

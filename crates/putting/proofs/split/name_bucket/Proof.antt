@@ -14,7 +14,7 @@ hash-under-requires c κs = let z = c .before .before .before in (omega (arith, 
 name-prefix-requires : tie.Need-name-prefix-requires
 name-prefix-requires c κs =
     let z = c .before .before .before .before in
-    (z .pre .0 .sized, record { long = z .pre .1 .long; low = c .before .before .if1 .taken; deep = z .pre .1 .deep; word = z .pre .2 })
+    (z .pre .0 .sized, record { long = z .pre .1 .long; low = omega (arith, c .before .before .if1 .taken); deep = z .pre .1 .deep; word = z .pre .2 })
 
 same-length : tie.Need-same-length
 same-length c = search needs

@@ -1,4 +1,4 @@
--- `query::find_row` meets its contract: hash, entry, page, slot. Assumes nothing.
+-- `query::find_row` meets its contract: entry, page, slot. Assumes nothing.
 use Prim.Native.Nat.{ℕ, _+_, _*_, _≤_, _<_}
 use mathlib.Core.Path.{_≡_, sym, ap, subst, _∙_}
 use mathlib.Core.List.{List}
@@ -22,15 +22,15 @@ use Rattle.query.proofs.spots.find_row.Statement.{statement}
 use Rattle.query.proofs.spots.find_row.Tie as tie
 
 -- the entry is the code's
-entry : (c : tie.After-entry-of) → c .entry-of .result ≡ entryOf (c .before .before .before .before .args .z) fnv (now (c .before .before .before .before .args .s)) (now (c .before .before .before .before .args .key))
+entry : (c : tie.After-entry-of) → c .entry-of .result ≡ entryOf (c .before .before .before .args .z) fnv (now (c .before .before .before .args .s)) (now (c .before .before .before .args .key))
 entry c =
-    let z = c .before .before .before .before in
-    c .entry-of .ensures .0 ∙ ap (λ x. entryAt (z .args .z) (now (z .args .s)) (top (dirDepth (now (z .args .s))) x)) (c .before .hash .ensures)
+    let z = c .before .before .before in
+    c .entry-of .ensures .0 ∙ ap (λ x. entryAt (z .args .z) (now (z .args .s)) (top (dirDepth (now (z .args .s))) x)) (z .pre .2)
 
 -- what stands where the entry is not zero
 module _ (c : tie.Else1) where
   abbrev start : tie.Start
-  start = c .before .before .before .before .before
+  start = c .before .before .before .before
 
   abbrev S : Shape
   S = start .args .z
@@ -57,15 +57,12 @@ module _ (c : tie.Else1) where
   stands-not : (i : ℕ) → Belongs (page S s (c .before .entry-of .result)) i key → StandsAt S s key Nowhere
   stands-not i b = nowhere S (start .pre .0) s (start .pre .1) key some-entry i (subst (λ p. Belongs (page S s p) i key) (entry (c .before)) b)
 
-hash-requires : tie.Need-hash-requires
-hash-requires c κs = search needs
-
 entry-of-requires : tie.Need-entry-of-requires
-entry-of-requires c κs = let z = c .before .before .before in
+entry-of-requires c κs = let z = c .before .before in
     (z .pre .0, omega (arith, long-enough (z .args .z) (z .pre .0) (now (z .args .s)) (z .pre .1)), shallow (z .args .z) (z .pre .0) (now (z .args .s)) (z .pre .1))
 
 returns : tie.Need-returns
-returns c = let z = c .before .before .before .before .before in
+returns c = let z = c .before .before .before .before in
     not-named (z .args .z) (z .pre .0) (now (z .args .s)) (z .pre .1) (now (z .args .key)) (sym (entry (c .before)) ∙ c .if1 .taken)
 
 add-size : tie.Need-add-size
@@ -120,7 +117,6 @@ pub find-row-spec : {M : Type 1} → statement M
 find-row-spec =
     tie.close
     (tie.spec
-    hash-requires
     entry-of-requires
     returns
     add-size

@@ -51,8 +51,11 @@ module _ (d : tie.After-p) where
       let o = stands .0 in
       record { accepted = z .pre .1; from = o .from; to = page-below S s p (o .within); rules = o .rules; slot = o .slot; coded = stands .1; known = stands .2 }
 
+hash-requires : tie.Need-hash-requires
+hash-requires c κs = search needs
+
 find-row-requires : tie.Need-find-row-requires
-find-row-requires c κs = let z = c .before .before .before .before in (z .pre .0 .sized, z .pre .1)
+find-row-requires c κs = let z = c .before .before .before .before in (z .pre .0, z .pre .1, c .before .hash .ensures)
 
 enum-told : tie.Need-enum-told
 enum-told c = search needs
@@ -82,7 +85,7 @@ read-place-requires : tie.Need-read-place-requires
 read-place-requires c κs = let d = c .before .before .before .before in rw (page-lent (S d) (s d) (p d)) (stands d .0 .rules .rules, stands d .0 .slot)
 
 take-out-requires : tie.Need-take-out-requires
-take-out-requires c κs = let d = c .before .before .before .before .before .before .before in (z d .pre .0, leaving d)
+take-out-requires c κs = let d = c .before .before .before .before .before .before in (z d .pre .0, leaving d, d .before .before .before .before .hash .ensures)
 
 same-length : tie.Need-same-length
 same-length c = search needs
@@ -90,23 +93,21 @@ same-length c = search needs
 returns : tie.Need-returns
 returns c = let z = c .before .before .before .before .before .before .before in
     let w = subst (λ (r : Spot). StandsAt (z .args .z) (now (z .args .s)) (now (z .args .key)) r) (c .enum-told .given .1) (c .before .before .find-row .ensures) in
-    (inr ((λ _. none-some w), refl), refl)
+    inr ((λ _. none-some w), refl)
 
 same-length-2 : tie.Need-same-length-2
 same-length-2 c = search needs
 
-same-length-3 : tie.Need-same-length-3
-same-length-3 c = search needs
-
 returns-2 : tie.Need-returns-2
-returns-2 c = let d = c .before .before .before .before .before .before .before .before .before .before .before .before in
-    let old = c .before .before .before .before .before .before .before .read-place .ensures ∙ ap (λ g. Places.place (place g (i d))) (page-lent (S d) (s d) (p d)) in
-    (inl (place (page (S d) (s d) (p d)) (i d), (stands d .2, (ap found old, c .before .before .before .before .take-out .ensures .0))), c .before .before .before .before .take-out .ensures .1)
+returns-2 c = let d = c .before .before .before .before .before .before .before .before .before in
+    let old = c .before .before .before .before .read-place .ensures ∙ ap (λ g. Places.place (place g (i d))) (page-lent (S d) (s d) (p d)) in
+    inl (place (page (S d) (s d) (p d)) (i d), (stands d .2, (ap found old, c .before .before .take-out .ensures)))
 
 pub remove-row-spec : {M : Type 1} → statement M
 remove-row-spec =
     tie.close
     (tie.spec
+    hash-requires
     find-row-requires
     enum-told
     enum-known-p
@@ -121,5 +122,4 @@ remove-row-spec =
     same-length
     returns
     same-length-2
-    same-length-3
     returns-2)

@@ -2,7 +2,7 @@
 use borrow.Author.Needs.{needs}
 use mathlib.Core.List.{_++_, List}
 use mathlib.Core.Path.{_≡_, refl, sym, ap, subst, subst₂, _∙_}
-use Prim.Native.Nat.{ℕ, _+_, _-_, _*_, _^_, _≤_, _<_}
+use Prim.Native.Nat.{ℕ, _+_, _-_, _*_, _≤_, _<_}
 use native.Mathlib.Omega.{arith}
 use native.Mathlib.Nat.{mul-le-mul-right}
 use lib.ListN.{take, drop, length, replicate}
@@ -13,21 +13,21 @@ use Rattle.page.proofs.Sums.{len-of-code}
 use Rattle.page.specs.Steps.{Removed}
 use Rattle.page.specs.Page.{depth, count}
 use Rattle.partition.specs.Bits.{top}
-use Rattle.partition.specs.Partition.{IsBucket, first, after}
+use Rattle.partition.specs.Partition.{IsBucket}
 use Rattle.store.proofs.Accepted.Rules.{opened}
 use Rattle.store.proofs.Accepted.Unique.{page-long, within}
 use Rattle.store.specs.Tables.{Becomes}
 use Rattle.store.specs.Moves.{removed}
 use Rattle.partition.specs.declared.Shape.{Shape}
 use Rattle.partition.proofs.Sizes.{twelve}
-use Rattle.store.specs.Pages.{size, pages, Page, page, dirDepth, contents, rowsHeld, deepestIn, setPage}
+use Rattle.store.specs.Pages.{size, pages, Page, page, dirDepth, contents, rowsHeld, setPage}
 use Rattle.store.specs.Demands.{Sized}
 use Rattle.removal.specs.Remove.{Leaving, Fits}
 use Rattle.removal.specs.Join.{Joinable, Rejoined}
 use Rattle.removal.specs.Prefix.{Climbed}
 use Rattle.directory.specs.Directory.{Settling, PrefixNamed, Directed, Rewritten}
 use Rattle.directory.proofs.Settles.{unwritten, settling}
-use Rattle.removal.proofs.Removes.{page-low, page-shallow, its-bucket, climbed-fits, loses, settles, clear-written, clear-holds, joinable, low-from, low-to, join-kept, join-then, join-directed}
+use Rattle.removal.proofs.Removes.{page-low, page-shallow, its-bucket, climbed-fits, loses, settles, clear-written, clear-kept, clear-then, clear-directed, joinable, low-from, low-to, join-kept, join-then, join-directed}
 use Rattle.store.proofs.Paging.Depths.{page-byte}
 use Rattle.store.proofs.Paging.Views.{page-lent, page-back}
 use Rattle.removal.proofs.removal.take_out.Statement.{statement}
@@ -48,7 +48,7 @@ module _ (z : tie.Start) where
   S = z .args .z
 
   sized : Sized S
-  sized = z .pre .0 .sized
+  sized = z .pre .0
 
   L : Leaving S fnv s p (z .args .i) key
   L = z .pre .1
@@ -80,19 +80,16 @@ module _ (z : tie.Start) where
 -- how far up the rows left fit
 module _ (b : tie.After-climb) where
   abbrev z₁ : tie.Start
-  z₁ = b .before .before .before .before .before .before .before .before
+  z₁ = b .before .before .before .before .before .before
 
   abbrev j : ℕ
   j = b .climb .result
 
   climbed : Climbed (S z₁) fnv (rowsHeld (S z₁) (s z₁)) (fnv (key z₁)) (depth (g z₁)) (12 + length (key z₁)) j
-  climbed = subst₂ (λ x k. Climbed (S z₁) fnv (rowsHeld (S z₁) (s z₁)) x k (12 + length (key z₁)) j) (b .before .before .hash .ensures) (sym (deep z₁)) (b .climb .ensures)
+  climbed = subst₂ (λ x k. Climbed (S z₁) fnv (rowsHeld (S z₁) (s z₁)) x k (12 + length (key z₁)) j) (z₁ .pre .2) (sym (deep z₁)) (b .climb .ensures)
 
   fits : Fits (S z₁) fnv (s z₁) (key z₁) j
   fits = climbed-fits (S z₁) (sized z₁) fnv fnv-lt (s z₁) (p z₁) (z₁ .args .i) (key z₁) (L z₁) (12 + length (key z₁)) j refl climbed
-
-  bits : (v : ℕ) → v ≡ top j (b .before .before .hash .result) → v ≡ top j (fnv (key z₁))
-  bits v e = e ∙ ap (top j) (b .before .before .hash .ensures)
 
   less : j < byte (s z₁) (p z₁ * size (S z₁) + 1) → j < depth (g z₁)
   less l = omega (arith, deep z₁)
@@ -100,7 +97,7 @@ module _ (b : tie.After-climb) where
 -- they fit no further up than on the page
 module _ (d : tie.After-get16) where
   abbrev b₂ : tie.After-climb
-  b₂ = d .before .before .before .before
+  b₂ = d .before .before .before .before .before .before
 
   abbrev z₂ : tie.Start
   z₂ = z₁ b₂
@@ -110,13 +107,6 @@ module _ (d : tie.After-get16) where
 
   counted : d .get16 .result ≡ count (g z₂)
   counted = d .get16 .ensures .0 ∙ ap count (page-lent (S z₂) (s z₂) (p z₂))
-
-  module _ (one : d .get16 .result ≡ 1) where
-    cleared : Rewritten (S z₂) (s z₂) (setPage (S z₂) (s z₂) (p z₂) (replicate (size (S z₂)) 0))
-    cleared = clear-written (S z₂) (sized z₂) fnv fnv-lt (s z₂) (p z₂) (z₂ .args .i) (key z₂) (L z₂) (j b₂) (fits b₂) (own) (sym counted ∙ one)
-
-    cleared-holds : contents (S z₂) (setPage (S z₂) (s z₂) (p z₂) (replicate (size (S z₂)) 0)) ≡ then z₂
-    cleared-holds = clear-holds (S z₂) (sized z₂) fnv fnv-lt (s z₂) (p z₂) (z₂ .args .i) (key z₂) (L z₂) (j b₂) (fits b₂) (own) (sym counted ∙ one)
 
 -- the page that is cleared
 module _ (z : tie.Start) where
@@ -137,32 +127,29 @@ div-n : tie.Need-div-n
 div-n c = search needs
 
 mul-a : tie.Need-mul-a
-mul-a c = omega (arith, inside (c .before .before .before .before))
+mul-a c = omega (arith, inside (c .before .before .before))
 
 add-e : tie.Need-add-e
-add-e c = omega (arith, inside (c .before .before .before .before))
+add-e c = omega (arith, inside (c .before .before .before))
 
 add-k : tie.Need-add-k
-add-k c = omega (arith, inside (c .before .before .before .before))
+add-k c = omega (arith, inside (c .before .before .before))
 
 slice-read-k : tie.Need-slice-read-k
-slice-read-k c = omega (arith, inside (c .before .before .before .before .before))
+slice-read-k c = omega (arith, inside (c .before .before .before .before))
 
 cast-k : tie.Need-cast-k
-cast-k c = let z = c .before .before .before .before .before in omega (arith, c .slice-known3 .given (p z * size (S z) + 1))
-
-hash-requires : tie.Need-hash-requires
-hash-requires c κs = search needs
+cast-k c = let z = c .before .before .before .before in omega (arith, c .slice-known2 .given (p z * size (S z) + 1))
 
 add-climb : tie.Need-add-climb
 add-climb c = search needs
 
 climb-requires : tie.Need-climb-requires
-climb-requires c κs = let z = c .before .before .before .before .before .before .before in (
+climb-requires c κs = let z = c .before .before .before .before .before in (
   sized z,
   record {
     accepted = L z .accepted;
-    is = subst₂ (λ x k. IsBucket (S z) fnv (rowsHeld (S z) (s z)) k (top k x)) (sym (c .before .hash .ensures)) (deep z) (its-bucket (S z) (sized z) fnv fnv-lt (s z) (p z) (z .args .i) (key z) (L z));
+    is = subst₂ (λ x k. IsBucket (S z) fnv (rowsHeld (S z) (s z)) k (top k x)) (sym (z .pre .2)) (deep z) (its-bucket (S z) (sized z) fnv fnv-lt (s z) (p z) (z .args .i) (key z) (L z));
     one = omega (arith, short z);
   },
 )
@@ -170,7 +157,7 @@ climb-requires c κs = let z = c .before .before .before .before .before .before
 -- the directory's depth
 module _ (e : tie.After-get32) where
   abbrev b₃ : tie.After-climb
-  b₃ = e .before .before .before
+  b₃ = e .before .before
 
   abbrev z₃ : tie.Start
   z₃ = z₁ b₃
@@ -182,55 +169,37 @@ module _ (e : tie.After-get32) where
   deep-low = omega (arith, deep-read, opened (S z₃) fnv (s z₃) (L z₃ .accepted) .page0 .depth)
 
 get32-requires : tie.Need-get32-requires
-get32-requires c κs = let z = z₁ (c .before .before) in omega (arith, inside z, mul-le-mul-right (size (S z)) (L z .from), sized z .least)
+get32-requires c κs = let z = z₁ (c .before) in omega (arith, inside z, mul-le-mul-right (size (S z)) (L z .from), sized z .least)
 
-cast-run-of : tie.Need-cast-run-of
-cast-run-of c = omega (arith, deep-low c, twelve (S (z₃ c)) (sized (z₃ c)))
-
-run-of-requires : tie.Need-run-of-requires
-run-of-requires c κs =
-    let z = z₃ c in
-    let b = b₃ c in
-    (omega (arith, deep-read c, less b (c .before .before .if1 .taken), page-low (S z) (sized z) fnv fnv-lt (s z) (p z) (z .args .i) (key z) (L z)), omega (arith, deep-low c, twelve (S z) (sized z)))
-
-top-bits-requires : tie.Need-top-bits-requires
-top-bits-requires c κs = let b = c .before .before .before .before .before in omega (arith, climbed b .most, shallow (z₁ b), twelve (S (z₁ b)) (sized (z₁ b)))
-
-join-requires : tie.Need-join-requires
-join-requires c κs = let b = c .before .before .before .before .before .before .before in
+join-lent-requires : tie.Need-join-lent-requires
+join-lent-requires c κs =
+    let b = b₃ (c .before .before) in
     let z = z₁ b in
-    let v = c .before .top-bits in
-    let r = c .before .before .before .run-of in
-    let d = deep-read (c .before .before .before .before) in
-    let x = b .before .before .hash .ensures in (
-      z .pre .0,
-      subst (λ v. Joinable (S z) fnv (s z) (n z) (j b) v (r .result .from) (r .result .to) (key z)) (sym (bits b (v .result) (v .ensures)))
-          (joinable (S z) (sized z) fnv fnv-lt (s z) (p z) (z .args .i) (key z) (L z) (j b) (fits b) (less b (c .before .before .before .before .before .before .if1 .taken)) (r .result .from) (r .result .to)
-          (r .ensures .0 ∙ (λ i. first (d i) (record { bits = j b; value = top (j b) (x i) }))) (r .ensures .1 ∙ (λ i. after (d i) (record { bits = j b; value = top (j b) (x i) }))) (subst (λ m. r .result .to ≤ 2 ^ m) d (r .ensures .3))),
-    )
+    subst (λ x. Joinable (S z) fnv (s z) (n z) x (j b) (key z)) (sym (z .pre .2))
+    (joinable (S z) (sized z) fnv fnv-lt (s z) (p z) (z .args .i) (key z) (L z) (j b) (fits b) (less b (c .before .if1 .taken)))
 
 -- the rows joined
-module _ (e : tie.After-join) where
-  abbrev b₄ : tie.After-climb
-  b₄ = e .before .before .before .before .before .before .before .before
-
+module _ (e : tie.After-join-lent) where
   abbrev d₄ : tie.After-get32
-  d₄ = e .before .before .before .before .before
+  d₄ = e .before .before .before
+
+  abbrev b₄ : tie.After-climb
+  b₄ = b₃ d₄
 
   abbrev z₄ : tie.Start
   z₄ = z₁ b₄
 
   abbrev low : ℕ
-  low = e .join .result
+  low = e .join-lent .result
 
   abbrev v₄ : ℕ
   v₄ = top (j b₄) (fnv (key z₄))
 
   fewer : j b₄ < depth (g z₄)
-  fewer = less b₄ (e .before .before .before .before .before .before .before .if1 .taken)
+  fewer = less b₄ (e .before .before .if1 .taken)
 
-  rejoined : Rejoined (S z₄) fnv (s z₄) (n z₄) (j b₄) v₄ (key z₄) low (e .join .last .0)
-  rejoined = let v = e .before .before .top-bits in subst (λ v. Rejoined (S z₄) fnv (s z₄) (n z₄) (j b₄) v (key z₄) low (e .join .last .0)) (bits b₄ (v .result) (v .ensures)) (e .join .ensures .0)
+  rejoined : Rejoined (S z₄) fnv (s z₄) (n z₄) (j b₄) v₄ (key z₄) low (e .join-lent .last .0)
+  rejoined = subst (λ x. Rejoined (S z₄) fnv (s z₄) (n z₄) (j b₄) (top (j b₄) x) (key z₄) low (e .join-lent .last .0)) (z₄ .pre .2) (e .join-lent .ensures)
 
   its-low : (2 ≤ low) × (low < pages (S z₄) (s z₄))
   its-low = (
@@ -240,8 +209,8 @@ module _ (e : tie.After-join) where
 
 -- and the page named
 module _ (y : tie.After-name-prefix) where
-  abbrev e₅ : tie.After-join
-  e₅ = y .before .before .before .before .before .before
+  abbrev e₅ : tie.After-join-lent
+  e₅ = y .before .before .before .before
 
   abbrev z₅ : tie.Start
   z₅ = z₄ e₅
@@ -252,20 +221,20 @@ module _ (y : tie.After-name-prefix) where
   abbrev t₅ : List ℕ
   t₅ = y .name-prefix .last .0
 
-  named : PrefixNamed (S z₅) (e₅ .join .last .0) (dirDepth (s z₅)) (j b₅) (v₄ e₅) (low e₅) t₅
+  named : PrefixNamed (S z₅) (e₅ .join-lent .last .0) (dirDepth (s z₅)) (j b₅) (v₄ e₅) (low e₅) t₅
   named =
-      subst (λ d. PrefixNamed (S z₅) (e₅ .join .last .0) d (j b₅) (v₄ e₅) (low e₅) t₅) (deep-read (d₄ e₅))
-      (subst (λ x. PrefixNamed (S z₅) (e₅ .join .last .0) (d₄ e₅ .get32 .result) (j b₅) (top (j b₅) x) (low e₅) t₅) (b₅ .before .before .hash .ensures) (y .name-prefix .ensures))
+      subst (λ d. PrefixNamed (S z₅) (e₅ .join-lent .last .0) d (j b₅) (v₄ e₅) (low e₅) t₅) (deep-read (d₄ e₅))
+      (subst (λ x. PrefixNamed (S z₅) (e₅ .join-lent .last .0) (d₄ e₅ .get32 .result) (j b₅) (top (j b₅) x) (low e₅) t₅) (z₅ .pre .2) (y .name-prefix .ensures))
 
   kept : Rewritten (S z₅) (s z₅) t₅
   kept = join-kept (S z₅) (sized z₅) fnv fnv-lt (s z₅) (p z₅) (z₅ .args .i) (key z₅) (L z₅) (j b₅) (fits b₅) (fewer e₅) (rejoined e₅) named
 
 cast-name-prefix : tie.Need-cast-name-prefix
-cast-name-prefix c = let d = d₄ (c .before .before .before .before .before) in omega (arith, deep-low d, twelve (S (z₃ d)) (sized (z₃ d)))
+cast-name-prefix c = let d = d₄ (c .before .before .before) in omega (arith, deep-low d, twelve (S (z₃ d)) (sized (z₃ d)))
 
 name-prefix-requires : tie.Need-name-prefix-requires
 name-prefix-requires c κs =
-    let e = c .before .before .before .before .before in
+    let e = c .before .before .before in
     let z = z₄ e in
     let d = d₄ e in
     let two : 2 * size (S z) ≤ p z * size (S z) = mul-le-mul-right (size (S z)) (L z .from) in (
@@ -293,31 +262,26 @@ settle-depth-requires c κs =
 same-length : tie.Need-same-length
 same-length c = search needs
 
-same-length-2 : tie.Need-same-length-2
-same-length-2 c = search needs
-
 returns : tie.Need-returns
 returns c =
     let y = c .before .before .before .before .before .before in
     let z = z₅ y in
-    let b = b₅ y in (
-      settles (S z) (sized z) fnv fnv-lt (s z) (p z) (z .args .i) (key z) (L z) (j b) (fits b) (kept y)
-          (join-then (S z) (sized z) fnv fnv-lt (s z) (p z) (z .args .i) (key z) (L z) (j b) (fits b) (fewer (e₅ y)) (rejoined (e₅ y)) (named y))
-          (c .before .before .settle-depth .ensures) (λ m. (c .slice-known7 .given m) .fits),
-      e₅ y .join .ensures .1,
-    )
+    let b = b₅ y in
+    settles (S z) (sized z) fnv fnv-lt (s z) (p z) (z .args .i) (key z) (L z) (j b) (fits b) (kept y)
+    (join-then (S z) (sized z) fnv fnv-lt (s z) (p z) (z .args .i) (key z) (L z) (j b) (fits b) (fewer (e₅ y)) (rejoined (e₅ y)) (named y))
+    (c .before .before .settle-depth .ensures) (λ m. (c .slice-known5 .given m) .fits)
 
 sub-get16 : tie.Need-sub-get16
 sub-get16 c = search needs
 
 part-get16-start : tie.Need-part-get16-start
-part-get16-start c = omega (arith, inside (z₁ (c .before .before)))
+part-get16-start c = omega (arith, inside (z₁ (c .before .before .before .before)))
 
 part-get16-end : tie.Need-part-get16-end
-part-get16-end c = omega (arith, inside (z₁ (c .before .before)))
+part-get16-end c = omega (arith, inside (z₁ (c .before .before .before .before)))
 
 get16-requires : tie.Need-get16-requires
-get16-requires c κs = let z = z₁ (c .before .before .before) in
+get16-requires c κs = let z = z₁ (c .before .before .before .before .before) in
     rw (page-lent (S z) (s z) (p z)) (omega (arith, page-long (S z) (s z) (p z) (L z .to)))
 
 sub-clear-page : tie.Need-sub-clear-page
@@ -332,28 +296,99 @@ part-clear-page-end c = omega (arith, inside (z₂ (c .before)))
 clear-page-requires : tie.Need-clear-page-requires
 clear-page-requires c κs = search needs
 
-settle-requires : tie.Need-settle-requires
-settle-requires c κs = let d = c .before .before .before .before .before .before in
-    let z = z₂ d in
-    let one : d .get16 .result ≡ 1 = omega (arith, c .before .before .before .before .before .if2 .taken) in (
+-- the page cleared
+module _ (k : tie.After-clear-page) where
+  abbrev d₆ : tie.After-get16
+  d₆ = k .before .before .before
+
+  abbrev e₆ : tie.After-get32
+  e₆ = d₆ .before .before .before .before
+
+  abbrev z₆ : tie.Start
+  z₆ = z₂ d₆
+
+  abbrev t₆ : List ℕ
+  t₆ = setPage (S z₆) (s z₆) (p z₆) (replicate (size (S z₆)) 0)
+
+  one-row : count (g z₆) ≡ 1
+  one-row = sym (counted d₆) ∙ k .before .before .if2 .taken
+
+  abbrev s₆ : List ℕ
+  s₆ = take (a z₆) (s z₆) ++ (k .clear-page .last .0 ++ drop (a z₆ + size (S z₆) - a z₆) (drop (a z₆) (s z₆)))
+
+  cleared : s₆ ≡ t₆
+  cleared = blank z₆ (k .clear-page .last .0) (k .clear-page .ensures)
+
+  long-cleared : length t₆ ≡ length (s z₆)
+  long-cleared = clear-written (S z₆) (sized z₆) fnv fnv-lt (s z₆) (p z₆) (z₆ .args .i) (key z₆) (L z₆) (j (b₂ d₆)) (fits (b₂ d₆)) (own d₆) one-row .long
+
+-- and its entries name nothing
+module _ (y : tie.After-name-prefix2) where
+  abbrev k₇ : tie.After-clear-page
+  k₇ = y .before .before .before .before
+
+  abbrev z₇ : tie.Start
+  z₇ = z₆ k₇
+
+  abbrev b₇ : tie.After-climb
+  b₇ = b₂ (d₆ k₇)
+
+  abbrev u₇ : List ℕ
+  u₇ = y .name-prefix2 .last .0
+
+  abbrev deep-byte : ℕ
+  deep-byte = byte (s z₇) (p z₇ * size (S z₇) + 1)
+
+  unnamed : PrefixNamed (S z₇) (t₆ k₇) (dirDepth (s z₇)) (depth (g z₇)) (top (depth (g z₇)) (fnv (key z₇))) 0 u₇
+  unnamed =
+      subst (λ q. PrefixNamed (S z₇) q (dirDepth (s z₇)) (depth (g z₇)) (top (depth (g z₇)) (fnv (key z₇))) 0 u₇) (cleared k₇)
+      (subst (λ d. PrefixNamed (S z₇) (s₆ k₇) d (depth (g z₇)) (top (depth (g z₇)) (fnv (key z₇))) 0 u₇) (deep-read (e₆ k₇))
+      (subst (λ k. PrefixNamed (S z₇) (s₆ k₇) (e₆ k₇ .get32 .result) k (top k (fnv (key z₇))) 0 u₇) (sym (deep z₇))
+      (subst (λ x. PrefixNamed (S z₇) (s₆ k₇) (e₆ k₇ .get32 .result) deep-byte (top deep-byte x) 0 u₇) (z₇ .pre .2) (y .name-prefix2 .ensures))))
+
+  kept₇ : Rewritten (S z₇) (s z₇) u₇
+  kept₇ = clear-kept (S z₇) (sized z₇) fnv fnv-lt (s z₇) (p z₇) (z₇ .args .i) (key z₇) (L z₇) (j b₇) (fits b₇) (own (d₆ k₇)) (one-row k₇) unnamed
+
+cast-name-prefix-2 : tie.Need-cast-name-prefix-2
+cast-name-prefix-2 c = let d = e₆ (c .before .before .before) in omega (arith, deep-low d, twelve (S (z₃ d)) (sized (z₃ d)))
+
+name-prefix-requires-2 : tie.Need-name-prefix-requires-2
+name-prefix-requires-2 c κs =
+    let k = c .before .before .before in
+    let z = z₆ k in
+    let d = e₆ k in
+    let two : 2 * size (S z) ≤ p z * size (S z) = mul-le-mul-right (size (S z)) (L z .from) in (
       sized z,
-      subst (λ y. Settling (S z) y (n z)) (sym (blank z (c .before .before .before .clear-page .last .0) (c .before .before .before .clear-page .ensures)))
-          (settling (S z) (sized z) fnv fnv-lt (s z) (L z .accepted) (setPage (S z) (s z) (p z) (replicate (size (S z)) 0)) (cleared d one)),
+      record {
+        long = omega (arith, ap length (cleared k), long-cleared k, inside z, two);
+        low = omega (arith, deep-read d, deep z, page-low (S z) (sized z) fnv fnv-lt (s z) (p z) (z .args .i) (key z) (L z));
+        deep = deep-low d;
+        word = omega arith;
+      },
     )
 
-same-length-3 : tie.Need-same-length-3
-same-length-3 c = search needs
+settle-depth-requires-2 : tie.Need-settle-depth-requires-2
+settle-depth-requires-2 c κs =
+    let y = c .before .before .before in
+    let z = z₇ y in
+    let b = b₇ y in (
+      sized z,
+      settling (S z) (sized z) fnv fnv-lt (s z) (L z .accepted) (u₇ y) (kept₇ y),
+      (λ _. subst (λ d. Directed (S z) fnv (u₇ y) d (pages (S z) (s z)) (u₇ y)) (sym (deep-read (e₆ (k₇ y))))
+          (clear-directed (S z) (sized z) fnv fnv-lt (s z) (p z) (z .args .i) (key z) (L z) (j b) (fits b) (own (d₆ (k₇ y))) (one-row (k₇ y)) (unnamed y))),
+    )
+
+same-length-2 : tie.Need-same-length-2
+same-length-2 c = search needs
 
 returns-2 : tie.Need-returns-2
-returns-2 c = let d = c .before .before .before .before .before .before .before .before .before in
-    let z = z₂ d in
-    let one : d .get16 .result ≡ 1 = omega (arith, c .before .before .before .before .before .before .before .before .if2 .taken) in
-    let w = c .before .before .before .before .before .before .clear-page in
-    let u = c .before .before .settle .last .0 in (
-      settles (S z) (sized z) fnv fnv-lt (s z) (p z) (z .args .i) (key z) (L z) (j (b₂ d)) (fits (b₂ d)) (cleared d one) (cleared-holds d one)
-          (subst (λ y. Directed (S z) fnv y (deepestIn (contents (S z) y)) (n z) u) (blank z (w .last .0) (w .ensures)) (c .before .before .settle .ensures)) (λ m. (c .slice-known9 .given m) .fits),
-      refl,
-    )
+returns-2 c =
+    let y = c .before .before .before .before .before .before in
+    let z = z₇ y in
+    let b = b₇ y in
+    settles (S z) (sized z) fnv fnv-lt (s z) (p z) (z .args .i) (key z) (L z) (j b) (fits b) (kept₇ y)
+    (clear-then (S z) (sized z) fnv fnv-lt (s z) (p z) (z .args .i) (key z) (L z) (j b) (fits b) (own (d₆ (k₇ y))) (one-row (k₇ y)) (unnamed y))
+    (c .before .before .settle-depth2 .ensures) (λ m. (c .slice-known8 .given m) .fits)
 
 sub-remove-slot : tie.Need-sub-remove-slot
 sub-remove-slot c = search needs
@@ -368,19 +403,17 @@ remove-slot-requires : tie.Need-remove-slot-requires
 remove-slot-requires c κs = let z = z₂ (c .before .before) in
     rw (page-lent (S z) (s z) (p z)) (record { page = L z .rules .rules; within = L z .slot })
 
-same-length-4 : tie.Need-same-length-4
-same-length-4 c = search needs
+same-length-3 : tie.Need-same-length-3
+same-length-3 c = search needs
 
 returns-3 : tie.Need-returns-3
 returns-3 c = let d = c .before .before .before .before .before in
     let z = z₂ d in
     let r = c .before .before .remove-slot in
     let R : Removed (g z) (z .args .i) (r .last .0) = rw (page-lent (S z) (s z) (p z)) at (r .ensures) in
-    let two : 2 ≤ count (g z) = omega (arith, counted d, c .before .before .before .before .if2 .left, L z .rules .some) in (
-      subst (Becomes (S z) fnv (s z) (then z)) (sym (back z (r .last .0)))
-          (loses (S z) (sized z) fnv fnv-lt (s z) (p z) (z .args .i) (key z) (L z) (j (b₂ d)) (fits (b₂ d)) (own d) two (r .last .0) R (λ m. subst (λ y. byte y m < 256) (back z (r .last .0)) ((c .slice-known10 .given m) .fits))),
-      refl,
-    )
+    let two : 2 ≤ count (g z) = omega (arith, counted d, c .before .before .before .before .if2 .left, L z .rules .some) in
+    subst (Becomes (S z) fnv (s z) (then z)) (sym (back z (r .last .0)))
+    (loses (S z) (sized z) fnv fnv-lt (s z) (p z) (z .args .i) (key z) (L z) (j (b₂ d)) (fits (b₂ d)) (own d) two (r .last .0) R (λ m. subst (λ y. byte y m < 256) (back z (r .last .0)) ((c .slice-known9 .given m) .fits)))
 
 pub take-out-spec : {M : Type 1} → statement M
 take-out-spec =
@@ -393,19 +426,14 @@ take-out-spec =
     add-k
     slice-read-k
     cast-k
-    hash-requires
     add-climb
     climb-requires
     get32-requires
-    cast-run-of
-    run-of-requires
-    top-bits-requires
-    join-requires
+    join-lent-requires
     cast-name-prefix
     name-prefix-requires
     settle-depth-requires
     same-length
-    same-length-2
     returns
     sub-get16
     part-get16-start
@@ -415,12 +443,14 @@ take-out-spec =
     part-clear-page-start
     part-clear-page-end
     clear-page-requires
-    settle-requires
-    same-length-3
+    cast-name-prefix-2
+    name-prefix-requires-2
+    settle-depth-requires-2
+    same-length-2
     returns-2
     sub-remove-slot
     part-remove-slot-start
     part-remove-slot-end
     remove-slot-requires
-    same-length-4
+    same-length-3
     returns-3)

@@ -154,7 +154,9 @@ cast-ranges : tie.Need-cast-ranges
 cast-ranges c = let b = top-of (c .before .before .before .before .before) in record { fits = omega (arith, good b .most, few b) }
 
 ranges-requires : tie.Need-ranges-requires
-ranges-requires c κs = omega (arith, fits (c .before .before .before .before .before), c .before .before .before .entries .ensures .long)
+ranges-requires c κs =
+    let b = top-of (c .before .before .before .before .before) in
+    (omega (arith, fits (c .before .before .before .before .before), c .before .before .before .entries .ensures .long), omega (arith, good b .least))
 
 same-length : tie.Need-same-length
 same-length c = search needs
@@ -213,7 +215,7 @@ first-joinable-requires c κs =
     let w = c .before .before in
     let y = pass-1 w in
     let b = base y in
-    (standing (S b) (sized b) (store b) (good b) (zero (test (past-1 y))) (stands w), hashed-all _ _ _ _ _ (y .first-unsound .ensures .1) (w .if3 .left), start b .pre .2 .sums-long, start b .pre .2 .no-sums)
+    (standing (S b) (sized b) (store b) (good b) (zero (test (past-1 y))) (stands w), hashed-all _ _ _ _ _ (y .first-unsound .ensures .1) (w .if3 .left), start b .pre .2 .sums-long, start b .pre .2 .no-sums, deep-is (at (test (past-1 y))))
 
 same-length-6 : tie.Need-same-length-6
 same-length-6 c = search needs

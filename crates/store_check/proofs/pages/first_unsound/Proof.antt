@@ -6,14 +6,16 @@ use mathlib.Core.Path.{_≡_, refl, sym, ap, subst, _∙_}
 use mathlib.Core.List.{List}
 use Prim.Native.Nat.{ℕ, _+_, _-_, _*_, _^_, _≤_, _<_}
 use native.Mathlib.Omega.{arith}
+use lib.Bits.{bitXor}
 use lib.ListN.{length, set, take, drop}
 use Rattle.ground.specs.Lists.{byte}
 use Rattle.ground.specs.Says.{Says}
-use Rattle.ground.proofs.Tests.{says-true, says-false}
+use Rattle.ground.proofs.Tests.{says-true, says-false, says-same}
 use Rattle.words.specs.Zeros.{Zero}
 use Rattle.hash.specs.Fnv.{fnv}
 use Rattle.partition.specs.Bits.{top}
 use Rattle.page.specs.Page.{depth, code, count}
+use Rattle.page_check.proofs.Prefixes.{near}
 use Rattle.store.specs.Accepted.{Stands}
 use Rattle.partition.specs.declared.Shape.{Shape}
 use Rattle.partition.proofs.Sizes.{twelve}
@@ -31,10 +33,10 @@ use Rattle.store_check.proofs.pages.first_unsound.Statement.{statement}
 use Rattle.store_check.proofs.pages.first_unsound.Tie as tie
 
 abbrev Inv-slots : tie.InvT-slots
-Inv-slots s z dir counts n d tab hashes p size a pg k first count i₀ i = (1 ≤ i) × (i ≤ count) × ((j : ℕ) → j < i → Like pg j)
+Inv-slots s z dir counts n d tab hashes p size a pg k m first count i₀ i = (1 ≤ i) × (i ≤ count) × ((j : ℕ) → j < i → Like pg j)
 
 abbrev μ-slots : tie.MeasureT-slots
-μ-slots s z dir counts n d tab hashes p size a pg k first count i₀ i = count - i
+μ-slots s z dir counts n d tab hashes p size a pg k m first count i₀ i = count - i
 
 abbrev Inv-pages : tie.InvT-pages
 Inv-pages s z dir counts n d tab₀ hashes₀ p₀ tab hashes p = (length tab ≡ size z) × Zero tab × (2 ≤ p) × (p ≤ n) × ((q : ℕ) → q < p → 2 ≤ q → Stands z fnv s q) × Hashed z s p hashes
@@ -133,17 +135,23 @@ own : (c : Past) → Own (pg-of (at c)) (deep (at c))
 own c = says-true {P = Own (pg-of (at c)) (deep (at c))} (c .before .before .before .own-ok .result) (not-false _ (c .if4 .left)) (c .before .before .before .own-ok .ensures .0)
 
 -- what the test of slot i says
-slot-said : (c : tie.After-shares Inv-slots μ-slots Inv-pages μ-pages) → let g = pg-of (at (c .before .before .before .before .before .before .before)) in Says (c .shares .result) (Like g (c .before .before .before .slots .i))
+slot-said : (c : tie.After-differ-below Inv-slots μ-slots Inv-pages μ-pages) → let g = pg-of (at (c .before .before .before .before .before .before .before .before)) in Says (c .differ-below .result) (Like g (c .before .before .before .slots .i))
 slot-said c =
-    let g = pg-of (at (c .before .before .before .before .before .before .before)) in
+    let x = c .before .before .before .before .before .before .before .before in
+    let g = pg-of (at x) in
     let k = depth g in
-    subst (λ x. Says (c .shares .result) (top k (fnv (code g 0)) ≡ top k x)) (c .before .hash-slot2 .ensures)
-    (subst (λ x. Says (c .shares .result) (top k x ≡ top k (c .before .hash-slot2 .result))) (c .before .before .before .before .before .hash-slot .ensures) (c .shares .ensures))
+    let one = c .before .before .before .before .before .hash-slot in
+    let two = c .before .hash-slot2 in
+    let m = c .before .before .before .before .before .before .limit in
+    let n = near k (omega (arith, own x .deep, start (at x) .pre .0 .deep, few (at x))) (one .result) (two .result) in
+    says-same {P = bitXor (one .result) (two .result) < m .result} {Q = Like g (c .before .before .before .slots .i)} (c .differ-below .result) (c .differ-below .ensures)
+    (λ h. ap (top k) (sym (one .ensures)) ∙ n .0 (subst (λ v. bitXor (one .result) (two .result) < v) (m .ensures) h) ∙ ap (top k) (two .ensures))
+    (λ h. subst (λ v. bitXor (one .result) (two .result) < v) (sym (m .ensures)) (n .1 (ap (top k) (one .ensures) ∙ h ∙ sym (ap (top k) (two .ensures)))))
 
 -- and what that of the entries says
-name-said : (c : tie.After-named Inv-slots μ-slots Inv-pages μ-pages) → let x = at (c .before .before .before .before .before .before) in Says (c .named .result) (Named (dir-of x) (deep x) (depth (pg-of x)) (prefixOf (pg-of x)) (p-of x))
+name-said : (c : tie.After-named Inv-slots μ-slots Inv-pages μ-pages) → let x = at (c .before .before .before .before .before .before .before) in Says (c .named .result) (Named (dir-of x) (deep x) (depth (pg-of x)) (prefixOf (pg-of x)) (p-of x))
 name-said c =
-    let x = at (c .before .before .before .before .before .before) in
+    let x = at (c .before .before .before .before .before .before .before) in
     subst (λ y. Says (c .named .result) (Named (dir-of x) (deep x) (depth (pg-of x)) (top (depth (pg-of x)) y) (p-of x))) (c .before .before .before .before .hash-slot .ensures) (c .named .ensures)
 
 pages-holds : tie.Need-pages-holds Inv-slots μ-slots Inv-pages μ-pages
@@ -203,22 +211,25 @@ own-ok-requires c κs = let x = c .before .before .before .before .before in (tu
 shared-slice-read-k : tie.Need-shared-slice-read-k Inv-slots μ-slots Inv-pages μ-pages
 shared-slice-read-k c = omega (arith, long (at (c .before)))
 
+limit-requires : tie.Need-limit-requires Inv-slots μ-slots Inv-pages μ-pages
+limit-requires c κs =
+    let x = c .before in
+    omega (arith, own x .deep, start (at x) .pre .0 .deep, few (at x))
+
 hash-slot-requires : tie.Need-hash-slot-requires Inv-slots μ-slots Inv-pages μ-pages
-hash-slot-requires c κs = (own (c .before) .rules, own (c .before) .rules .some)
+hash-slot-requires c κs = (own (c .before .before) .rules, own (c .before .before) .rules .some)
 
 get16-requires : tie.Need-get16-requires Inv-slots μ-slots Inv-pages μ-pages
-get16-requires c κs = omega (arith, long (at (c .before .before)))
+get16-requires c κs = omega (arith, long (at (c .before .before .before)))
 
 slots-holds : tie.Need-slots-holds Inv-slots μ-slots Inv-pages μ-pages
-slots-holds c = (omega arith, omega (arith, own (c .before .before .before) .rules .some, c .get16 .ensures .0), λ j h. let e : j ≡ 0 = omega arith in rw e refl)
+slots-holds c = (omega arith, omega (arith, own (c .before .before .before .before) .rules .some, c .get16 .ensures .0), λ j h. let e : j ≡ 0 = omega arith in rw e refl)
 
 hash-slot-requires-2 : tie.Need-hash-slot-requires-2 Inv-slots μ-slots Inv-pages μ-pages
-hash-slot-requires-2 c κs = (own (c .before .before .before .before .before) .rules, omega (arith, c .before .before .get16 .ensures .0))
+hash-slot-requires-2 c κs = (own (c .before .before .before .before .before .before) .rules, omega (arith, c .before .before .get16 .ensures .0))
 
-shares-requires : tie.Need-shares-requires Inv-slots μ-slots Inv-pages μ-pages
-shares-requires c κs =
-    let x = c .before .before .before .before .before .before in
-    omega (arith, own x .deep, start (at x) .pre .0 .deep, few (at x))
+differ-below-requires : tie.Need-differ-below-requires Inv-slots μ-slots Inv-pages μ-pages
+differ-below-requires c κs = search needs
 
 add-i : tie.Need-add-i Inv-slots μ-slots Inv-pages μ-pages
 add-i c = search needs
@@ -228,24 +239,24 @@ slots-less c = search needs
 
 slots-again : tie.Need-slots-again Inv-slots μ-slots Inv-pages μ-pages
 slots-again c =
-    let x = c .before .before .before .before .before .before .before .before in (
+    let x = c .before .before .before .before .before .before .before .before .before in (
       omega arith,
       omega arith,
       below-more (Like (pg-of (at x))) _ (c .before .before .before .before .slots .inv .2)
-          (says-true {P = Like (pg-of (at x)) (c .before .before .before .before .slots .i)} (c .before .shares .result) (not-false _ (c .if5 .left)) (slot-said (c .before))),
+          (says-true {P = Like (pg-of (at x)) (c .before .before .before .before .slots .i)} (c .before .differ-below .result) (not-false _ (c .if5 .left)) (slot-said (c .before))),
     )
 
 cast-named : tie.Need-cast-named Inv-slots μ-slots Inv-pages μ-pages
 cast-named c =
-    let x = c .before .before .before .before .before in
+    let x = c .before .before .before .before .before .before in
     record { fits = omega (arith, own x .deep, start (at x) .pre .0 .deep, few (at x)) }
 
 cast-named-2 : tie.Need-cast-named-2 Inv-slots μ-slots Inv-pages μ-pages
-cast-named-2 c = let x = at (c .before .before .before .before .before) in record { fits = omega (arith, in-range x, few-entries x) }
+cast-named-2 c = let x = at (c .before .before .before .before .before .before) in record { fits = omega (arith, in-range x, few-entries x) }
 
 named-requires : tie.Need-named-requires Inv-slots μ-slots Inv-pages μ-pages
 named-requires c κs =
-    let x = c .before .before .before .before .before in
+    let x = c .before .before .before .before .before .before in
     let a = start (at x) in
     let b = a .pre .0 in
     (fits (at x), omega (arith, b .deep, few (at x)), own x .deep, turn (at x) .pages .inv .2, omega (arith, in-range (at x), a .pre .1 .long), b .beyond, subst (λ m. Counted (dir-of (at x)) (2 ^ deep (at x)) m (counts-of (at x))) (sym (a .pre .1 .long)) (a .pre .1))
@@ -254,7 +265,7 @@ mul-hashes-2 : tie.Need-mul-hashes-2 Inv-slots μ-slots Inv-pages μ-pages
 mul-hashes-2 c = search needs
 
 slice-write-hashes-2 : tie.Need-slice-write-hashes-2 Inv-slots μ-slots Inv-pages μ-pages
-slice-write-hashes-2 c = let x = at (c .before .before .before .before .before .before .before) in omega (arith, in-range x, turn x .pages .inv .5 .long)
+slice-write-hashes-2 c = let x = at (c .before .before .before .before .before .before .before .before) in omega (arith, in-range x, turn x .pages .inv .5 .long)
 
 add-p-2 : tie.Need-add-p-2 Inv-slots μ-slots Inv-pages μ-pages
 add-p-2 c = search needs
@@ -264,7 +275,7 @@ pages-less-2 c = search needs
 
 pages-again-2 : tie.Need-pages-again-2 Inv-slots μ-slots Inv-pages μ-pages
 pages-again-2 c =
-    let y = c .before .before .before .before .before .before .before in
+    let y = c .before .before .before .before .before .before .before .before in
     let x = at y in
     let l = turn x .pages in (
       y .before .before .before .own-ok .kept .1 .0 ∙ l .inv .0,
@@ -309,30 +320,30 @@ returns-3 c =
     (ends x (λ st. says-false {P = Own (pg-of x) (deep x)} (c .before .before .before .own-ok .result) (not-true _ (c .if4 .taken)) (c .before .before .before .own-ok .ensures .0) (own-of x (c .before .before .before .before .before .if2 .left) st)), turn x .pages .inv .5)
 
 same-length-7 : tie.Need-same-length-7 Inv-slots μ-slots Inv-pages μ-pages
-same-length-7 c = let t = turn (at (c .before .before .before .before .before .before .before .before)) in c .before .before .before .before .before .before .before .before .before .before .before .own-ok .kept .1 .0 ∙ t .pages .inv .0 ∙ sym (t .before .before .before .before .before .before .pre .2)
+same-length-7 c = let t = turn (at (c .before .before .before .before .before .before .before .before .before)) in c .before .before .before .before .before .before .before .before .before .before .before .before .own-ok .kept .1 .0 ∙ t .pages .inv .0 ∙ sym (t .before .before .before .before .before .before .pre .2)
 
 same-length-8 : tie.Need-same-length-8 Inv-slots μ-slots Inv-pages μ-pages
-same-length-8 c = let t = turn (at (c .before .before .before .before .before .before .before .before)) in t .pages .inv .5 .long ∙ sym (t .before .before .before .before .before .before .pre .4)
+same-length-8 c = let t = turn (at (c .before .before .before .before .before .before .before .before .before)) in t .pages .inv .5 .long ∙ sym (t .before .before .before .before .before .before .pre .4)
 
 returns-4 : tie.Need-returns-4 Inv-slots μ-slots Inv-pages μ-pages
 returns-4 c =
-    let y = c .before .before .before .before .before .before .before .before in
+    let y = c .before .before .before .before .before .before .before .before .before in
     let x = at y in
     let i = c .before .before .before .before .slots .i in (
-      ends x (λ st. says-false {P = Like (pg-of x) i} (c .before .shares .result) (not-true _ (c .if5 .taken)) (slot-said (c .before))
+      ends x (λ st. says-false {P = Like (pg-of x) i} (c .before .differ-below .result) (not-true _ (c .if5 .taken)) (slot-said (c .before))
           (like-of x (y .before .before .before .before .before .if2 .left) st i (omega (arith, c .before .before .before .before .before .get16 .ensures .0)))),
       turn x .pages .inv .5,
     )
 
 same-length-9 : tie.Need-same-length-9 Inv-slots μ-slots Inv-pages μ-pages
-same-length-9 c = let t = turn (at (c .before .before .before .before .before .before .before)) in c .before .before .before .before .before .before .before .before .before .before .own-ok .kept .1 .0 ∙ t .pages .inv .0 ∙ sym (t .before .before .before .before .before .before .pre .2)
+same-length-9 c = let t = turn (at (c .before .before .before .before .before .before .before .before)) in c .before .before .before .before .before .before .before .before .before .before .before .own-ok .kept .1 .0 ∙ t .pages .inv .0 ∙ sym (t .before .before .before .before .before .before .pre .2)
 
 same-length-10 : tie.Need-same-length-10 Inv-slots μ-slots Inv-pages μ-pages
-same-length-10 c = let t = turn (at (c .before .before .before .before .before .before .before)) in t .pages .inv .5 .long ∙ sym (t .before .before .before .before .before .before .pre .4)
+same-length-10 c = let t = turn (at (c .before .before .before .before .before .before .before .before)) in t .pages .inv .5 .long ∙ sym (t .before .before .before .before .before .before .pre .4)
 
 returns-5 : tie.Need-returns-5 Inv-slots μ-slots Inv-pages μ-pages
 returns-5 c =
-    let y = c .before .before .before .before .before .before .before in
+    let y = c .before .before .before .before .before .before .before .before in
     let x = at y in (
       ends x (λ st. says-false {P = Named (dir-of x) (deep x) (depth (pg-of x)) (prefixOf (pg-of x)) (p-of x)} (c .before .named .result) (not-true _ (c .if6 .taken)) (name-said (c .before))
           (named-of x (y .before .before .before .before .before .if2 .left) st)),
@@ -363,11 +374,12 @@ first-unsound-spec =
     pages-again
     own-ok-requires
     shared-slice-read-k
+    limit-requires
     hash-slot-requires
     get16-requires
     slots-holds
     hash-slot-requires-2
-    shares-requires
+    differ-below-requires
     add-i
     slots-less
     slots-again
