@@ -93,7 +93,7 @@ faulty at Range = text "unknown" ++ because at (text "a number is out of range")
 faulty at Form = text "unknown" ++ because at (text "its words are not those of the command")
 faulty at Long = text "unknown" ++ because at (text "over 4096 bytes")
 faulty at Filled = text "refused" ++ because at (text "the file is not empty, say format N anew")
-faulty at Room = text "refused" ++ because at (text "the program has no room for so large a store")
+faulty at Room = text "refused" ++ because at (text "so large a store wants an empty file and a stack of 80 MB (ulimit -s 81920)")
 
 -- out begins with the text w as a line, r bytes long
 pub record Lines (w out : List ℕ) (r : ℕ) : Type 0 where

@@ -332,7 +332,7 @@ fn fault_text(out: &mut [u8], number: usize, f: Fault) -> usize
             out,
             b"refused",
             number,
-            b"the program has no room for so large a store",
+            b"so large a store wants an empty file and a stack of 80 MB (ulimit -s 81920)",
         ),
     }
 }
