@@ -15,13 +15,14 @@ use Rattle.store.specs.Accepted.{Page0}
 use Rattle.store.specs.Tables.{Out, refused, refusedAt, formatted, PageSize, formatTable, formatSized}
 use Rattle.store.specs.Demands.{Hash, Call, format, check, count, lookup, remove, put, rowAt, inspect, Made, ok, WholePages, page-0, ExactlyWhen}
 use Rattle.store.proofs.Accepted.Format.{good-stable}
+use Rattle.store.proofs.Accepted.OwnSize.{short, size-is, is-size}
 use Rattle.store.proofs.Demands.Order.{good-length, whole-pages, says-one, says-late}
 use Rattle.store.proofs.Demands.Settled.{format-settled, check-settled, count-settled, lookup-settled, row-settled, inspect-settled, put-settled, remove-settled}
 use Rattle.store.proofs.Demands.Whole.{demand-1}
 use Rattle.store.proofs.Result.Answered.{unless, format-answered}
 use Rattle.store.proofs.Result.Total.{answered-always}
 use Rattle.any_size.specs.OwnSizes.{SizedCall, formatTo, on, goesBy, MadeSized, faultsSized, GivenSized, SizeNumber, OwnFirst}
-use Rattle.any_size.proofs.Rows.{number-at, short, size-is, is-size, size-or-not, bad-number}
+use Rattle.any_size.proofs.Rows.{number-at, size-or-not, bad-number}
 
 pub sized-by : (c : Call) (s : List ℕ) → Sized (goesBy c s)
 sized-by format s = sized-of s

@@ -16,10 +16,11 @@ use Rattle.store.specs.Accepted.{Accepted}
 use Rattle.store.specs.Moves.{pick}
 use Rattle.store.specs.Tables.{Out, formatted, accepted, PageSize}
 use Rattle.store.specs.Demands.{Hash, Call, format, check, count, lookup, remove, put, rowAt, inspect, Made, ok, WholePages, after, surviving, History, begin, next, Afresh}
+use Rattle.store.proofs.Accepted.OwnSize.{is-size}
 use Rattle.store.proofs.Demands.Choice.{put-chooses, remove-chooses}
 use Rattle.store.proofs.Demands.Whole.{demand-2, demand-3}
 use Rattle.any_size.specs.OwnSizes.{SizedCall, formatTo, on, MadeSized, OwnSecond, survivingSized, SizedHistory, starts, goes-on, OwnThird}
-use Rattle.any_size.proofs.Rows.{said-for, said-of, is-size}
+use Rattle.any_size.proofs.Rows.{said-for, said-of}
 use Rattle.any_size.proofs.Calls.{differs, formats, answered, succeeds}
 
 pick-same : (b : Bool) (rs : List Row) → pick b rs rs ≡ rs

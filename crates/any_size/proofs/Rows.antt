@@ -6,16 +6,14 @@ use mathlib.Core.Logic.{_⊎_, inl, inr, ⊎-elim}
 use Prim.Native.Nat.{ℕ, _<_}
 use native.Mathlib.Omega.{arith}
 use lib.Dec.{T, eqb, eqb→eq}
-use lib.ListN.{length}
 use Rattle.ground.proofs.Sides.{same}
 use Rattle.words.specs.Le.{le32}
-use Rattle.partition.specs.Sizes.{size, S4096, S16384, shapeAt, either, shapeFor, sizeNumber, shapeOf}
-use Rattle.partition.proofs.Sizes.{sized-of}
+use Rattle.partition.specs.Sizes.{S4096, S16384, shapeAt, either, shapeFor, sizeNumber, shapeOf}
 use Rattle.store.specs.Pages.{S1024}
 use Rattle.store.specs.Accepted.{Page0, Accepted}
-use Rattle.store.specs.Tables.{Refusal1, PageSize}
+use Rattle.store.specs.Tables.{PageSize}
 use Rattle.store.proofs.Accepted.OwnSize.{size-is-said}
-use Rattle.store.proofs.Accepted.Unique.{within}
+pub use Rattle.store.proofs.Accepted.OwnSize.{short}
 use Rattle.any_size.specs.OwnSizes.{SizeNumber}
 
 row-by : (a b : Bool) → (k : ℕ) × (k < 3) × (either a S4096 (either b S16384 S1024) ≡ shapeAt k)
@@ -38,26 +36,7 @@ number-at s = refl
 pub said-of : (h : List ℕ → ℕ) (s t : List ℕ) → Accepted (shapeOf s) h t → shapeOf t ≡ shapeOf s
 said-of h s t a = subst (λ S. Accepted S h t → shapeOf t ≡ S) (sym (number-at s)) (said-for h (le32 s 20) t) a
 
--- under 24 bytes the length is refused at every size
-pub short : (s : List ℕ) → length s < 24 → Refusal1 (shapeOf s) s
-short s l g = omega (arith, l, within (shapeOf s) s 2 (g .least), sized-of s .least)
-
 -- ---- the three page sizes, and their numbers
-
-size-by : (n : ℕ) (a b : Bool) → n ≡ size (either a S4096 (either b S16384 S1024)) → PageSize n
-size-by n true b e = inr (inl e)
-size-by n false true e = inr (inr e)
-size-by n false false e = inl e
-
-pub size-is : (n : ℕ) → n ≡ size (shapeFor n) → PageSize n
-unfolding shapeFor
-size-is n e = size-by n (eqb n 4096) (eqb n 16384) e
-
-pub is-size : (n : ℕ) → PageSize n → n ≡ size (shapeFor n)
-unfolding shapeFor
-is-size n (inl e) = subst (λ m. m ≡ size (shapeFor m)) (sym e) refl
-is-size n (inr (inl e)) = subst (λ m. m ≡ size (shapeFor m)) (sym e) refl
-is-size n (inr (inr e)) = subst (λ m. m ≡ size (shapeFor m)) (sym e) refl
 
 pub size-or-not : (n : ℕ) → Dec (PageSize n)
 size-or-not n =

@@ -10,29 +10,30 @@ use super::show::part;
 use libc::STDOUT_FILENO;
 
 // Codes of one length, 2 to 64 bytes, whose hashes begin with these bits.
-struct Kind {
-    len: usize,
-    bits: u32,
-    value: u64,
+pub struct Kind {
+    pub len: usize,
+    pub bits: u32,
+    pub value: u64,
 }
 
-fn codes(len: usize, bits: u32, value: u64) -> Kind
+pub fn codes(len: usize, bits: u32, value: u64) -> Kind
     ensures { λ r. ⌜ (r .len ≡ len) × (r .bits ≡ bits) ⌝ }
 {
     Kind { len, bits, value }
 }
 
-// Code number i of every length: two bytes that count, then letters.
+// Code number i of every length: two bytes that count, one that counts on from a letter, then letters.
 fn write_code(code: &mut [u8], i: u32)
-    requires { ⌜ 2 ≤ length (now code) ⌝ }
+    requires { ⌜ 3 ≤ length (now code) ⌝ }
 {
     code[0] = (i % 256) as u8;
     code[1] = (i / 256 % 256) as u8;
+    code[2] = ((120 + i / 65536) % 256) as u8;
 }
 
 // Whether code number i is of the kind.
 fn is_of(kind: Kind, i: u32) -> bool
-    requires { ⌜ (kind .len ≤ 64) × (kind .bits ≤ 8) ⌝ }
+    requires { ⌜ (kind .len ≤ 64) × (kind .bits ≤ 12) ⌝ }
 {
     let mut code = [120u8; 64];
     write_code(&mut code, i);
@@ -40,44 +41,62 @@ fn is_of(kind: Kind, i: u32) -> bool
     partition::top_bits(hash::hash(&code[0..len]), kind.bits) == kind.value
 }
 
-// The number of the kind's code n, counted from 0.
-fn number_of(kind: Kind, n: u32) -> u32
-    requires { ⌜ (kind .len ≤ 64) × (kind .bits ≤ 8) ⌝ }
+// The number of the kind's first code from this number on.
+fn next_of(kind: Kind, from: u32) -> u32
+    requires { ⌜ (kind .len ≤ 64) × (kind .bits ≤ 12) ⌝ }
+    ensures { λ r. ⌜ r ≤ 1048576 ⌝ }
 {
-    let mut left = n;
-    let mut i = 0;
-    while i < 65536 {
+    let mut i = from;
+    while i < 1048576 {
         if is_of(kind, i) {
-            if left == 0 {
-                return i;
-            }
-            left -= 1;
+            return i;
         }
         i += 1;
+    }
+    1048576
+}
+
+// The number of the kind's code n, counted from 0.
+fn number_of(kind: Kind, n: u32) -> u32
+    requires { ⌜ (kind .len ≤ 64) × (kind .bits ≤ 12) ⌝ }
+    ensures { λ r. ⌜ r ≤ 1048576 ⌝ }
+{
+    let mut i = next_of(kind, 0);
+    let mut left = n;
+    while 0 < left {
+        i = next_of(kind, i + 1);
+        left -= 1;
     }
     i
 }
 
-// Puts the kind's row n by a mode.
-fn put_as(store: &mut [u8], kind: Kind, n: u32, mode: u64) -> u64
-    requires { ⌜ (kind .len ≤ 64) × (kind .bits ≤ 8) ⌝ }
+// Puts the row of the kind's code number i by a mode.
+fn put_code(store: &mut [u8], kind: Kind, i: u32, mode: u64) -> u64
+    requires { ⌜ (kind .len ≤ 64) × (kind .bits ≤ 12) ⌝ }
 {
     let mut code = [120u8; 64];
-    write_code(&mut code, number_of(kind, n));
+    write_code(&mut code, i);
     let len = kind.len;
     lots_c::lots_put(store, &code[0..len], 1, 2, 3, mode)
 }
 
+// Puts the kind's row n by a mode.
+fn put_as(store: &mut [u8], kind: Kind, n: u32, mode: u64) -> u64
+    requires { ⌜ (kind .len ≤ 64) × (kind .bits ≤ 12) ⌝ }
+{
+    put_code(store, kind, number_of(kind, n), mode)
+}
+
 // Puts it, whether it is new or known.
-fn put(store: &mut [u8], kind: Kind, n: u32) -> u64
-    requires { ⌜ (kind .len ≤ 64) × (kind .bits ≤ 8) ⌝ }
+pub fn put(store: &mut [u8], kind: Kind, n: u32) -> u64
+    requires { ⌜ (kind .len ≤ 64) × (kind .bits ≤ 12) ⌝ }
 {
     put_as(store, kind, n, 0)
 }
 
 // Removes it.
-fn remove(store: &mut [u8], kind: Kind, n: u32) -> u64
-    requires { ⌜ (kind .len ≤ 64) × (kind .bits ≤ 8) ⌝ }
+pub fn remove(store: &mut [u8], kind: Kind, n: u32) -> u64
+    requires { ⌜ (kind .len ≤ 64) × (kind .bits ≤ 12) ⌝ }
 {
     let mut code = [120u8; 64];
     write_code(&mut code, number_of(kind, n));
@@ -94,23 +113,26 @@ fn went_well(store: &[u8], word: u64) -> bool {
 }
 
 // Puts the kind's first rows; how many of them went well.
-fn put_all(store: &mut [u8], kind: Kind, many: u32) -> u64
-    requires { ⌜ (kind .len ≤ 64) × (kind .bits ≤ 8) ⌝ }
+pub fn put_all(store: &mut [u8], kind: Kind, many: u32) -> u64
+    requires { ⌜ (kind .len ≤ 64) × (kind .bits ≤ 12) ⌝ }
 {
     let mut n = 0;
+    let mut from = 0;
     while n < many {
-        let word = put(store, kind, n);
+        let i = next_of(kind, from);
+        let word = put_code(store, kind, i, 0);
         if !went_well(store, word) {
             return n as u64;
         }
         n += 1;
+        from = i + 1;
     }
     n as u64
 }
 
 // Removes them.
 fn remove_all(store: &mut [u8], kind: Kind, many: u32) -> u64
-    requires { ⌜ (kind .len ≤ 64) × (kind .bits ≤ 8) ⌝ }
+    requires { ⌜ (kind .len ≤ 64) × (kind .bits ≤ 12) ⌝ }
 {
     let mut n = 0;
     while n < many {
@@ -124,25 +146,34 @@ fn remove_all(store: &mut [u8], kind: Kind, many: u32) -> u64
 }
 
 // The header of each page from 2 on, the rows, and what the check says.
-fn say(store: &[u8]) {
+pub fn say(store: &[u8]) {
     headers(store);
     say_number(b"rows:", lots_c::lots_count(store));
     say_number(b"check:", lots_c::lots_check(store));
 }
 
+// The page size that the number at 20 stands for.
+pub fn page_size(store: &[u8]) -> usize
+    ensures { λ r. ⌜ (1 ≤ r) × (r ≤ 16384) ⌝ }
+{
+    if store.len() < 24 {
+        return 1024;
+    }
+    8 + partition::shape_of(store).capacity
+}
+
 fn headers(store: &[u8]) {
-    let n = store.len() / 1024;
-    let mut p = 2;
-    while p < n {
-        let a = p * 1024;
-        digits(&store[a..a + 8]);
-        p += 1;
+    let size = page_size(store);
+    let mut a = 2 * size;
+    while a < store.len() {
+        digits(part(store, a, a + 8));
+        a += size;
     }
 }
 
 // A 14th row and one of the 13, where only a new code or only a known one is expected.
 fn by_mode(store: &mut [u8], kind: Kind)
-    requires { ⌜ (kind .len ≤ 64) × (kind .bits ≤ 8) ⌝ }
+    requires { ⌜ (kind .len ≤ 64) × (kind .bits ≤ 12) ⌝ }
 {
     say_place(b"a 14th, only if new:", put_as(store, kind, 13, 1));
     say_place(b"a 14th, only if known:", put_as(store, kind, 13, 2));
@@ -177,10 +208,12 @@ pub fn crowded(store: &mut [u8]) {
     say(store);
 }
 
-// A row at 1, one at 01 and so on to 000001; how many went well.
-fn put_ladder(store: &mut [u8]) -> u64 {
+// A row at 1, one at 01 and so on, the last at as many bits as this; how many went well.
+pub fn put_ladder(store: &mut [u8], deepest: u32) -> u64
+    requires { ⌜ deepest ≤ 12 ⌝ }
+{
     let mut bits = 0;
-    while bits < 6 {
+    while bits < deepest {
         bits += 1;
         let rung = codes(2, bits, 1);
         let word = put(store, rung, 0);
@@ -197,7 +230,7 @@ pub fn deep_split(store: &mut [u8]) {
     let short = codes(3, 6, 0);
     let long = codes(64, 6, 0);
     say_number(b"format:", lots_c::lots_format(store, 1024));
-    say_number(b"rows put at 1, 01 to 000001:", put_ladder(store));
+    say_number(b"rows put at 1, 01 to 000001:", put_ladder(store, 6));
     say_number(b"rows put at 000000:", put_all(store, short, 62));
     say(store);
     say_place(b"a long one there:", put(store, long, 0));
@@ -234,7 +267,7 @@ pub fn fragmented(store: &mut [u8]) {
 
 // In 3 pages a hole of 72 bytes before 12 records, and room of 32 at the frontier: one row more of this kind, then where the records are.
 fn beside_hole(store: &mut [u8], kind: Kind)
-    requires { ⌜ (kind .len ≤ 64) × (kind .bits ≤ 8) ⌝ }
+    requires { ⌜ (kind .len ≤ 64) × (kind .bits ≤ 12) ⌝ }
 {
     let any = codes(64, 0, 0);
     say_number(b"format:", lots_c::lots_format(store, 1024));

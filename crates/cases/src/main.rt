@@ -4,6 +4,7 @@ mod history;
 mod reads;
 mod refusals;
 mod show;
+mod sizes;
 
 use answers::say_number;
 use answers::say_place;
@@ -18,6 +19,8 @@ fn main() {
     refusals::of_writes(&mut store, &mut damaged);
     reads::row_by_row();
     histories(&mut store);
+    sizes::of_4096();
+    sizes::of_16384();
 }
 
 // On what the other cases left, and on larger stores.

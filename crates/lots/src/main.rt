@@ -9,17 +9,18 @@ mod known;
 mod obey;
 mod say;
 
+use check::same;
 use libc::STDERR_FILENO;
 use store::Answer;
 
-// What a line said, and whether it changed the store. Listed: so many rows, and their number. Format is still to be done; Stopped: an answer could not be written.
+// What a line said, and whether it changed the store. Listed: so many rows, and their number. Format is still to be done, so many pages of that size; Stopped: an answer could not be written.
 pub enum Outcome {
     Silent,
     Unknown,
     Told(Answer),
     Changed(Answer),
     Listed(usize),
-    Format(usize),
+    Format(usize, usize),
     Stopped,
 }
 
@@ -48,7 +49,7 @@ fn main() {
         usage();
         return;
     }
-    if words > 3 {
+    if words > 4 {
         usage();
         return;
     }
@@ -56,13 +57,58 @@ fn main() {
         usage();
         return;
     }
-    // 258 pages and one byte more, so that a longer file shows refusal 1
-    let mut store = [0u8; 264193];
-    work(&path[0..n], &mut store, words == 3);
+    if words == 4 {
+        in_large_room(&path[0..n], is_typed(), turns_left(words));
+        return;
+    }
+    in_small_room(&path[0..n], is_typed());
 }
 
 fn usage() {
-    io::write_all(STDERR_FILENO, b"usage: lots FILE [terminal]\n");
+    io::write_all(
+        STDERR_FILENO,
+        b"usage: lots FILE [terminal | lines [large]]\n",
+    );
+}
+
+// Whether the second word says that lines are typed at a terminal.
+fn is_typed() -> bool {
+    let mut word = [0u8; 16];
+    let n = os::arg(2, &mut word);
+    same(&word[0..n], b"terminal")
+}
+
+// 258 pages of 1,024 bytes and one byte more, so that a longer file shows refusal 1.
+fn small_room() -> [u8; 264193] {
+    [0u8; 264193]
+}
+
+// 4,098 pages of 16,384 bytes and one byte more: for a stack of over 64 MiB.
+fn large_room() -> [u8; 67141633] {
+    [0u8; 67141633]
+}
+
+fn in_small_room(path: &[u8], terminal: bool)
+    requires { ⌜ length (now path) ≤ 4096 ⌝ }
+{
+    let mut store = small_room();
+    work(path, &mut store, terminal);
+}
+
+// None is left: the words of a run do not change. The compiler cannot tell, so that it keeps a function that may call itself apart from `main`, in
+// whose frame its room would else stand in every run.
+fn turns_left(words: usize) -> usize {
+    if os::arg_count() == words { 0 } else { 1 }
+}
+
+fn in_large_room(path: &[u8], terminal: bool, turns: usize)
+    requires { ⌜ length (now path) ≤ 4096 ⌝ }
+{
+    let mut store = large_room();
+    work(path, &mut store, terminal);
+    if turns > 0 {
+        in_large_room(path, terminal, turns - 1);
+    }
 }
 
 // How many lines were not obeyed.

@@ -1,11 +1,10 @@
 -- Laws of what a reader reads, and of the table of one row. Assumes nothing.
-use mathlib.Core.Path.{_≡_, refl, sym, ap, subst, _∙_}
-use mathlib.Core.Bool.{Bool, true, false}
+use mathlib.Core.Path.{_≡_, refl, ap, subst, _∙_}
+use mathlib.Core.Bool.{Bool}
 use mathlib.Core.List.{List, [], _∷_, _++_}
 use mathlib.Core.Logic.{_⊎_, inl, inr, ⊎-elim}
 use Prim.Native.Nat.{ℕ, _+_, _-_, _≤_, _<_, min}
 use native.Mathlib.Omega.{arith}
-use lib.Dec.{eqb}
 use lib.ListN.{length, drop, length-append}
 use Rattle.ground.specs.Says.{Says}
 use Rattle.ground.proofs.Tests.{says-same, none-some}
@@ -19,12 +18,12 @@ use Rattle.page.specs.Page as Page
 use Rattle.page.specs.declared.Place.{Place}
 use Rattle.page.specs.Places.{place}
 use Rattle.partition.specs.declared.Shape.{Shape}
-use Rattle.partition.specs.Partition.{S1024}
-use Rattle.partition.specs.Sizes.{S4096, S16384, either, shapeFor}
+use Rattle.partition.specs.Sizes.{shapeFor}
 use Rattle.partition.proofs.Sizes.{sized-for}
 use Rattle.store.specs.Pages.{size, read, asRow, rowsOn}
 use Rattle.page_check.specs.Shared.{Keeps}
 use Rattle.store.specs.Tables.{Out, PageSize, refused, refusedAt, row, rowOf, PageKeeps, inspectTable}
+use Rattle.store.proofs.Accepted.OwnSize.{is-size}
 use Rattle.store.proofs.Accepted.Reading.{row-slot, row-past, row-free}
 use Rattle.page_reader.specs.Read.{SoundBucket, Reads, whole, nothing, Readable, nthTable}
 
@@ -36,26 +35,10 @@ pub count-none : count [] ≡ 0
 unfolding le16
 count-none = refl
 
--- the three lengths are those of which the length is the size
-pub three-lengths : (n : ℕ) → PageSize n → n ≡ size (shapeFor n)
-unfolding shapeFor
-three-lengths n (inl e) = subst (λ m. m ≡ size (shapeFor m)) (sym e) refl
-three-lengths n (inr (inl e)) = subst (λ m. m ≡ size (shapeFor m)) (sym e) refl
-three-lengths n (inr (inr e)) = subst (λ m. m ≡ size (shapeFor m)) (sym e) refl
-
-of-three : (n : ℕ) (a b : Bool) → n ≡ size (either a S4096 (either b S16384 S1024)) → PageSize n
-of-three n true b e = inr (inl e)
-of-three n false true e = inr (inr e)
-of-three n false false e = inl e
-
-pub no-other : (n : ℕ) → n ≡ size (shapeFor n) → PageSize n
-unfolding shapeFor
-no-other n e = of-three n (eqb n 4096) (eqb n 16384) e
-
--- a page of such a length is a sound bucket where it keeps the rules up to its size's depth
+-- a page of one of the three lengths is a sound bucket where it keeps the rules up to its size's depth
 pub sound-by : (g : List ℕ) (z : Shape) (r : Bool) → z ≡ shapeFor (length g) → PageSize (length g) → Says r (Keeps (z .deepest) g) → Says r (SoundBucket g)
 sound-by g z r e p s =
-    says-same r (subst (λ S. Says r (Keeps (S .deepest) g)) e s) (λ k. record { long = three-lengths (length g) p; keeps = k }) (λ x. x .keeps)
+    says-same r (subst (λ S. Says r (Keeps (S .deepest) g)) e s) (λ k. record { long = is-size (length g) p; keeps = k }) (λ x. x .keeps)
 
 -- nothing is no page
 pub unsound : (q : List ℕ) → length q ≡ 0 → SoundBucket q → ⊥

@@ -1,18 +1,17 @@
--- The page size that a store says is of the table, told apart there by its depth, and no store of under 24 bytes has it. Assumes nothing.
+-- The page size that a store says is of the table, told apart there by its depth. Assumes nothing.
 use mathlib.Core.Path.{_≡_, refl, sym, subst}
 use mathlib.Core.Bool.{Bool, true, false}
 use mathlib.Core.List.{List}
-use Prim.Native.Nat.{ℕ, _+_, _<_}
+use Prim.Native.Nat.{ℕ, _+_}
 use native.Mathlib.Omega.{arith}
 use lib.Dec.{eqb}
-use lib.ListN.{length, length-replicate, replicate}
+use lib.ListN.{length-replicate, replicate}
 use Rattle.words.specs.Le.{le32}
 use Rattle.partition.specs.declared.Shape.{Shape}
 use Rattle.partition.specs.Partition.{S1024}
 use Rattle.partition.specs.Sizes.{size, Sized, S4096, S16384, either, shapeFor, shapeOf}
 use Rattle.partition.proofs.Sizes.{sized-for, sized-of}
 use Rattle.store.specs.Accepted.{GoodLength}
-use Rattle.store.proofs.Accepted.Unique.{within}
 use Rattle.store.proofs.Paging.PageTies.{zeros}
 use Rattle.store_check.specs.Begun.{Tables}
 
@@ -32,9 +31,6 @@ of-table false false = record { eight = λ e. refl; ten = λ e. absurd (omega ar
 pub by-depth : (s : List ℕ) (z : Shape) → z ≡ shapeOf s → ByDepth z
 unfolding shapeOf shapeFor
 by-depth s z e = subst ByDepth (sym e) (of-table (eqb (le32 s 20) 4096) (eqb (le32 s 20) 16384))
-
-pub too-short : (s : List ℕ) → length s < 24 → GoodLength (shapeOf s) s → ⊥
-too-short s l g = omega (arith, within (shapeOf s) s 0 (omega (arith, g .least)), sized-of s .least)
 
 pub sized-4096 : Sized S4096
 unfolding shapeFor

@@ -1,38 +1,36 @@
 -- `cases::headers` meets its contract. Assumes nothing.
-use Prim.Native.Nat.{_-_}
+use Prim.Native.Nat.{_+_, _-_, _≤_}
+use lib.ListN.{length}
 use borrow.Author.Needs.{needs}
 use Rattle.cases.proofs.history.headers.Statement.{statement}
 use Rattle.cases.proofs.history.headers.Tie as tie
 
 abbrev Inv-loop : tie.InvT-loop
-Inv-loop store n p₀ p = Unit {0}
+Inv-loop store size a₀ a = (1 ≤ size) × (size ≤ 16384) × (a ≤ length store + 32768)
 
 abbrev μ-loop : tie.MeasureT-loop
-μ-loop store n p₀ p = n - p
+μ-loop store size a₀ a = length store - a
 
-loop-holds : tie.Need-loop-holds Inv-loop μ-loop
-loop-holds c = search needs
+page-size-requires : tie.Need-page-size-requires Inv-loop μ-loop
+page-size-requires c κs = search needs
 
 mul-a : tie.Need-mul-a Inv-loop μ-loop
 mul-a c = search needs
 
-add-digits : tie.Need-add-digits Inv-loop μ-loop
-add-digits c = search needs
+loop-holds : tie.Need-loop-holds Inv-loop μ-loop
+loop-holds c = search needs
 
-sub-digits : tie.Need-sub-digits Inv-loop μ-loop
-sub-digits c = search needs
+add-part : tie.Need-add-part Inv-loop μ-loop
+add-part c = search needs
 
-part-digits-start : tie.Need-part-digits-start Inv-loop μ-loop
-part-digits-start c = search needs
-
-part-digits-end : tie.Need-part-digits-end Inv-loop μ-loop
-part-digits-end c = search needs
+part-requires : tie.Need-part-requires Inv-loop μ-loop
+part-requires c κs = search needs
 
 digits-requires : tie.Need-digits-requires Inv-loop μ-loop
 digits-requires c κs = search needs
 
-add-p : tie.Need-add-p Inv-loop μ-loop
-add-p c = search needs
+add-a : tie.Need-add-a Inv-loop μ-loop
+add-a c = search needs
 
 loop-less : tie.Need-loop-less Inv-loop μ-loop
 loop-less c = search needs
@@ -49,14 +47,13 @@ headers-spec =
     (tie.spec
     Inv-loop
     μ-loop
-    loop-holds
+    page-size-requires
     mul-a
-    add-digits
-    sub-digits
-    part-digits-start
-    part-digits-end
+    loop-holds
+    add-part
+    part-requires
     digits-requires
-    add-p
+    add-a
     loop-less
     loop-again
     returns)

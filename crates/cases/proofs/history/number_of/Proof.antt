@@ -1,29 +1,29 @@
 -- `cases::number_of` meets its contract. Assumes nothing.
-use Prim.Native.Nat.{_-_, _≤_}
+use Prim.Native.Nat.{_≤_}
 use borrow.Author.Needs.{needs}
 use Rattle.cases.proofs.history.number_of.Statement.{statement}
 use Rattle.cases.proofs.history.number_of.Tie as tie
 
 abbrev Inv-loop : tie.InvT-loop
-Inv-loop kind n left₀ i₀ left i = i ≤ 65536
+Inv-loop kind n i₀ left₀ i left = i ≤ 1048576
 
 abbrev μ-loop : tie.MeasureT-loop
-μ-loop kind n left₀ i₀ left i = 65536 - i
+μ-loop kind n i₀ left₀ i left = left
+
+next-of-requires : tie.Need-next-of-requires Inv-loop μ-loop
+next-of-requires c κs = search needs
 
 loop-holds : tie.Need-loop-holds Inv-loop μ-loop
 loop-holds c = search needs
 
-is-of-requires : tie.Need-is-of-requires Inv-loop μ-loop
-is-of-requires c κs = search needs
+add-next-of : tie.Need-add-next-of Inv-loop μ-loop
+add-next-of c = search needs
 
-returns : tie.Need-returns Inv-loop μ-loop
-returns c = search needs
+next-of-requires-2 : tie.Need-next-of-requires-2 Inv-loop μ-loop
+next-of-requires-2 c κs = search needs
 
 sub-left : tie.Need-sub-left Inv-loop μ-loop
 sub-left c = search needs
-
-add-i : tie.Need-add-i Inv-loop μ-loop
-add-i c = search needs
 
 loop-less : tie.Need-loop-less Inv-loop μ-loop
 loop-less c = search needs
@@ -31,8 +31,8 @@ loop-less c = search needs
 loop-again : tie.Need-loop-again Inv-loop μ-loop
 loop-again c = search needs
 
-returns-2 : tie.Need-returns-2 Inv-loop μ-loop
-returns-2 c = search needs
+returns : tie.Need-returns Inv-loop μ-loop
+returns c = search needs
 
 pub number-of-spec : {M : Type 1} → statement M
 number-of-spec =
@@ -40,11 +40,11 @@ number-of-spec =
     (tie.spec
     Inv-loop
     μ-loop
+    next-of-requires
     loop-holds
-    is-of-requires
-    returns
+    add-next-of
+    next-of-requires-2
     sub-left
-    add-i
     loop-less
     loop-again
-    returns-2)
+    returns)

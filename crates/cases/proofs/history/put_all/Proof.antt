@@ -7,16 +7,19 @@ use Rattle.cases.proofs.history.put_all.Statement.{statement}
 use Rattle.cases.proofs.history.put_all.Tie as tie
 
 abbrev Inv-loop : tie.InvT-loop
-Inv-loop store₀ kind many n₀ store n = (n ≤ many) × (length store ≡ length store₀)
+Inv-loop store₀ kind many n₀ from₀ store n from = (n ≤ many) × (length store ≡ length store₀)
 
 abbrev μ-loop : tie.MeasureT-loop
-μ-loop store₀ kind many n₀ store n = many - n
+μ-loop store₀ kind many n₀ from₀ store n from = many - n
 
 loop-holds : tie.Need-loop-holds Inv-loop μ-loop
 loop-holds c = search needs
 
-put-requires : tie.Need-put-requires Inv-loop μ-loop
-put-requires c κs = search needs
+next-of-requires : tie.Need-next-of-requires Inv-loop μ-loop
+next-of-requires c κs = search needs
+
+put-code-requires : tie.Need-put-code-requires Inv-loop μ-loop
+put-code-requires c κs = search needs
 
 went-well-requires : tie.Need-went-well-requires Inv-loop μ-loop
 went-well-requires c κs = search needs
@@ -32,6 +35,9 @@ returns c = search needs
 
 add-n : tie.Need-add-n Inv-loop μ-loop
 add-n c = search needs
+
+add-from : tie.Need-add-from Inv-loop μ-loop
+add-from c = search needs
 
 loop-less : tie.Need-loop-less Inv-loop μ-loop
 loop-less c = search needs
@@ -55,12 +61,14 @@ put-all-spec =
     Inv-loop
     μ-loop
     loop-holds
-    put-requires
+    next-of-requires
+    put-code-requires
     went-well-requires
     cast-result
     same-length
     returns
     add-n
+    add-from
     loop-less
     loop-again
     cast-result-2

@@ -7,10 +7,10 @@ use Rattle.cases.proofs.history.put_ladder.Statement.{statement}
 use Rattle.cases.proofs.history.put_ladder.Tie as tie
 
 abbrev Inv-loop : tie.InvT-loop
-Inv-loop store₀ bits₀ store bits = (bits ≤ 6) × (length store ≡ length store₀)
+Inv-loop store₀ deepest bits₀ store bits = (bits ≤ deepest) × (length store ≡ length store₀)
 
 abbrev μ-loop : tie.MeasureT-loop
-μ-loop store₀ bits₀ store bits = 6 - bits
+μ-loop store₀ deepest bits₀ store bits = deepest - bits
 
 loop-holds : tie.Need-loop-holds Inv-loop μ-loop
 loop-holds c = search needs

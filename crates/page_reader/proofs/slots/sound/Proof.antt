@@ -9,7 +9,8 @@ use borrow.Author.Needs.{needs}
 use denote.Ref.{now}
 use Rattle.partition.specs.Sizes.{Sized}
 use Rattle.partition.proofs.Sizes.{sized-for, twelve}
-use Rattle.page_reader.proofs.Rows.{no-other, sound-by}
+use Rattle.store.proofs.Accepted.OwnSize.{size-is}
+use Rattle.page_reader.proofs.Rows.{sound-by}
 use Rattle.page_reader.proofs.slots.sound.Statement.{statement}
 use Rattle.page_reader.proofs.slots.sound.Tie as tie
 
@@ -51,7 +52,7 @@ returns-3 c =
     sound-by (bytes z) (z .shape-for .result) (c .keeps-16384 .result) (z .shape-for .ensures) (inr (inr (c .before .if3 .taken))) (c .keeps-16384 .ensures)
 
 returns-4 : tie.Need-returns-4
-returns-4 c = λ s. ⊎-elim (c .before .before .if1 .left) (⊎-elim (c .before .if2 .left) (c .if3 .left)) (no-other _ (s .long))
+returns-4 c = λ s. ⊎-elim (c .before .before .if1 .left) (⊎-elim (c .before .if2 .left) (c .if3 .left)) (size-is _ (s .long))
 
 pub sound-spec : {M : Type 1} → statement M
 sound-spec =

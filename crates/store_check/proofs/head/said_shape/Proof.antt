@@ -5,12 +5,12 @@ use denote.Ref.{now}
 use mathlib.Core.Path.{sym, subst}
 use Rattle.ground.proofs.Tests.{says-true, says-false}
 use Rattle.store.specs.Accepted.{GoodLength}
-use Rattle.store_check.proofs.Said.{too-short}
+use Rattle.store.proofs.Accepted.OwnSize.{short}
 use Rattle.store_check.proofs.head.said_shape.Statement.{statement}
 use Rattle.store_check.proofs.head.said_shape.Tie as tie
 
 returns : tie.Need-returns
-returns c = too-short (now (c .before .before .args .s)) (c .if1 .taken)
+returns c = short (now (c .before .before .args .s)) (c .if1 .taken)
 
 shape-of-requires : tie.Need-shape-of-requires
 shape-of-requires c κs = search needs
