@@ -26,6 +26,7 @@ use Rattle.page.specs.declared.Place.{Place}
 use Rattle.commands.specs.Numbers.{Numeral, Shortest, signed}
 use Rattle.commands.specs.Codes.{upper, escape, glyphs, shown}
 use Rattle.commands.specs.Lines.{After, Placed}
+use Rattle.commands.specs.Sums.{rowsWord, Amounted, SoManyRows, SoManyWith}
 use Rattle.commands.specs.Answers.{Adds, Lines, Paged, Rowed, Shows, refusedWord, pageWord}
 
 front : (p q : List ℕ) (n : ℕ) → n ≤ length p → n ≤ length q → ((i : ℕ) → i < n → byte q i ≡ byte p i) → take n q ≡ take n p
@@ -176,6 +177,24 @@ shows k a b e h = shows-out k (meaning a) (meaning b) (ap meaning e) h
 -- a refusal shows no code
 pub shows-refusal : (k : List ℕ) (f : Refusal) {o q : List ℕ} {i r : ℕ} → Adds (Shows [] (refusal f)) o i q r → Adds (Shows k (refusal f)) o i q r
 shows-refusal k f {o} {q} {i} {r} h = by-refusal (λ x. Adds (Shows [] x) o i q r → Adds (Shows k x) o i q r) (λ n a. a) (λ p a. a) f h
+
+-- a word, a space and what follows them
+pub after-adds : (w : List ℕ) (P : List ℕ → Type 0) {o a b : List ℕ} {i j k : ℕ} → Adds (λ t. t ≡ w ++ (32 ∷ [])) o i a j → Adds P a j b k → Adds (λ t. After t w P) o i b k
+after-adds w P x y = then (λ t. After t w P) x y (λ t v e h. record { rest = v; line = ap (λ (s : List ℕ). s ++ v) e ∙ append-assoc w (32 ∷ []) v; says = h })
+
+pub amount-adds : (p : Place) (z : ℤ) {o a b c : List ℕ} {i j k l : ℕ} → Adds (Placed Shortest p) o i a j → Adds (λ t. t ≡ 32 ∷ []) a j b k → Adds (Shortest z) b k c l → Adds (Amounted p z) o i c l
+amount-adds p z {o} {a} {b} {c} {i} {j} {k} {l} x s y =
+    let rest : Adds (λ t. (w : List ℕ) × ((t ≡ 32 ∷ w) × Shortest z w)) a j c l = then _ s y (λ t v f g. (v, (rw f, g))) in
+    then (Amounted p z) x rest (λ t v e g. record { place = t; is-place = e; amount = record { rest = g .0; line = rw (g .1 .0); says = g .1 .1 } })
+
+pub rows-adds : (n : ℕ) {o a b : List ℕ} {i j k : ℕ} → Adds (Numeral n) o i a j → Adds (λ t. t ≡ 32 ∷ rowsWord) a j b k → Adds (SoManyRows n) o i b k
+rows-adds n x s = then (SoManyRows n) x s (λ t v e f. record { number = t; is-number = e; text = rw f })
+
+pub rows-sum-adds : (n : ℕ) (z : ℤ) {o a b c : List ℕ} {i j k l : ℕ} → Adds (Numeral n) o i a j → Adds (λ t. t ≡ 32 ∷ rowsWord ++ (32 ∷ [])) a j b k → Adds (Shortest z) b k c l → Adds (SoManyWith n z) o i c l
+rows-sum-adds n z {o} {a} {b} {c} {i} {j} {k} {l} x s y =
+    let rest : Adds (λ t. (w : List ℕ) × ((t ≡ 32 ∷ rowsWord ++ (32 ∷ w)) × Shortest z w)) a j c l = then _ s y (λ t v f g. (v, (rw f, g))) in
+    then (SoManyWith n z) x rest
+    (λ t v e g. record { number = t; is-number = e; sum = record { rest = rowsWord ++ (32 ∷ g .0); line = rw (g .1 .0); says = record { rest = g .0; line = refl; says = g .1 .1 } } })
 
 -- the end of a line
 pub ended : (P : List ℕ → Type 0) {o a b : List ℕ} {j k : ℕ} → Adds P o 0 a j → Adds (λ t. t ≡ 10 ∷ []) a j b k → k ≤ length b → Lines P b k

@@ -7,3 +7,6 @@ pub mod Shown
 pub mod Unread
 pub mod Unasked
 pub mod Settled
+pub mod Cutting
+pub mod OneRow
+pub mod Cents

@@ -15,7 +15,7 @@ use store::Answer;
 use store::Refusal;
 
 // A text goes to out at an index.
-fn add(out: &mut [u8], at: usize, text: &[u8]) -> usize
+pub fn add(out: &mut [u8], at: usize, text: &[u8]) -> usize
     requires { ⌜ at + length (now text) ≤ length (now out) ⌝ }
     ensures { λ r. ⌜ Adds (λ t. t ≡ now (text .entry)) (now (out .entry)) at (now (out .exit)) r ⌝ }
     ensures { λ r. ⌜ r ≡ at + length (now (text .entry)) ⌝ }
@@ -24,7 +24,7 @@ fn add(out: &mut [u8], at: usize, text: &[u8]) -> usize
     at + text.len()
 }
 
-fn add_number(out: &mut [u8], at: usize, n: u64) -> usize
+pub fn add_number(out: &mut [u8], at: usize, n: u64) -> usize
     requires { ⌜ at + 20 ≤ length (now out) ⌝ }
     ensures { λ r. ⌜ Adds (Numeral n) (now (out .entry)) at (now (out .exit)) r ⌝ }
     ensures { λ r. ⌜ r ≤ at + 20 ⌝ }
@@ -69,7 +69,7 @@ fn add_signed(out: &mut [u8], at: usize, z: i64) -> usize
     add_number(out, at, n)
 }
 
-fn add_place(out: &mut [u8], at: usize, p: Place) -> usize
+pub fn add_place(out: &mut [u8], at: usize, p: Place) -> usize
     requires { ⌜ at + 65 ≤ length (now out) ⌝ }
     ensures { λ r. ⌜ Adds (Placed Shortest p) (now (out .entry)) at (now (out .exit)) r ⌝ }
     ensures { λ r. ⌜ r ≤ at + 65 ⌝ }

@@ -2,11 +2,13 @@
 ghost use Prim.Native.Nat.{_≤_};
 ghost use lib.ListN.{length};
 
+mod bid;
 mod files;
 mod input;
 mod known;
 mod obey;
 mod say;
+mod sheets;
 
 use libc::STDERR_FILENO;
 use store::Answer;
@@ -36,10 +38,26 @@ pub struct Session {
     pub stopped: bool,
 }
 
+// A sheet as far as it is read.
+pub struct Sheet {
+    // its rows; one more than the last rank; the line of the first row that breaks a rule, and of the first line that is of another form (0: none)
+    pub rows: usize,
+    pub low: u64,
+    pub bad: usize,
+    pub wrong: usize,
+    // the line that is being read: how many came before it, how much of it is there, whether it is too long
+    pub number: usize,
+    pub fill: usize,
+    pub over: bool,
+    // the file is at its end, or cannot be read
+    pub ended: bool,
+    pub unread: bool,
+}
+
 fn main() {
     let mut path = io::buffer();
     let n = os::arg(1, &mut path);
-    if os::arg_count() != 2 {
+    if os::arg_count() > 3 {
         usage();
         return;
     }

@@ -5,7 +5,7 @@ use libc::STDOUT_FILENO;
 use store::Answer;
 
 // Whether the line could be written; if not, that is said.
-fn line(text: &[u8]) -> bool {
+pub fn line(text: &[u8]) -> bool {
     let written = io::write_all(STDOUT_FILENO, text);
     if !written {
         os::fail(b"standard output");

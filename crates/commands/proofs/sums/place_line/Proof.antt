@@ -1,0 +1,43 @@
+-- `commands::sums::place_line` meets its contract. Assumes nothing.
+use Rattle.commands.proofs.Adding.{after-adds, ended}
+use native.Mathlib.Omega.{arith}
+use borrow.Author.Needs.{needs}
+use Rattle.commands.proofs.sums.place_line.Statement.{statement}
+use Rattle.commands.proofs.sums.place_line.Tie as tie
+use Rattle.commands.proofs.answers.add.Reads as add-reads
+use Rattle.commands.proofs.answers.add_place.Reads as add-place-reads
+use Rattle.commands.proofs.sums.begin.Reads as begin-reads
+
+begin-requires : tie.Need-begin-requires
+begin-requires c κs = search needs
+
+add-place-requires : tie.Need-add-place-requires
+add-place-requires c κs = search needs
+
+slice-aggregate-add : tie.Need-slice-aggregate-add
+slice-aggregate-add c = search needs
+
+add-requires : tie.Need-add-requires
+add-requires c κs = search needs
+
+same-length : tie.Need-same-length
+same-length c = search needs
+
+returns : tie.Need-returns
+returns c =
+    let e = c .before .before in
+    let p = e .before .before .before .before .before in
+    let b = p .before .before .before .before in
+    ended _ (after-adds _ _ (b .begin .ensures .0) (p .add-place .ensures .0)) (e .add .ensures .0)
+    (omega (arith, e .add .ensures .1, e .add .ensures .0 .long, p .add-place .ensures .1, p .add-place .ensures .0 .long, b .begin .ensures .1, b .begin .ensures .0 .long, b .before .before .before .before .pre))
+
+pub place-line-spec : {M : Type 1} → statement M
+place-line-spec =
+    tie.close
+    (tie.spec
+    begin-requires
+    add-place-requires
+    slice-aggregate-add
+    add-requires
+    same-length
+    returns)
