@@ -195,6 +195,9 @@ fn is_word(word: &[u8]) -> bool {
     if takes_code(word) {
         return true;
     }
+    if same(word, b"report") {
+        return true;
+    }
     if takes_number(word) {
         return true;
     }

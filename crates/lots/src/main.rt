@@ -2,13 +2,16 @@
 ghost use Prim.Native.Nat.{_≤_};
 ghost use lib.ListN.{length};
 
+mod bid;
 mod faults;
 mod files;
 mod input;
 mod known;
 mod obey;
 mod say;
+mod sheets;
 
+use check::same;
 use libc::STDERR_FILENO;
 use store::Answer;
 
@@ -40,6 +43,22 @@ pub struct Session {
     pub stopped: bool,
 }
 
+// A sheet as far as it is read.
+pub struct Sheet {
+    // its rows; one more than the last rank; the line of the first row that breaks a rule, and of the first line that is of another form (0: none)
+    pub rows: usize,
+    pub low: u64,
+    pub bad: usize,
+    pub wrong: usize,
+    // the line that is being read: how many came before it, how much of it is there, whether it is too long
+    pub number: usize,
+    pub fill: usize,
+    pub over: bool,
+    // the file is at its end, or cannot be read
+    pub ended: bool,
+    pub unread: bool,
+}
+
 fn main() {
     let mut path = io::buffer();
     let n = os::arg(1, &mut path);
@@ -48,7 +67,7 @@ fn main() {
         usage();
         return;
     }
-    if words > 3 {
+    if words > 4 {
         usage();
         return;
     }
@@ -58,11 +77,21 @@ fn main() {
     }
     // 258 pages and one byte more, so that a longer file shows refusal 1
     let mut store = [0u8; 264193];
-    work(&path[0..n], &mut store, words == 3);
+    work(&path[0..n], &mut store, is_typed());
 }
 
 fn usage() {
-    io::write_all(STDERR_FILENO, b"usage: lots FILE [terminal]\n");
+    io::write_all(
+        STDERR_FILENO,
+        b"usage: lots FILE [terminal | lines [FOLDER]]\n",
+    );
+}
+
+// Whether the second word says that lines are typed at a terminal.
+fn is_typed() -> bool {
+    let mut word = [0u8; 16];
+    let n = os::arg(2, &mut word);
+    same(&word[0..n], b"terminal")
 }
 
 // How many lines were not obeyed.
