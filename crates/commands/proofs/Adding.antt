@@ -49,8 +49,8 @@ pub as-text : {v w p q : List ℕ} {at r : ℕ} → v ≡ w → Adds v p at q r 
 as-text {v} {w} {p} {q} {at} {r} e a = subst (λ (t : List ℕ). Adds t p at q r) e a
 
 -- a word, a space and what follows them
-pub after-word : (w : List ℕ) {v p q s : List ℕ} {at r u : ℕ} → Adds (w ++ (32 ∷ [])) p at q r → Adds v q r s u → Adds (w ++ (32 ∷ v)) p at s u
-after-word w {v} a b = as-text (append-assoc w (32 ∷ []) v) (then a b)
+pub word-then : (w : List ℕ) {v p q s : List ℕ} {at r u : ℕ} → Adds (w ++ (32 ∷ [])) p at q r → Adds v q r s u → Adds (w ++ (32 ∷ v)) p at s u
+word-then w {v} a b = as-text (append-assoc w (32 ∷ []) v) (then a b)
 
 -- ---- codes
 

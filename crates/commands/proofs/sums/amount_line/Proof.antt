@@ -3,7 +3,7 @@ use mathlib.Core.Path.{ap}
 use denote.Ref.{now}
 use mir.Facts.{toZ-ofZ}
 use Rattle.commands.specs.Numbers.{integer}
-use Rattle.commands.proofs.Adding.{after-word, as-text, ended, then}
+use Rattle.commands.proofs.Adding.{word-then, as-text, ended, then}
 use native.Mathlib.Omega.{arith}
 use borrow.Author.Needs.{needs}
 use Rattle.commands.proofs.sums.amount_line.Statement.{statement}
@@ -44,7 +44,7 @@ returns c =
     let s = d .before .before .before .before in
     let p = s .before .before .before .before .before in
     let b = p .before .before .before .before in
-    ended (after-word (now (b .before .before .before .before .args .word)) (b .begin .ensures .0) (then (p .add-place .ensures .0) (then (s .add .ensures) (as-text (ap integer (toZ-ofZ (b .before .before .before .before .fits .z))) (d .add-cents .ensures .0))))) (e .add2 .ensures)
+    ended (word-then (now (b .before .before .before .before .args .word)) (b .begin .ensures .0) (then (p .add-place .ensures .0) (then (s .add .ensures) (as-text (ap integer (toZ-ofZ (b .before .before .before .before .fits .z))) (d .add-cents .ensures .0))))) (e .add2 .ensures)
     (omega (arith, e .add2 .ensures .next, e .add2 .ensures .long, d .add-cents .ensures .1, d .add-cents .ensures .0 .long, s .add .ensures .next, s .add .ensures .long, p .add-place .ensures .1, p .add-place .ensures .0 .long, b .begin .ensures .1, b .begin .ensures .0 .long, b .before .before .before .before .pre))
 
 pub amount-line-spec : {M : Type 1} → statement M

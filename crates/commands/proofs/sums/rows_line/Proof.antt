@@ -1,6 +1,6 @@
 -- `commands::sums::rows_line` meets its contract. Assumes nothing.
 use denote.Ref.{now}
-use Rattle.commands.proofs.Adding.{after-word, ended, then}
+use Rattle.commands.proofs.Adding.{word-then, ended, then}
 use native.Mathlib.Omega.{arith}
 use borrow.Author.Needs.{needs}
 use Rattle.commands.proofs.sums.rows_line.Statement.{statement}
@@ -36,7 +36,7 @@ returns c =
     let s = e .before .before .before .before .before in
     let p = s .before .before .before .before .before in
     let b = p .before .before .before .before in
-    ended (after-word (now (b .before .before .before .before .args .word)) (b .begin .ensures .0) (then (p .add-number .ensures .0) (s .add .ensures))) (e .add2 .ensures)
+    ended (word-then (now (b .before .before .before .before .args .word)) (b .begin .ensures .0) (then (p .add-number .ensures .0) (s .add .ensures))) (e .add2 .ensures)
     (omega (arith, e .add2 .ensures .next, e .add2 .ensures .long, s .add .ensures .next, s .add .ensures .long, p .add-number .ensures .1, p .add-number .ensures .0 .long, b .begin .ensures .1, b .begin .ensures .0 .long, b .before .before .before .before .pre))
 
 pub rows-line-spec : {M : Type 1} → statement M

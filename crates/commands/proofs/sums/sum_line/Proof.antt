@@ -3,7 +3,7 @@ use mathlib.Core.Path.{ap}
 use denote.Ref.{now}
 use mir.Facts.{toZ-ofZ}
 use Rattle.commands.specs.Numbers.{integer}
-use Rattle.commands.proofs.Adding.{after-word, as-text, ended}
+use Rattle.commands.proofs.Adding.{word-then, as-text, ended}
 use native.Mathlib.Omega.{arith}
 use borrow.Author.Needs.{needs}
 use Rattle.commands.proofs.sums.sum_line.Statement.{statement}
@@ -32,7 +32,7 @@ returns c =
     let e = c .before .before in
     let p = e .before .before .before .before .before in
     let b = p .before .before .before .before in
-    ended (after-word (now (b .before .before .before .before .args .word)) (b .begin .ensures .0) (as-text (ap integer (toZ-ofZ (b .before .before .before .before .fits .z))) (p .add-cents .ensures .0))) (e .add .ensures)
+    ended (word-then (now (b .before .before .before .before .args .word)) (b .begin .ensures .0) (as-text (ap integer (toZ-ofZ (b .before .before .before .before .fits .z))) (p .add-cents .ensures .0))) (e .add .ensures)
     (omega (arith, e .add .ensures .next, e .add .ensures .long, p .add-cents .ensures .1, p .add-cents .ensures .0 .long, b .begin .ensures .1, b .begin .ensures .0 .long, b .before .before .before .before .pre))
 
 pub sum-line-spec : {M : Type 1} → statement M
