@@ -4,6 +4,7 @@
  *   bench CALL FILE [checks]    makes calls that are counted, and says how many: check, plain2, plain3 once; lookup, put, remove for several codes, and
  *                               with `checks` a check of the same store before each, which is then what the marks enclose
  *   bench put_all FILE [checks] the same for one call of many puts, from FILE.before to FILE; says how many puts
+ *   bench report FILE [checks]  the same for one report over a sheet of SHEET rows, the codes' places among them
  *   bench damage FILE TIMES     the three checks on damaged copies, which must all say the same; says how many were accepted
  *   bench time FILE TURNS       the least nanoseconds of a check, a plain check at -O2, one at -O3, of so many each
  *   bench bytes FILE            how many codes there are, and their bytes together
@@ -17,7 +18,7 @@
 #include <time.h>
 #include <unistd.h>
 
-enum { MOST = 4098 << 14, CODES = 200000, LOOKUPS = 100 };
+enum { MOST = 4098 << 14, CODES = 200000, LOOKUPS = 100, SHEET = 200000 };
 
 /* benchmark/plain.c, built for each page size at -O2 and at -O3 */
 uint64_t plain2_1024(const uint8_t *store, size_t store_len), plain2_4096(const uint8_t *store, size_t store_len), plain2_16384(const uint8_t *store, size_t store_len);
@@ -306,6 +307,22 @@ static size_t national(int checks) {
     return put_at_once(NULL, checks);
 }
 
+/* A sheet whose row i has the place of code i: more rows than any store here has codes. */
+static size_t report_once(int checks) {
+    static lots_sheet_row sheet[SHEET];
+    int64_t total = 0, hidden = 0;
+    for (size_t i = 0; i < SHEET; i++) {
+        sheet[i] = (lots_sheet_row){i, i & 0x7FFF, i & 7, (int64_t)i - 5000};
+        *(i < many ? &total : &hidden) += sheet[i].cents;
+    }
+    if (checks) return check_once(lots_check);
+    mark(0);
+    lots_report_answer r = lots_report(store, size, sheet, SHEET);
+    mark(1);
+    expect(r.answer == 0 && r.total == total && r.hidden == SHEET - many && r.hidden_cents == hidden && r.doubled == 0, "a report");
+    return 1;
+}
+
 /* ---- damage */
 
 static uint8_t *some_page(void) { return store + page * (2 + below(size / page - 2)); }
@@ -414,6 +431,7 @@ int main(int argc, char **argv) {
     else if (strcmp(call, "lookup") == 0) calls = look_up_some(checks);
     else if (strcmp(call, "put") == 0) calls = put_all(lots_count(store, size), checks);
     else if (strcmp(call, "put_all") == 0) calls = put_at_once(path, checks);
+    else if (strcmp(call, "report") == 0) calls = report_once(checks);
     else if (strcmp(call, "remove") == 0) calls = remove_all(rows_before(path), checks);
     else return 2;
     printf("%zu\n", calls);

@@ -48,6 +48,10 @@ then {v} {w} {p} {q} {s} {at} {r} {u} a b =
 pub as-text : {v w p q : List ℕ} {at r : ℕ} → v ≡ w → Adds v p at q r → Adds w p at q r
 as-text {v} {w} {p} {q} {at} {r} e a = subst (λ (t : List ℕ). Adds t p at q r) e a
 
+-- a word, a space and what follows them
+pub word-then : (w : List ℕ) {v p q s : List ℕ} {at r u : ℕ} → Adds (w ++ (32 ∷ [])) p at q r → Adds v q r s u → Adds (w ++ (32 ∷ v)) p at s u
+word-then w {v} a b = as-text (append-assoc w (32 ∷ []) v) (then a b)
+
 -- ---- codes
 
 pub glyphs-low : (b : ℕ) → b < 33 → glyphs b ≡ escape b

@@ -6,3 +6,6 @@ pub mod Adding
 pub mod Shown
 pub mod Unread
 pub mod Unasked
+pub mod Cutting
+pub mod OneRow
+pub mod Cents

@@ -93,11 +93,11 @@ wide-fits w z f t = rw (toZ-ofZ f) (sfits-widen t f)
 pub wide-is : (w : Width) (z : ℤ) → SFits w z → T (leb (hbits w) 63) → toZ w64 (ofZ w64 (toZ w (ofZ w z))) ≡ z
 wide-is w z f t = toZ-ofZ (wide-fits w z f t) ∙ toZ-ofZ f
 
-below-zero : (z : ℤ) → ltZ z (pos 0) ≡ true → z ≡ negsuc (mag z)
+pub below-zero : (z : ℤ) → ltZ z (pos 0) ≡ true → z ≡ negsuc (mag z)
 below-zero (pos n) e = absurd (let l : n < 0 = ltb-true n 0 e in omega arith)
 below-zero (negsuc n) e = refl
 
-from-zero : (z : ℤ) → ltZ z (pos 0) ≡ false → z ≡ pos (mag z)
+pub from-zero : (z : ℤ) → ltZ z (pos 0) ≡ false → z ≡ pos (mag z)
 from-zero (pos n) e = refl
 from-zero (negsuc n) e = untrue (sym e)
 

@@ -75,7 +75,7 @@ spells-spaceless (escaped x y s) (suc (suc (suc k))) h e = spells-spaceless s k 
 
 -- ---- numbers
 
-marked-long : (m : Bool) (d : List ℕ) → length d ≤ length (marked m d)
+pub marked-long : (m : Bool) (d : List ℕ) → length d ≤ length (marked m d)
 marked-long false d = omega arith
 marked-long true d = omega arith
 

@@ -38,7 +38,7 @@ reason n = getD (
     text "no free page for its buckets" ∷
     text "the output is under 64 bytes" ∷
     text "not so many rows" ∷
-    text "the sheet breaks its rules" ∷
+    text "a rule of the sheet fails there" ∷
     text "a place is not in the sheet" ∷
     text "the runs differ in length" ∷
     text "the code is there" ∷

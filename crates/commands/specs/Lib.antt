@@ -3,3 +3,5 @@ pub mod Numbers
 pub mod Codes
 pub mod Lines
 pub mod Answers
+pub mod SheetLines
+pub mod Sums

@@ -13,7 +13,7 @@ use Rattle.commands.specs.Codes.{Coded}
 use Rattle.commands.specs.declared.Spot.{Spot}
 use Rattle.commands.specs.declared.Spot.the-variants.{At, Nowhere}
 use Rattle.commands.specs.declared.Command.{Command}
-use Rattle.commands.specs.declared.Command.the-variants.{Nothing, Unknown, Format, Put, Lookup, Remove, Count, Row, Listing, Check, Inspect}
+use Rattle.commands.specs.declared.Command.the-variants.{Nothing, Unknown, Format, Put, Lookup, Remove, Count, Row, Listing, Check, Inspect, Report}
 
 -- r is where w's first space stands, or w's length
 pub record FirstSpace (w : List ℕ) (r : ℕ) : Type 0 where
@@ -116,6 +116,10 @@ checkWord = 99 ∷ 104 ∷ 101 ∷ 99 ∷ 107 ∷ []
 abbrev pub inspectWord : List ℕ
 inspectWord = 105 ∷ 110 ∷ 115 ∷ 112 ∷ 101 ∷ 99 ∷ 116 ∷ []
 
+-- "report"
+abbrev pub reportWord : List ℕ
+reportWord = 114 ∷ 101 ∷ 112 ∷ 111 ∷ 114 ∷ 116 ∷ []
+
 -- the line l asks the command; k begins with its code
 abbrev pub Asks : List ℕ → List ℕ → Command → Type 0
 Asks l k Nothing = (length l ≡ 0) ⊎ (byte l 0 ≡ 35)
@@ -128,6 +132,7 @@ Asks l k (Row n) = After l rowWord (Decimal n)
 Asks l k Listing = l ≡ listWord
 Asks l k Check = l ≡ checkWord
 Asks l k (Inspect n) = After l inspectWord (Decimal n)
+Asks l k Report = After l reportWord (λ w. Unit {0})
 Asks l k Unknown = ⊥
 
 -- no number is too large for its field
@@ -142,6 +147,7 @@ WithinLimits (Row n) = n < 2 ^ 64
 WithinLimits Listing = Unit {0}
 WithinLimits Check = Unit {0}
 WithinLimits (Inspect n) = n < 2 ^ 64
+WithinLimits Report = Unit {0}
 WithinLimits Unknown = Unit {0}
 
 -- the line asks nothing whose numbers fit, with a code no longer than k
@@ -160,6 +166,7 @@ Means l k (Row n) = Asks l k (Row n)
 Means l k Listing = Asks l k Listing
 Means l k Check = Asks l k Check
 Means l k (Inspect n) = Asks l k (Inspect n)
+Means l k Report = Asks l k Report
 Means l k Unknown = AsksNothing l k
 
 -- a line that is neither empty nor passed over
@@ -167,8 +174,9 @@ pub record Spoken (l : List ℕ) : Type 0 where
   pub some : length l ≡ 0 → ⊥
   pub said : byte l 0 ≡ 35 → ⊥
 
--- the word of no command that takes a code
+-- the word of no command that takes a code or a name
 pub record Uncoded (w : List ℕ) : Type 0 where
   pub put : (m : ℕ) → PutBy w m → ⊥
   pub lookup : w ≡ lookupWord → ⊥
   pub remove : w ≡ removeWord → ⊥
+  pub report : w ≡ reportWord → ⊥

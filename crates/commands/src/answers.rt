@@ -18,7 +18,7 @@ use store::Answer;
 use store::Refusal;
 
 // A text goes to out at an index.
-fn add(out: &mut [u8], at: usize, text: &[u8]) -> usize
+pub fn add(out: &mut [u8], at: usize, text: &[u8]) -> usize
     requires { ⌜ at + length (now text) ≤ length (now out) ⌝ }
     ensures { λ r. ⌜ Adds (now (text .entry)) (now (out .entry)) at (now (out .exit)) r ⌝ }
 {
@@ -62,7 +62,7 @@ fn spell(out: &mut [u8], at: usize, k: usize, n: u64)
     }
 }
 
-fn add_number(out: &mut [u8], at: usize, n: u64) -> usize
+pub fn add_number(out: &mut [u8], at: usize, n: u64) -> usize
     requires { ⌜ at + 20 ≤ length (now out) ⌝ }
     ensures { λ r. ⌜ Adds (decimal n) (now (out .entry)) at (now (out .exit)) r ⌝ }
     ensures { λ r. ⌜ r ≤ at + 20 ⌝ }
@@ -107,7 +107,7 @@ fn add_signed(out: &mut [u8], at: usize, z: i64) -> usize
     add_number(out, at, n)
 }
 
-fn add_place(out: &mut [u8], at: usize, p: Place) -> usize
+pub fn add_place(out: &mut [u8], at: usize, p: Place) -> usize
     requires { ⌜ at + 65 ≤ length (now out) ⌝ }
     ensures { λ r. ⌜ Adds (placed p) (now (out .entry)) at (now (out .exit)) r ⌝ }
     ensures { λ r. ⌜ r ≤ at + 65 ⌝ }
@@ -166,7 +166,7 @@ fn add_code(out: &mut [u8], at: usize, code: &[u8]) -> usize
 }
 
 // The number of a line, and why it is not obeyed.
-fn add_because(out: &mut [u8], at: usize, number: usize, text: &[u8]) -> usize
+pub fn add_because(out: &mut [u8], at: usize, number: usize, text: &[u8]) -> usize
     requires { ⌜ at + 28 + length (now text) ≤ length (now out) ⌝ }
     ensures { λ r. ⌜ Adds (because number (now (text .entry))) (now (out .entry)) at (now (out .exit)) r ⌝ }
     ensures { λ r. ⌜ r ≤ at + 28 + length (now (text .entry)) ⌝ }

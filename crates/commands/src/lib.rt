@@ -3,12 +3,23 @@ mod answers;
 mod codes;
 mod lines;
 mod numbers;
+mod sheet;
+mod sums;
 
 pub use answers::answer_line;
 pub use answers::fault_line;
 pub use answers::number_line;
 pub use lines::parse;
 use page::Place;
+pub use sheet::sheet_line;
+pub use sums::amount_line;
+pub use sums::bad_row_line;
+pub use sums::no_row_line;
+pub use sums::not_there_line;
+pub use sums::rows_line;
+pub use sums::rows_sum_line;
+pub use sums::sum_line;
+pub use sums::unread_line;
 
 // What a line asks. The code of a put, a lookup or a remove stands in the buffer that was lent; here is its length.
 pub enum Command {
@@ -25,6 +36,15 @@ pub enum Command {
     Listing,
     Check,
     Inspect(usize),
+    // of a sheet, whose name is the rest of the line
+    Report,
+}
+
+// What a line of a sheet is: nothing, a row's place and cents, or of another form.
+pub enum SheetLine {
+    Passed,
+    Amount(Place, i64),
+    Other,
 }
 
 // Why a line is not obeyed, where no call was asked: its word, its code's text, a number, its words, its length; Filled: the file is not empty; Room: the run has no room for so large a store.

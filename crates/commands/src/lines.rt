@@ -29,14 +29,14 @@ fn first_space(w: &[u8]) -> usize
     i
 }
 
-fn narrow32(z: i64) -> i32
+pub fn narrow32(z: i64) -> i32
     requires { ⌜ mag z ≤ 2147483647 ⌝ }
     ensures { λ r. ⌜ r ≡ z ⌝ }
 {
     z as i32
 }
 
-fn narrow16(z: i64) -> i16
+pub fn narrow16(z: i64) -> i16
     requires { ⌜ mag z ≤ 32767 ⌝ }
     ensures { λ r. ⌜ r ≡ z ⌝ }
 {
@@ -194,6 +194,9 @@ fn phrase(word: &[u8], rest: &[u8], code: &mut [u8]) -> Command
             return Command::Unknown;
         };
         return Command::Remove(n);
+    }
+    if same(word, b"report") {
+        return Command::Report;
     }
     numbered(word, rest)
 }

@@ -10,7 +10,7 @@ use native.Mathlib.Omega.{arith}
 use lib.ListN.{length, take, drop, getElem?, take-append-drop}
 use lib.Seq.{take-at, length-take-le}
 use Rattle.commands.specs.declared.Command.{Command}
-use Rattle.commands.specs.declared.Command.the-variants.{Nothing, Unknown, Format, Put, Lookup, Remove, Count, Row, Listing, Check, Inspect}
+use Rattle.commands.specs.declared.Command.the-variants.{Nothing, Unknown, Format, Put, Lookup, Remove, Count, Row, Listing, Check, Inspect, Report}
 use Rattle.ground.specs.Ladder.{Answers}
 use Rattle.ground.specs.Says.{Says}
 use Rattle.ground.proofs.Sides.{side}
@@ -86,6 +86,7 @@ does-leaves k (Row n) s o t d l = d .1
 does-leaves k Listing s o t d l = d .1
 does-leaves k Check s o t d l = d .1
 does-leaves k (Inspect n) s o t d l = d .1
+does-leaves k Report s o t d l = d .1
 
 -- a line that changed nothing left every byte
 pub leaves : {line s t : List ℕ} {o : Outcome} → Obeys line s o t → Leaves o → t ≡ s
@@ -144,6 +145,7 @@ does-still k (Row n) s o t d a = still-same s t a (d .1)
 does-still k Listing s o t d a = still-same s t a (d .1)
 does-still k Check s o t d a = still-same s t a (d .1)
 does-still k (Inspect n) s o t d a = still-same s t a (d .1)
+does-still k Report s o t d a = still-same s t a (d .1)
 
 -- the first n bytes, lent and back as ys
 pub front-back : (xs ys : List ℕ) (n : ℕ) → length ys ≡ n → take n (take 0 xs ++ (ys ++ drop (n - 0) (drop 0 xs))) ≡ ys

@@ -1,4 +1,4 @@
--- A line asks one command only: its first two bytes say which. Assumes nothing.
+-- A line asks one command only: its first three bytes say which. Assumes nothing.
 use Prim.Native.Nat.{ℕ, _+_}
 use mathlib.Core.Path.{_≡_, refl, sym, ap, subst, _∙_}
 use mathlib.Core.List.{List, [], _∷_, _++_}
@@ -8,7 +8,7 @@ use lib.Dec.{eqb}
 use lib.ListN.{length}
 use Rattle.ground.specs.Lists.{byte}
 use Rattle.commands.specs.declared.Command.{Command}
-use Rattle.commands.specs.declared.Command.the-variants.{Nothing, Unknown, Format, Put, Lookup, Remove, Count, Row, Listing, Check, Inspect}
+use Rattle.commands.specs.declared.Command.the-variants.{Nothing, Unknown, Format, Put, Lookup, Remove, Count, Row, Listing, Check, Inspect, Report}
 use Rattle.commands.specs.Lines.{Paged, formatWord, putWord, addWord, moveWord, PutBy, Asks, AsksNothing, Means, WithinLimits}
 use Rattle.commands.specs.Numbers.{Decimal}
 use Rattle.commands.proofs.Unread.{split-one, no-space, digits-spaceless}
@@ -26,35 +26,36 @@ kind (Row n) = 6
 kind Listing = 7
 kind Check = 8
 kind (Inspect n) = 9
+kind Report = 11
 kind Unknown = 10
 
--- the command that the first two bytes begin
-sort : ℕ → ℕ → ℕ
-sort a b =
+-- the command that the first three bytes begin
+sort : ℕ → ℕ → ℕ → ℕ
+sort a b c =
     pick (eqb a 102) 1 (pick (eqb a 112) 20 (pick (eqb a 97) 21 (pick (eqb a 109) 22 (pick (eqb a 105) 9
-    (pick (eqb a 108) (pick (eqb b 111) 3 7) (pick (eqb a 114) (pick (eqb b 101) 4 6) (pick (eqb a 99) (pick (eqb b 111) 5 8) 0)))))))
+    (pick (eqb a 108) (pick (eqb b 111) 3 7) (pick (eqb a 114) (pick (eqb b 101) (pick (eqb c 112) 11 4) 6) (pick (eqb a 99) (pick (eqb b 111) 5 8) 0)))))))
 
-sorted-as : (l : List ℕ) (n : ℕ) (t : List ℕ) → l ≡ t → sort (byte t 0) (byte t 1) ≡ n → sort (byte l 0) (byte l 1) ≡ n
-sorted-as l n t e h = subst (λ x. sort (byte x 0) (byte x 1) ≡ n) (sym e) h
+sorted-as : (l : List ℕ) (n : ℕ) (t : List ℕ) → l ≡ t → sort (byte t 0) (byte t 1) (byte t 2) ≡ n → sort (byte l 0) (byte l 1) (byte l 2) ≡ n
+sorted-as l n t e h = subst (λ x. sort (byte x 0) (byte x 1) (byte x 2) ≡ n) (sym e) h
 
 empty : (l : List ℕ) → length l ≡ 0 → l ≡ []
 empty [] e = refl
 empty (x ∷ l) e = absurd (omega arith)
 
-comment : (a b : ℕ) → a ≡ 35 → sort a b ≡ 0
+comment : (a b c : ℕ) → a ≡ 35 → sort a b c ≡ 0
 unfolding sort
-comment a b e = rw e refl
+comment a b c e = rw e refl
 
-put-kind : (l w t : List ℕ) (m : ℕ) → l ≡ w ++ t → PutBy w m → sort (byte l 0) (byte l 1) ≡ 20 + m
+put-kind : (l w t : List ℕ) (m : ℕ) → l ≡ w ++ t → PutBy w m → sort (byte l 0) (byte l 1) (byte l 2) ≡ 20 + m
 unfolding sort
 put-kind l w t m e (inl x) = sorted-as l 20 (putWord ++ t) (e ∙ ap (λ v. v ++ t) (x .1)) refl ∙ ap (λ n. 20 + n) (sym (x .0))
 put-kind l w t m e (inr (inl x)) = sorted-as l 21 (addWord ++ t) (e ∙ ap (λ v. v ++ t) (x .1)) refl ∙ ap (λ n. 20 + n) (sym (x .0))
 put-kind l w t m e (inr (inr x)) = sorted-as l 22 (moveWord ++ t) (e ∙ ap (λ v. v ++ t) (x .1)) refl ∙ ap (λ n. 20 + n) (sym (x .0))
 
-asked-kind : (l k : List ℕ) (c : Command) → Asks l k c → sort (byte l 0) (byte l 1) ≡ kind c
+asked-kind : (l k : List ℕ) (c : Command) → Asks l k c → sort (byte l 0) (byte l 1) (byte l 2) ≡ kind c
 unfolding sort
 asked-kind l k Nothing (inl e) = sorted-as l 0 [] (empty l e) refl
-asked-kind l k Nothing (inr e) = comment (byte l 0) (byte l 1) e
+asked-kind l k Nothing (inr e) = comment (byte l 0) (byte l 1) (byte l 2) e
 asked-kind l k (Format n size) x = sorted-as l 1 _ (x .line) refl
 asked-kind l k (Put n p m) x = put-kind l (x .word) _ m (x .line .line) (x .by)
 asked-kind l k (Lookup n) x = sorted-as l 3 _ (x .line) refl
@@ -64,6 +65,7 @@ asked-kind l k (Row n) x = sorted-as l 6 _ (x .line) refl
 asked-kind l k Listing x = sorted-as l 7 _ x refl
 asked-kind l k Check x = sorted-as l 8 _ x refl
 asked-kind l k (Inspect n) x = sorted-as l 9 _ (x .line) refl
+asked-kind l k Report x = sorted-as l 11 _ (x .line) refl
 asked-kind l k Unknown x = absurd x
 
 pub asks-one : (l k j : List ℕ) (c d : Command) → Asks l k c → Asks l j d → kind c ≡ kind d
@@ -97,6 +99,7 @@ taken l k (Row n) m = inr m
 taken l k Listing m = inr m
 taken l k Check m = inr m
 taken l k (Inspect n) m = inr m
+taken l k Report m = inr m
 taken l k Unknown m = inl (refl, m)
 
 -- what a line is taken for is one command, whatever buffer of that length its code goes to

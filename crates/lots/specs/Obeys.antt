@@ -5,7 +5,7 @@ use mathlib.Core.Bool.{true, false}
 use mathlib.Core.List.{List}
 use lib.ListN.{length, take}
 use Rattle.commands.specs.declared.Command.{Command}
-use Rattle.commands.specs.declared.Command.the-variants.{Nothing, Unknown, Format, Put, Lookup, Remove, Count, Row, Listing, Check, Inspect}
+use Rattle.commands.specs.declared.Command.the-variants.{Nothing, Unknown, Format, Put, Lookup, Remove, Count, Row, Listing, Check, Inspect, Report}
 use Rattle.commands.specs.Lines.{Means}
 use Rattle.hash.specs.Fnv.{fnv}
 use Rattle.partition.specs.Listing.{listing}
@@ -104,6 +104,7 @@ Does k (Row n) s o t = RowAsked n s o × (t ≡ s)
 Does k Listing s o t = ListAsked s o × (t ≡ s)
 Does k Check s o t = Asked check s o × (t ≡ s)
 Does k (Inspect n) s o t = Untouched o × (t ≡ s)
+Does k Report s o t = Untouched o × (t ≡ s)
 
 -- the line is a command, and that is done
 pub record Obeys (line s : List ℕ) (o : Outcome) (t : List ℕ) : Type 0 where

@@ -211,6 +211,9 @@ fn is_word(word: &[u8]) -> bool {
     if takes_code(word) {
         return true;
     }
+    if same(word, b"report") {
+        return true;
+    }
     if takes_number(word) {
         return true;
     }

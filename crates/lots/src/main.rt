@@ -2,12 +2,14 @@
 ghost use Prim.Native.Nat.{_≤_};
 ghost use lib.ListN.{length};
 
+mod bid;
 mod faults;
 mod files;
 mod input;
 mod known;
 mod obey;
 mod say;
+mod sheets;
 
 use check::same;
 use libc::STDERR_FILENO;
@@ -41,6 +43,22 @@ pub struct Session {
     pub stopped: bool,
 }
 
+// A sheet as far as it is read.
+pub struct Sheet {
+    // its rows; one more than the last rank; the line of the first row that breaks a rule, and of the first line that is of another form (0: none)
+    pub rows: usize,
+    pub low: u64,
+    pub bad: usize,
+    pub wrong: usize,
+    // the line that is being read: how many came before it, how much of it is there, whether it is too long
+    pub number: usize,
+    pub fill: usize,
+    pub over: bool,
+    // the file is at its end, or cannot be read
+    pub ended: bool,
+    pub unread: bool,
+}
+
 fn main() {
     let mut path = io::buffer();
     let n = os::arg(1, &mut path);
@@ -49,7 +67,7 @@ fn main() {
         usage();
         return;
     }
-    if words > 4 {
+    if words > 5 {
         usage();
         return;
     }
@@ -57,7 +75,7 @@ fn main() {
         usage();
         return;
     }
-    if words == 4 {
+    if words == 5 {
         in_large_room(&path[0..n], is_typed(), turns_left(words));
         return;
     }
@@ -67,7 +85,7 @@ fn main() {
 fn usage() {
     io::write_all(
         STDERR_FILENO,
-        b"usage: lots FILE [terminal | lines [large]]\n",
+        b"usage: lots FILE [terminal | lines [FOLDER [large]]]\n",
     );
 }
 

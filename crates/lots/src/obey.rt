@@ -11,6 +11,7 @@ ghost use Rattle.store.specs.Tables.{meaning};
 ghost use Rattle.query.specs.Spots.{OnPage};
 ghost use Rattle.lots.specs.Known.{Known, Listable};
 ghost use Rattle.lots.specs.Obeys.{ListAsked, Numbers, Obeys, Outcomes, Passes, TellsOnly, RowAsked, Untouched};
+use super::bid;
 use super::faults;
 use super::known::check_known;
 use super::known::count_known;
@@ -272,6 +273,7 @@ pub fn obey(s: &mut [u8], line: &[u8], number: usize, known: bool) -> Outcome
         Command::Listing => list(s, known, number),
         Command::Check => told(check_known(s, known), number),
         Command::Inspect(p) => inspect(s, p, number),
+        Command::Report => bid::ask(s, &line[7..], number),
     }
 }
 

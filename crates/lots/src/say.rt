@@ -52,5 +52,7 @@ pub fn help() -> bool {
     ) {
         return false;
     }
-    text(b"count | row N | list | check | inspect PAGE | help | quit (or Ctrl-D: ends and saves)\n")
+    text(
+        b"count | row N | list | check | inspect PAGE | report SHEET | help | quit (or Ctrl-D: ends and saves)\n",
+    )
 }

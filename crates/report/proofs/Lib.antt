@@ -17,4 +17,5 @@ pub mod Names
 pub mod Found
 pub mod Totals
 pub mod Refines
+pub mod Told
 pub mod Theorems

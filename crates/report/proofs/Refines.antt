@@ -104,7 +104,7 @@ module _ (xs : List SheetRow) (g : GoodSheet xs) (rs : List Row) where
     total-same = lowered-one (t .sum) (length rs) (x .total) (totalOf xs rs) (t .total)
         (ap pos sum-at ∙ total-is xs placed rs 0 0 cs found ∙ +ℤ-idl (totalOf xs rs +ℤ pos (length rs * 1000000000000)))
 
-    mark-at : (j : ℕ) → j < length xs → getD {A = ℕ} (t .marks) j 0 ≡ markOf rs (sheetRow xs j)
+    pub mark-at : (j : ℕ) → j < length xs → getD {A = ℕ} (t .marks) j 0 ≡ markOf rs (sheetRow xs j)
     mark-at j l =
         let e : length cs ≡ length ps = length-replicate {A = ℕ} (length xs) 0 ∙ sym (length-map xs (λ (x : SheetRow). rank (placeIn x))) in
         ap (λ (ms : List ℕ). getD {A = ℕ} ms j 0) marks-at ∙ marks-are ps ls ws 0 0 cs j found e

@@ -56,7 +56,7 @@ module _ (xs : List SheetRow) (h : InPlace xs) where
       ∙ ap (λ (z : ℤ). pos s +ℤ z) (swap (amountOf xs r) (pos 1000000000000) (totalOf xs rs) (pos (length rs * 1000000000000)) ∙ ap (λ (m : ℕ). (amountOf xs r +ℤ totalOf xs rs) +ℤ pos m) e)
 
 -- a mark is the number of codes, up to two
-full : (m : ℕ) → bumped 2 m ≡ 2
+pub full : (m : ℕ) → bumped 2 m ≡ 2
 full zero = refl
 full (suc m) = full m
 

@@ -23,7 +23,7 @@ use store::Refusal;
 use store_check::Length;
 
 // The sum of k amounts, from their raised sum.
-fn lower(sum: u64, k: usize) -> i64
+pub fn lower(sum: u64, k: usize) -> i64
     requires { ⌜ (sum ≤ k * 2000000000000) × (k ≤ 5200000) ⌝ }
     ensures { λ r. ⌜ Lowered sum k r ⌝ }
 {

@@ -11,8 +11,14 @@ use query::Cursor;
 use store::Refusal;
 
 mod answer;
+mod named;
 mod rows;
 mod tally;
+
+pub use answer::judge;
+pub use named::mark_rows;
+pub use named::named_row;
+pub use rows::lay;
 
 // The most rows of a sheet.
 pub const LIMIT: usize = 200000;
@@ -54,6 +60,13 @@ pub enum Next {
 pub enum Ending {
     Missing(Place),
     Whole(usize, u64),
+}
+
+// A row of the sheet by the codes that name it: none, with its place and cents; one; more than one.
+pub enum NamedRow {
+    Hidden(Place, i64),
+    Once,
+    Doubled(Place, i64),
 }
 
 // What no code names, with the sum of its raised amounts, and what more than one does.

@@ -92,21 +92,32 @@ returns-5 c =
     let s = d .before .before in
     after-word _ _ _ _ (s .before .same2 .ensures .0 (s .if3 .taken)) (subst (Decodes _ _) (n .n2 .given .1) (d .decode2 .ensures))
 
+slice-aggregate-same-3 : tie.Need-slice-aggregate-same-3
+slice-aggregate-same-3 c = search needs
+
+same-requires-3 : tie.Need-same-requires-3
+same-requires-3 c κs = search needs
+
+returns-6 : tie.Need-returns-6
+returns-6 c = after-word _ _ _ _ (c .before .same3 .ensures .0 (c .if4 .taken)) tt
+
 numbered-requires : tie.Need-numbered-requires
 numbered-requires c κs =
-    let m = c .before .before .before .before .before .before in
+    let r = c .before .before .before in
+    let m = r .before .before .before .before .before .before in
     let s = m .before .before .before .before .before in (
       s .pre .0,
       s .pre .1,
       record {
         put = m .before .put-mode .ensures .1 (omega (arith, m .if1 .left));
-        lookup = λ e. untrue (sym (c .before .before .before .if2 .left) ∙ c .before .before .before .before .same .ensures .1 e);
-        remove = λ e. untrue (sym (c .if3 .left) ∙ c .before .same2 .ensures .1 e);
+        lookup = λ e. untrue (sym (r .before .before .before .if2 .left) ∙ r .before .before .before .before .same .ensures .1 e);
+        remove = λ e. untrue (sym (r .if3 .left) ∙ r .before .same2 .ensures .1 e);
+        report = λ e. untrue (sym (c .if4 .left) ∙ c .before .same3 .ensures .1 e);
       },
     )
 
-returns-6 : tie.Need-returns-6
-returns-6 c = c .numbered .ensures _
+returns-7 : tie.Need-returns-7
+returns-7 c = c .numbered .ensures _
 
 pub phrase-spec : {M : Type 1} → statement M
 phrase-spec =
@@ -134,5 +145,8 @@ phrase-spec =
     returns-4
     same-length-5
     returns-5
+    slice-aggregate-same-3
+    same-requires-3
+    returns-6
     numbered-requires
-    returns-6)
+    returns-7)

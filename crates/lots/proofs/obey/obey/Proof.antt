@@ -1,9 +1,10 @@
 -- `lots::obey` meets its contract. Assumes nothing.
-use Prim.Native.Nat.{ℕ}
+use Prim.Native.Nat.{ℕ, suc, _≤_}
 use mathlib.Core.List.{List}
-use mathlib.Core.Path.{_≡_, refl, subst}
+use mathlib.Core.Path.{_≡_, refl, ap, subst}
 use native.Mathlib.Omega.{arith}
 use native.Mathlib.Nat.{sub-zero}
+use lib.ListN.{length}
 use denote.Ref.{now}
 use borrow.Author.Needs.{needs}
 use Rattle.store.specs.Tables.{meaning}
@@ -143,6 +144,28 @@ enum-known-c-6 c = search needs
 inspect-requires : tie.Need-inspect-requires
 inspect-requires c κs = search needs
 
+-- a line that asks a report has its word and a space
+named : (c : tie.After-ask-arg) → 7 ≤ length (line (c .before .before .before))
+named c =
+    let m = read (c .before .before .before) _ (c .before .enum-told6 .given .1) in
+    let e : length (line (c .before .before .before)) ≡ suc (suc (suc (suc (suc (suc (suc (length (m .rest)))))))) = ap (λ (v : List ℕ). length v) (m .line) in
+    omega arith
+
+enum-told-6 : tie.Need-enum-told-6
+enum-told-6 c = search needs
+
+sub-ask : tie.Need-sub-ask
+sub-ask c = omega (arith, named c)
+
+part-ask-start : tie.Need-part-ask-start
+part-ask-start c = omega (arith, named c)
+
+part-ask-end : tie.Need-part-ask-end
+part-ask-end c = search needs
+
+ask-requires : tie.Need-ask-requires
+ask-requires c κs = search needs
+
 returns : tie.Need-returns
 returns c = done (c .before .before) _ (c .enum-told .given .1) (refl, refl)
 
@@ -200,6 +223,12 @@ same-length-8 c = search needs
 returns-11 : tie.Need-returns-11
 returns-11 c = done (c .before .before .before .before .before) _ (c .before .before .before .c6 .given .1) (c .inspect .ensures, refl)
 
+same-length-9 : tie.Need-same-length-9
+same-length-9 c = search needs
+
+returns-12 : tie.Need-returns-12
+returns-12 c = done (c .before .before .before .before .before) _ (c .before .before .before .enum-told6 .given .1) (c .ask .ensures, refl)
+
 pub obey-spec : {M : Type 1} → statement M
 obey-spec =
     tie.close
@@ -242,6 +271,11 @@ obey-spec =
     told-requires-3
     enum-known-c-6
     inspect-requires
+    enum-told-6
+    sub-ask
+    part-ask-start
+    part-ask-end
+    ask-requires
     returns
     returns-2
     returns-3
@@ -260,4 +294,6 @@ obey-spec =
     same-length-7
     returns-10
     same-length-8
-    returns-11)
+    returns-11
+    same-length-9
+    returns-12)

@@ -1,0 +1,47 @@
+-- `commands::sums::sum_line` meets its contract. Assumes nothing.
+use mathlib.Core.Path.{ap}
+use denote.Ref.{now}
+use mir.Facts.{toZ-ofZ}
+use Rattle.commands.specs.Numbers.{integer}
+use Rattle.commands.proofs.Adding.{word-then, as-text, ended}
+use native.Mathlib.Omega.{arith}
+use borrow.Author.Needs.{needs}
+use Rattle.commands.proofs.sums.sum_line.Statement.{statement}
+use Rattle.commands.proofs.sums.sum_line.Tie as tie
+use Rattle.commands.proofs.answers.add.Reads as add-reads
+use Rattle.commands.proofs.sums.add_cents.Reads as add-cents-reads
+use Rattle.commands.proofs.sums.begin.Reads as begin-reads
+
+begin-requires : tie.Need-begin-requires
+begin-requires c κs = search needs
+
+add-cents-requires : tie.Need-add-cents-requires
+add-cents-requires c κs = search needs
+
+slice-aggregate-add : tie.Need-slice-aggregate-add
+slice-aggregate-add c = search needs
+
+add-requires : tie.Need-add-requires
+add-requires c κs = search needs
+
+same-length : tie.Need-same-length
+same-length c = search needs
+
+returns : tie.Need-returns
+returns c =
+    let e = c .before .before in
+    let p = e .before .before .before .before .before in
+    let b = p .before .before .before .before in
+    ended (word-then (now (b .before .before .before .before .args .word)) (b .begin .ensures .0) (as-text (ap integer (toZ-ofZ (b .before .before .before .before .fits .z))) (p .add-cents .ensures .0))) (e .add .ensures)
+    (omega (arith, e .add .ensures .next, e .add .ensures .long, p .add-cents .ensures .1, p .add-cents .ensures .0 .long, b .begin .ensures .1, b .begin .ensures .0 .long, b .before .before .before .before .pre))
+
+pub sum-line-spec : {M : Type 1} → statement M
+sum-line-spec =
+    tie.close
+    (tie.spec
+    begin-requires
+    add-cents-requires
+    slice-aggregate-add
+    add-requires
+    same-length
+    returns)

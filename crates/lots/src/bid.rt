@@ -1,0 +1,187 @@
+// The line `report SHEET`: the sheet read, the report asked, and its rows and sums told.
+ghost use mathlib.Core.Path.{_≡_};
+ghost use Prim.Native.Nat.{_*_, _≤_};
+ghost use lib.ListN.{length};
+ghost use Rattle.hash.specs.Fnv.{fnv};
+ghost use Rattle.partition.specs.Sizes.{shapeOf};
+ghost use Rattle.store.specs.Accepted.{Accepted};
+ghost use Rattle.report.specs.Report.{limit};
+ghost use Rattle.report.specs.Named.{LaidSheet, Markable};
+ghost use Rattle.lots.specs.Obeys.{Untouched};
+use super::say;
+use super::sheets;
+use crate::Outcome;
+use page::Place;
+use partition::Shape;
+use report::LIMIT;
+use report::NamedRow;
+use report::Sums;
+use store::Answer;
+
+// A word, a place and its amount on a line; whether it could be written.
+fn tell_amount(word: &[u8], p: Place, z: i64) -> bool
+    requires { ⌜ length (now word) ≤ 10 ⌝ }
+{
+    let mut text = [0u8; 100];
+    let n = commands::amount_line(word, p, z, &mut text);
+    say::text(&text[0..n])
+}
+
+fn tell_sum(word: &[u8], z: i64) -> bool
+    requires { ⌜ length (now word) ≤ 10 ⌝ }
+{
+    let mut text = [0u8; 100];
+    let n = commands::sum_line(word, z, &mut text);
+    say::text(&text[0..n])
+}
+
+fn tell_many_sum(word: &[u8], n: usize, z: i64) -> bool
+    requires { ⌜ length (now word) ≤ 10 ⌝ }
+{
+    let mut text = [0u8; 100];
+    let k = commands::rows_sum_line(word, n, z, &mut text);
+    say::text(&text[0..k])
+}
+
+fn tell_many(word: &[u8], n: usize) -> bool
+    requires { ⌜ length (now word) ≤ 10 ⌝ }
+{
+    let mut text = [0u8; 100];
+    let k = commands::rows_line(word, n, &mut text);
+    say::text(&text[0..k])
+}
+
+fn tell_bad_row(l: usize) -> bool {
+    let mut text = [0u8; 100];
+    let k = commands::bad_row_line(l, &mut text);
+    say::text(&text[0..k])
+}
+
+fn tell_not_there(p: Place, number: usize) -> bool {
+    let mut text = [0u8; 140];
+    let k = commands::not_there_line(p, number, &mut text);
+    say::text(&text[0..k])
+}
+
+fn tell_unread(number: usize) -> bool {
+    let mut text = [0u8; 100];
+    let k = commands::unread_line(number, &mut text);
+    say::text(&text[0..k])
+}
+
+fn tell_no_row(number: usize, l: usize) -> bool {
+    let mut text = [0u8; 120];
+    let k = commands::no_row_line(number, l, &mut text);
+    say::text(&text[0..k])
+}
+
+// A row that no code names, or more than one does; of any other nothing is told.
+fn tell_row(r: NamedRow) -> bool {
+    match r {
+        NamedRow::Hidden(p, z) => tell_amount(b"hidden", p, z),
+        NamedRow::Doubled(p, z) => tell_amount(b"doubled", p, z),
+        NamedRow::Once => true,
+    }
+}
+
+// Every row of the sheet by its mark, in the sheet's order.
+fn tell_rows(flat: &[u64], counts: &[u8]) -> bool
+    requires { ⌜ LaidSheet (now flat) (length (now counts)) ⌝ }
+{
+    let mut i = 0;
+    while i < counts.len() {
+        let r = report::named_row(flat, counts, i);
+        if !tell_row(r) {
+            return false;
+        }
+        i += 1;
+    }
+    true
+}
+
+// The same of a sheet of n rows, as many as there are marks.
+fn tell_first(flat: &[u64], counts: &[u8], n: usize) -> bool
+    requires { ⌜ LaidSheet (now flat) n × (length (now counts) ≡ n) ⌝ }
+{
+    tell_rows(flat, counts)
+}
+
+// The rows that a report is about, by a tally of their own into n clear marks.
+fn tell_marked(s: &[u8], z: Shape, flat: &[u64], counts: &mut [u8], n: usize) -> bool
+    requires { ⌜ Markable z (now s) (now flat) n × (length (now counts) ≡ n) ⌝ }
+{
+    report::mark_rows(s, z, flat, counts);
+    tell_first(flat, counts, n)
+}
+
+// The same with marks of its own.
+fn tell_fresh(s: &[u8], z: Shape, flat: &[u64], n: usize) -> bool
+    requires { ⌜ Markable z (now s) (now flat) n ⌝ }
+{
+    let mut counts = [0u8; LIMIT];
+    tell_marked(s, z, flat, &mut counts[..n], n)
+}
+
+// The same at the page size that the store says.
+fn tell_named(s: &[u8], flat: &[u64], n: usize) -> bool
+    requires { ⌜ Accepted (shapeOf (now s)) fnv (now s) × LaidSheet (now flat) n ⌝ }
+{
+    let z = partition::shape_of(s);
+    tell_fresh(s, z, flat, n)
+}
+
+fn tell_sums(x: Sums) -> bool {
+    if !tell_sum(b"total", x.total) {
+        return false;
+    }
+    if !tell_many_sum(b"hidden", x.hidden, x.cents) {
+        return false;
+    }
+    tell_many(b"doubled", x.doubled)
+}
+
+// A line that is not obeyed was answered, or could not be.
+fn passed(written: bool) -> Outcome
+    ensures { λ r. ⌜ Untouched r ⌝ }
+{
+    if !written {
+        return Outcome::Stopped;
+    }
+    Outcome::Unknown
+}
+
+// The report's answer on the sheet's numbers; `bad` is the line of the first row that breaks a rule.
+fn tell(s: &[u8], flat: &[u64], n: usize, bad: usize, number: usize) -> Outcome
+    requires { ⌜ length (now flat) ≡ 2 * limit ⌝ }
+    ensures { λ r. ⌜ Untouched r ⌝ }
+{
+    match report::judge(s, flat, n) {
+        report::Outcome::Refused(r) => passed(say::answer(Answer::Refused(r), b"", number)),
+        report::Outcome::BadSheet => passed(tell_bad_row(bad)),
+        report::Outcome::NotInSheet(p) => passed(tell_not_there(p, number)),
+        report::Outcome::Summed(x) => {
+            if !tell_named(s, flat, n) {
+                return Outcome::Stopped;
+            }
+            if !tell_sums(x) {
+                return Outcome::Stopped;
+            }
+            Outcome::Listed(n)
+        }
+    }
+}
+
+// The report over the sheet of that name.
+pub fn ask(s: &[u8], name: &[u8], number: usize) -> Outcome
+    ensures { λ r. ⌜ Untouched r ⌝ }
+{
+    let mut flat = [0u64; 2 * LIMIT];
+    let z = sheets::load(name, &mut flat);
+    if z.unread {
+        return passed(tell_unread(number));
+    }
+    if z.wrong > 0 {
+        return passed(tell_no_row(number, z.wrong));
+    }
+    tell(s, &flat, z.rows, z.bad, number)
+}
