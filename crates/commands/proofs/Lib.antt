@@ -6,3 +6,4 @@ pub mod Adding
 pub mod Shown
 pub mod Unread
 pub mod Unasked
+pub mod Small
