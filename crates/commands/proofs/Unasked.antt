@@ -13,13 +13,14 @@ use Rattle.ground.specs.Lists.{byte}
 use Rattle.ground.proofs.Tests.{untrue}
 use Rattle.page.specs.declared.Place.{Place}
 use Rattle.page.specs.Places.{InRange}
+use Rattle.commands.specs.declared.Number.the-variants.{Not}
 use Rattle.commands.specs.declared.Spot.the-variants.{Nowhere}
 use Rattle.commands.specs.declared.Command.{Command}
 use Rattle.commands.specs.declared.Command.the-variants.{Nothing, Unknown, Format, Put, Lookup, Remove, Count, Row, Listing, Check, Inspect}
-use Rattle.commands.specs.Numbers.{Decimal, Integer}
+use Rattle.commands.specs.Numbers.{Decimal, Integer, ReadsNumber}
 use Rattle.commands.specs.Codes.{Spells, Coded}
-use Rattle.commands.specs.Lines.{Spaceless, After, Placed, Places, Putting, Asks, WithinLimits, AsksNothing, Spoken, Uncoded, formatWord, putWord, addWord, moveWord, PutBy, lookupWord, removeWord, countWord, rowWord, listWord, checkWord, inspectWord}
-use Rattle.commands.proofs.Unread.{split-one, no-space, integer-spaceless, spells-spaceless}
+use Rattle.commands.specs.Lines.{Spaceless, After, Placed, Places, Putting, PagesOf, Paged, Asks, WithinLimits, AsksNothing, Spoken, Uncoded, formatWord, putWord, addWord, moveWord, PutBy, lookupWord, removeWord, countWord, rowWord, listWord, checkWord, inspectWord}
+use Rattle.commands.proofs.Unread.{split-one, no-space, digits-spaceless, integer-spaceless, spells-spaceless}
 
 -- ---- places
 
@@ -103,7 +104,7 @@ put-by-one w m n (inr (inr (a, e))) (inr (inr (b, f))) = a ∙ sym b
 -- what a word and a rest ask
 abbrev pub On : List ℕ → List ℕ → List ℕ → Command → Type 0
 On w r j Nothing = ⊥
-On w r j (Format n) = (w ≡ formatWord) × Decimal n r
+On w r j (Format n size) = (w ≡ formatWord) × Paged n size r
 On w r j (Put n p m) = PutBy w m × Putting j n p r
 On w r j (Lookup n) = (w ≡ lookupWord) × Coded r j n
 On w r j (Remove n) = (w ≡ removeWord) × Coded r j n
@@ -120,7 +121,7 @@ module _ (w r : List ℕ) (f : Spaceless w) (s : Spoken (w ++ (32 ∷ r))) where
 
   on : (j : List ℕ) (c : Command) → Asks (w ++ (32 ∷ r)) j c → On w r j c
   on j Nothing a = ⊎-elim (s .some) (s .said) a
-  on j (Format n) a = word-is formatWord (Decimal n) refl a
+  on j (Format n size) a = word-is formatWord (Paged n size) refl a
   on j (Put n p m) a = let e = word-is (a .word) (Putting j n p) (put-clear (a .word) m (a .by)) (a .line) in (subst (λ (v : List ℕ). PutBy v m) (sym (e .0)) (a .by), e .1)
   on j (Lookup n) a = word-is lookupWord (λ t. Coded t j n) refl a
   on j (Remove n) a = word-is removeWord (λ t. Coded t j n) refl a
@@ -132,18 +133,18 @@ module _ (w r : List ℕ) (f : Spaceless w) (s : Spoken (w ++ (32 ∷ r))) where
   on j Unknown a = a
 
   -- a word and a number
-  module _ (u : Uncoded w) (no : (n : ℕ) → n < 2 ^ 64 → Decimal n r → (w ≡ formatWord) ⊎ ((w ≡ rowWord) ⊎ (w ≡ inspectWord)) → ⊥) where
+  module _ (u : Uncoded w) (unformat : w ≡ formatWord → ⊥) (no : (n : ℕ) → n < 2 ^ 64 → Decimal n r → (w ≡ rowWord) ⊎ (w ≡ inspectWord) → ⊥) where
     numbers : (j : List ℕ) (c : Command) → WithinLimits c → On w r j c → ⊥
     numbers j Nothing h o = o
-    numbers j (Format n) h o = no n h (o .1) (inl (o .0))
+    numbers j (Format n size) h o = unformat (o .0)
     numbers j (Put n p m) h o = u .put m (o .0)
     numbers j (Lookup n) h o = u .lookup (o .0)
     numbers j (Remove n) h o = u .remove (o .0)
     numbers j Count h o = o
-    numbers j (Row n) h o = no n h (o .1) (inr (inl (o .0)))
+    numbers j (Row n) h o = no n h (o .1) (inl (o .0))
     numbers j Listing h o = o
     numbers j Check h o = o
-    numbers j (Inspect n) h o = no n h (o .1) (inr (inr (o .0)))
+    numbers j (Inspect n) h o = no n h (o .1) (inr (o .0))
     numbers j Unknown h o = o
 
     pub no-number : (k : List ℕ) → AsksNothing (w ++ (32 ∷ r)) k
@@ -156,7 +157,7 @@ module _ (w r : List ℕ) (f : Spaceless w) (s : Spoken (w ++ (32 ∷ r))) where
 
     lookups : w ≡ lookupWord → (j : List ℕ) (c : Command) → length j ≡ length k → On w r j c → ⊥
     lookups e j Nothing l o = o
-    lookups e j (Format n) l o = apart 0 formatWord lookupWord w (o .0) e (λ x. omega arith)
+    lookups e j (Format n size) l o = apart 0 formatWord lookupWord w (o .0) e (λ x. omega arith)
     lookups e j (Put n p m) l o = put-not lookupWord refl w m (o .0) e
     lookups e j (Lookup n) l o = uncoded j n l (o .1)
     lookups e j (Remove n) l o = apart 0 removeWord lookupWord w (o .0) e (λ x. omega arith)
@@ -169,7 +170,7 @@ module _ (w r : List ℕ) (f : Spaceless w) (s : Spoken (w ++ (32 ∷ r))) where
 
     removes : w ≡ removeWord → (j : List ℕ) (c : Command) → length j ≡ length k → On w r j c → ⊥
     removes e j Nothing l o = o
-    removes e j (Format n) l o = apart 0 formatWord removeWord w (o .0) e (λ x. omega arith)
+    removes e j (Format n size) l o = apart 0 formatWord removeWord w (o .0) e (λ x. omega arith)
     removes e j (Put n p m) l o = put-not removeWord refl w m (o .0) e
     removes e j (Lookup n) l o = apart 0 lookupWord removeWord w (o .0) e (λ x. omega arith)
     removes e j (Remove n) l o = uncoded j n l (o .1)
@@ -191,7 +192,7 @@ module _ (w : List ℕ) (m : ℕ) (q : PutBy w m) (r k : List ℕ) where
   module _ (no : (j : List ℕ) (n : ℕ) (p : Place) → length j ≡ length k → InRange p → Putting j n p r → ⊥) where
     puts : (j : List ℕ) (c : Command) → length j ≡ length k → WithinLimits c → On w r j c → ⊥
     puts j Nothing l h o = o
-    puts j (Format n) l h o = put-not formatWord refl w m q (o .0)
+    puts j (Format n size) l h o = put-not formatWord refl w m q (o .0)
     puts j (Put n p _) l h o = no j n p l h (o .1)
     puts j (Lookup n) l h o = put-not lookupWord refl w m q (o .0)
     puts j (Remove n) l h o = put-not removeWord refl w m q (o .0)
@@ -220,11 +221,48 @@ module _ (w : List ℕ) (m : ℕ) (q : PutBy w m) (r k : List ℕ) where
     put-wrong q = no-put (λ j n p l h x.
         q (take n j) (omega (arith, length-take-le n j (x .coded .within), x .coded .within)) (subst (λ (t : List ℕ). Spells t (take n j)) (sym (halves x .0)) (x .coded .spells)))
 
+-- what stands after the word format
+module _ (r k : List ℕ) where
+  module _ (no : (n size : ℕ) → n < 2 ^ 64 → size < 2 ^ 64 → Paged n size r → ⊥) where
+    formats : (j : List ℕ) (c : Command) → WithinLimits c → On formatWord r j c → ⊥
+    formats j Nothing h o = o
+    formats j (Format n size) h o = no n size (h .0) (h .1) (o .1)
+    formats j (Put n p m) h o = put-not formatWord refl formatWord m (o .0) refl
+    formats j (Lookup n) h o = apart 0 lookupWord formatWord formatWord (o .0) refl (λ x. omega arith)
+    formats j (Remove n) h o = apart 0 removeWord formatWord formatWord (o .0) refl (λ x. omega arith)
+    formats j Count h o = o
+    formats j (Row n) h o = apart 0 rowWord formatWord formatWord (o .0) refl (λ x. omega arith)
+    formats j Listing h o = o
+    formats j Check h o = o
+    formats j (Inspect n) h o = apart 0 inspectWord formatWord formatWord (o .0) refl (λ x. omega arith)
+    formats j Unknown h o = o
+
+    pub no-format : AsksNothing (formatWord ++ (32 ∷ r)) k
+    no-format j c l h a = formats j c h (on formatWord r (of-clear formatWord refl) (record { some = λ x. omega arith; said = λ x. omega arith }) j c a)
+
+  -- one word, which is no number
+  pub format-alone : Spaceless r → ReadsNumber r Not → AsksNothing (formatWord ++ (32 ∷ r)) k
+  format-alone s q = no-format (λ n size h i. ⊎-elim (λ d. q n h (d .0)) (λ x. no-space r (x .pages) (x .after .rest) s (x .after .line)))
+
+  -- r's first space
+  module _ (a b : List ℕ) (e : r ≡ a ++ (32 ∷ b)) (f : Spaceless a) where
+    paged : (n size : ℕ) → Paged n size r → Decimal n a × Decimal size b
+    paged n size (inl d) = absurd (no-space r a b (digits-spaceless n r (d .0)) e)
+    paged n size (inr x) =
+        let p = split-one a (x .pages) b (x .after .rest) f (digits-spaceless n (x .pages) (x .are)) (sym e ∙ x .after .line) in
+        (subst (Decimal n) (sym (p .0)) (x .are), subst (Decimal size) (sym (p .1)) (x .after .says))
+
+    pub format-unpaged : ReadsNumber a Not → AsksNothing (formatWord ++ (32 ∷ r)) k
+    format-unpaged q = no-format (λ n size h i x. q n h (paged n size x .0))
+
+    pub format-unsized : ReadsNumber b Not → AsksNothing (formatWord ++ (32 ∷ r)) k
+    format-unsized q = no-format (λ n size h i x. q size i (paged n size x .1))
+
 -- a line of one word
 module _ (l : List ℕ) (f : Spaceless l) (s : Spoken l) (x : l ≡ countWord → ⊥) (y : l ≡ listWord → ⊥) (z : l ≡ checkWord → ⊥) where
   pub no-word : (k : List ℕ) → AsksNothing l k
   no-word k j Nothing m h a = ⊎-elim (s .some) (s .said) a
-  no-word k j (Format n) m h a = no-space l formatWord (a .rest) f (a .line)
+  no-word k j (Format n size) m h a = no-space l formatWord (a .rest) f (a .line)
   no-word k j (Put n p _) m h a = no-space l (a .word) (a .line .rest) f (a .line .line)
   no-word k j (Lookup n) m h a = no-space l lookupWord (a .rest) f (a .line)
   no-word k j (Remove n) m h a = no-space l removeWord (a .rest) f (a .line)

@@ -49,7 +49,7 @@ no-space w a b s e =
     let g : byte (a ++ (32 ∷ b)) (length a) ≡ 32 = subst (λ (k : ℕ). byte (a ++ (32 ∷ b)) k ≡ 32) (add-zero (length a)) (getD-append-add a (32 ∷ b) 0 0) in
     s (length a) (omega arith) (ap (λ (x : List ℕ). byte x (length a)) e ∙ g)
 
-digits-spaceless : (n : ℕ) (d : List ℕ) → Decimal n d → Spaceless d
+pub digits-spaceless : (n : ℕ) (d : List ℕ) → Decimal n d → Spaceless d
 digits-spaceless n d i k h e = omega (arith, i .each k h .least)
 
 marked-spaceless : (m : Bool) (d : List ℕ) → Spaceless d → Spaceless (marked m d)

@@ -9,7 +9,7 @@ use Rattle.commands.specs.Texts.{text}
 use Rattle.commands.specs.Numbers.{decimal, integer}
 use Rattle.commands.specs.Codes.{shown}
 use Rattle.commands.specs.declared.Fault.{Fault}
-use Rattle.commands.specs.declared.Fault.the-variants.{Word, Escape, Range, Form, Long, Filled}
+use Rattle.commands.specs.declared.Fault.the-variants.{Word, Escape, Range, Form, Long, Filled, Room}
 
 -- q is p with the text w at `at`, up to r
 pub record Adds (w p : List ℕ) (at : ℕ) (q : List ℕ) (r : ℕ) : Type 0 where
@@ -29,7 +29,7 @@ rowed c p = shown c ++ (32 ∷ placed p)
 abbrev pub reason : ℕ → List ℕ
 reason n = getD (
     text "" ∷
-    text "a store has 3 to 258 whole pages" ∷
+    text "no store has such a length or page size" ∷
     text "a rule of the store fails there" ∷
     text "a code has 1 to 64 bytes" ∷
     text "a part of the place is negative" ∷
@@ -93,6 +93,7 @@ faulty at Range = text "unknown" ++ because at (text "a number is out of range")
 faulty at Form = text "unknown" ++ because at (text "its words are not those of the command")
 faulty at Long = text "unknown" ++ because at (text "over 4096 bytes")
 faulty at Filled = text "refused" ++ because at (text "the file is not empty, say format N anew")
+faulty at Room = text "refused" ++ because at (text "the program has no room for so large a store")
 
 -- out begins with the text w as a line, r bytes long
 pub record Lines (w out : List ℕ) (r : ℕ) : Type 0 where

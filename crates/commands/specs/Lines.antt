@@ -52,6 +52,16 @@ pub record Putting (k : List ℕ) (n : ℕ) (p : Place) (w : List ℕ) : Type 0 
   pub after : After w code (Placed Integer p)
   pub coded : Coded code k n
 
+-- w is a number of pages and their size
+pub record PagesOf (n size : ℕ) (w : List ℕ) : Type 0 where
+  pub pages : List ℕ
+  pub are : Decimal n pages
+  pub after : After w pages (Decimal size)
+
+-- w is a number of pages, which are of 1,024 bytes where it has no size
+abbrev pub Paged : ℕ → ℕ → List ℕ → Type 0
+Paged n size w = (Decimal n w × (size ≡ 1024)) ⊎ PagesOf n size w
+
 -- "format"
 abbrev pub formatWord : List ℕ
 formatWord = 102 ∷ 111 ∷ 114 ∷ 109 ∷ 97 ∷ 116 ∷ []
@@ -109,7 +119,7 @@ inspectWord = 105 ∷ 110 ∷ 115 ∷ 112 ∷ 101 ∷ 99 ∷ 116 ∷ []
 -- the line l asks the command; k begins with its code
 abbrev pub Asks : List ℕ → List ℕ → Command → Type 0
 Asks l k Nothing = (length l ≡ 0) ⊎ (byte l 0 ≡ 35)
-Asks l k (Format n) = After l formatWord (Decimal n)
+Asks l k (Format n size) = After l formatWord (Paged n size)
 Asks l k (Put n p m) = PutLine k n p m l
 Asks l k (Lookup n) = After l lookupWord (λ w. Coded w k n)
 Asks l k (Remove n) = After l removeWord (λ w. Coded w k n)
@@ -123,7 +133,7 @@ Asks l k Unknown = ⊥
 -- no number is too large for its field
 abbrev pub WithinLimits : Command → Type 0
 WithinLimits Nothing = Unit {0}
-WithinLimits (Format n) = n < 2 ^ 64
+WithinLimits (Format n size) = (n < 2 ^ 64) × (size < 2 ^ 64)
 WithinLimits (Put n p m) = InRange p
 WithinLimits (Lookup n) = Unit {0}
 WithinLimits (Remove n) = Unit {0}
@@ -141,7 +151,7 @@ AsksNothing l k = (j : List ℕ) (c : Command) → length j ≡ length k → Wit
 -- what a line is taken for: the command that it asks, or unknown where it asks none
 abbrev pub Means : List ℕ → List ℕ → Command → Type 0
 Means l k Nothing = Asks l k Nothing
-Means l k (Format n) = Asks l k (Format n)
+Means l k (Format n size) = Asks l k (Format n size)
 Means l k (Put n p m) = Asks l k (Put n p m)
 Means l k (Lookup n) = Asks l k (Lookup n)
 Means l k (Remove n) = Asks l k (Remove n)

@@ -249,7 +249,12 @@ fn add_reason(out: &mut [u8], at: usize, number: usize, f: Refusal) -> usize
     ensures { λ r. ⌜ r ≤ at + 68 ⌝ }
 {
     match f {
-        Refusal::BadLength => add_because(out, at, number, b"a store has 3 to 258 whole pages"),
+        Refusal::BadLength => add_because(
+            out,
+            at,
+            number,
+            b"no store has such a length or page size",
+        ),
         Refusal::BadPage(_) => add_because(out, at, number, b"a rule of the store fails there"),
         Refusal::BadCode => add_because(out, at, number, b"a code has 1 to 64 bytes"),
         Refusal::BadPlace => add_because(out, at, number, b"a part of the place is negative"),
@@ -381,6 +386,12 @@ fn fault_text(out: &mut [u8], number: usize, f: Fault) -> usize
             b"refused",
             number,
             b"the file is not empty, say format N anew",
+        ),
+        Fault::Room => add_fault(
+            out,
+            b"refused",
+            number,
+            b"the program has no room for so large a store",
         ),
     }
 }

@@ -15,7 +15,8 @@ use page::Place;
 pub enum Command {
     Nothing,
     Unknown,
-    Format(usize),
+    // so many pages, and their size
+    Format(usize, usize),
     // with the mode that its word stands for
     Put(usize, Place, u64),
     Lookup(usize),
@@ -27,7 +28,7 @@ pub enum Command {
     Inspect(usize),
 }
 
-// Why a line is not obeyed, where no call was asked: its word, its code's text, a number, its words, its length; Filled: the file is not empty.
+// Why a line is not obeyed, where no call was asked: its word, its code's text, a number, its words, its length; Filled: the file is not empty; Room: the run has no room for so large a store.
 pub enum Fault {
     Word,
     Escape,
@@ -35,6 +36,7 @@ pub enum Fault {
     Form,
     Long,
     Filled,
+    Room,
 }
 
 enum Number {

@@ -3,7 +3,7 @@ ghost use mathlib.Core.Path.{_≡_};
 ghost use mathlib.Core.List.{List, _∷_, _++_};
 ghost use Prim.Native.Nat.{ℕ, _≤_, _<_};
 ghost use lib.Signed.{mag};
-ghost use Rattle.commands.specs.Lines.{FirstSpace, Places, Means, Spaceless, Spoken, Uncoded, PutBy};
+ghost use Rattle.commands.specs.Lines.{FirstSpace, Places, Means, Spaceless, Spoken, Uncoded, PutBy, formatWord};
 use super::codes::decode;
 use super::numbers::read_number;
 use super::numbers::read_signed;
@@ -99,17 +99,38 @@ fn bare(line: &[u8]) -> Command
     Command::Unknown
 }
 
-// A word and a number.
+// What stands after the word format: a number of pages, and their size or nothing.
+fn format(rest: &[u8]) -> Command
+    ensures { λ r. ⌜ ((k : List ℕ) → Means (formatWord ++ (32 ∷ now (rest .entry))) k r) ⌝ }
+{
+    let e = first_space(rest);
+    if e >= rest.len() {
+        let Number::Is(n) = read_number(rest) else {
+            return Command::Unknown;
+        };
+        return Command::Format(n, 1024);
+    }
+    let s = e + 1;
+    let Number::Is(n) = read_number(&rest[..e]) else {
+        return Command::Unknown;
+    };
+    let Number::Is(size) = read_number(&rest[s..]) else {
+        return Command::Unknown;
+    };
+    Command::Format(n, size)
+}
+
+// A word and a number, or those of a format.
 fn numbered(word: &[u8], rest: &[u8]) -> Command
     requires { ⌜ Spaceless (now word) × Spoken (now word ++ (32 ∷ now rest)) × Uncoded (now word) ⌝ }
     ensures { λ r. ⌜ ((k : List ℕ) → Means (now (word .entry) ++ (32 ∷ now (rest .entry))) k r) ⌝ }
 {
+    if same(word, b"format") {
+        return format(rest);
+    }
     let Number::Is(n) = read_number(rest) else {
         return Command::Unknown;
     };
-    if same(word, b"format") {
-        return Command::Format(n);
-    }
     if same(word, b"row") {
         return Command::Row(n);
     }

@@ -67,7 +67,7 @@ some-row (x ∷ l) (suc n) h e = some-row l n (omega arith) e
 -- a call whose refusal is told leaves every byte
 pub told-leaves : (c : Call) (s : List ℕ) (a : Out) (o : Outcome) (t : List ℕ) → Made (shapeOf s) fnv c s a t → Outcomes a o → Leaves o → t ≡ s
 told-leaves c s a (Told x) t m r l = refusal-keeps (shapeOf s) fnv c s a t m (r .1)
-told-leaves c s a (Formats n) t m r l = absurd r
+told-leaves c s a (Formats n size) t m r l = absurd r
 told-leaves c s a Silent t m r l = absurd r
 told-leaves c s a NotKnown t m r l = absurd r
 told-leaves c s a (Listed n) t m r l = absurd r
@@ -77,7 +77,7 @@ told-leaves c s a Stopped t m r l = absurd l
 does-leaves : (k : List ℕ) (c : Command) (s : List ℕ) (o : Outcome) (t : List ℕ) → Does k c s o t → Leaves o → t ≡ s
 does-leaves k (Put n p m) s o t d l = told-leaves (put (take n k) p m) s (d .answer) o t (d .made) (d .told) l
 does-leaves k (Remove n) s o t d l = told-leaves (remove (take n k)) s (d .answer) o t (d .made) (d .told) l
-does-leaves k (Format n) s o t d l = d .1
+does-leaves k (Format n size) s o t d l = d .1
 does-leaves k Nothing s o t d l = d .1
 does-leaves k Unknown s o t d l = d .1
 does-leaves k (Lookup n) s o t d l = d .1
@@ -99,7 +99,7 @@ passes-untouched Silent p = tt
 passes-untouched (Told x) p = tt
 passes-untouched (Listed n) p = tt
 passes-untouched (Changed x) p = p
-passes-untouched (Formats n) p = p
+passes-untouched (Formats n size) p = p
 
 pub reads-untouched : (a : Out) (o : Outcome) → TellsOnly a o → Untouched o
 reads-untouched a NotKnown p = tt
@@ -108,7 +108,7 @@ reads-untouched a Silent p = tt
 reads-untouched a (Told x) p = tt
 reads-untouched a (Listed n) p = tt
 reads-untouched a (Changed x) p = p
-reads-untouched a (Formats n) p = p
+reads-untouched a (Formats n size) p = p
 
 pub numbers-untouched : (n : ℕ) (o : Outcome) → Numbers n o → Untouched o
 numbers-untouched n NotKnown p = tt
@@ -117,7 +117,7 @@ numbers-untouched n Silent p = tt
 numbers-untouched n (Told x) p = tt
 numbers-untouched n (Listed m) p = tt
 numbers-untouched n (Changed x) p = p
-numbers-untouched n (Formats m) p = p
+numbers-untouched n (Formats m size) p = p
 
 -- the store that a call leaves of one that is known to be accepted: accepted again, and as long
 pub record Still (s t : List ℕ) : Type 0 where
@@ -135,7 +135,7 @@ still-made c s o t a m =
 does-still : (k : List ℕ) (c : Command) (s : List ℕ) (o : Outcome) (t : List ℕ) → Does k c s o t → Accepted (shapeOf s) fnv s → Still s t
 does-still k (Put n p m) s o t d a = still-made (put (take n k) p m) s (d .answer) t a (d .made)
 does-still k (Remove n) s o t d a = still-made (remove (take n k)) s (d .answer) t a (d .made)
-does-still k (Format n) s o t d a = still-same s t a (d .1)
+does-still k (Format n size) s o t d a = still-same s t a (d .1)
 does-still k Nothing s o t d a = still-same s t a (d .1)
 does-still k Unknown s o t d a = still-same s t a (d .1)
 does-still k (Lookup n) s o t d a = still-same s t a (d .1)
@@ -190,7 +190,7 @@ unformatted n s o t m e = ⊎-elim (λ f. absurd (true≢false (sym (ap ok (f .1
 -- an answer that is no refusal, once it is told, is a change
 pub done-loud : (a : Out) (o : Outcome) → Outcomes a o → Leaves o → ok a ≡ true → ⊥
 done-loud a (Told x) r l e = true≢false (sym e ∙ r .1)
-done-loud a (Formats n) r l e = r
+done-loud a (Formats n size) r l e = r
 done-loud a Silent r l e = r
 done-loud a NotKnown r l e = r
 done-loud a (Listed n) r l e = r

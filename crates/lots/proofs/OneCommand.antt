@@ -9,13 +9,15 @@ use lib.ListN.{length}
 use Rattle.ground.specs.Lists.{byte}
 use Rattle.commands.specs.declared.Command.{Command}
 use Rattle.commands.specs.declared.Command.the-variants.{Nothing, Unknown, Format, Put, Lookup, Remove, Count, Row, Listing, Check, Inspect}
-use Rattle.commands.specs.Lines.{putWord, addWord, moveWord, PutBy, Asks, AsksNothing, Means, WithinLimits}
+use Rattle.commands.specs.Lines.{Paged, formatWord, putWord, addWord, moveWord, PutBy, Asks, AsksNothing, Means, WithinLimits}
+use Rattle.commands.specs.Numbers.{Decimal}
+use Rattle.commands.proofs.Unread.{split-one, no-space, digits-spaceless}
 use Rattle.store.specs.Moves.{pick}
 
 -- which of the commands it is; a put by its mode
 abbrev pub kind : Command → ℕ
 kind Nothing = 0
-kind (Format n) = 1
+kind (Format n size) = 1
 kind (Put n p m) = 20 + m
 kind (Lookup n) = 3
 kind (Remove n) = 4
@@ -53,7 +55,7 @@ asked-kind : (l k : List ℕ) (c : Command) → Asks l k c → sort (byte l 0) (
 unfolding sort
 asked-kind l k Nothing (inl e) = sorted-as l 0 [] (empty l e) refl
 asked-kind l k Nothing (inr e) = comment (byte l 0) (byte l 1) e
-asked-kind l k (Format n) x = sorted-as l 1 _ (x .line) refl
+asked-kind l k (Format n size) x = sorted-as l 1 _ (x .line) refl
 asked-kind l k (Put n p m) x = put-kind l (x .word) _ m (x .line .line) (x .by)
 asked-kind l k (Lookup n) x = sorted-as l 3 _ (x .line) refl
 asked-kind l k (Remove n) x = sorted-as l 4 _ (x .line) refl
@@ -67,10 +69,26 @@ asked-kind l k Unknown x = absurd x
 pub asks-one : (l k j : List ℕ) (c d : Command) → Asks l k c → Asks l j d → kind c ≡ kind d
 asks-one l k j c d x y = sym (asked-kind l k c x) ∙ asked-kind l j d y
 
+-- a text writes one number of pages, of one size
+paged-one : (w : List ℕ) (n size m other : ℕ) → Paged n size w → Paged m other w → (n ≡ m) × (size ≡ other)
+paged-one w n size m other (inl d) (inl e) = (sym (d .0 .is) ∙ e .0 .is, d .1 ∙ sym (e .1))
+paged-one w n size m other (inl d) (inr y) = absurd (no-space w (y .pages) (y .after .rest) (digits-spaceless n w (d .0)) (y .after .line))
+paged-one w n size m other (inr x) (inl e) = absurd (no-space w (x .pages) (x .after .rest) (digits-spaceless m w (e .0)) (x .after .line))
+paged-one w n size m other (inr x) (inr y) =
+    let p = split-one (x .pages) (y .pages) (x .after .rest) (y .after .rest) (digits-spaceless n (x .pages) (x .are)) (digits-spaceless m (y .pages) (y .are)) (sym (x .after .line) ∙ y .after .line) in
+    (sym (subst (Decimal n) (p .0) (x .are) .is) ∙ y .are .is, sym (subst (Decimal size) (p .1) (x .after .says) .is) ∙ y .after .says .is)
+
+-- the pages and the page size that a line asks of a format are one
+pub format-one : (l k j : List ℕ) (n size m other : ℕ) → Asks l k (Format n size) → Asks l j (Format m other) → (n ≡ m) × (size ≡ other)
+format-one l k j n size m other x y =
+    let q : formatWord ++ (32 ∷ x .rest) ≡ formatWord ++ (32 ∷ y .rest) = sym (x .line) ∙ y .line in
+    let e : x .rest ≡ y .rest = cc in
+    paged-one (y .rest) n size m other (subst (Paged n size) e (x .says)) (y .says)
+
 -- it asks the command, or it is unknown and asks none
 taken : (l k : List ℕ) (c : Command) → Means l k c → ((kind c ≡ 10) × AsksNothing l k) ⊎ Asks l k c
 taken l k Nothing m = inr m
-taken l k (Format n) m = inr m
+taken l k (Format n size) m = inr m
 taken l k (Put n p o) m = inr m
 taken l k (Lookup n) m = inr m
 taken l k (Remove n) m = inr m

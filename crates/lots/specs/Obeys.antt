@@ -24,7 +24,7 @@ Untouched (Told x) = Unit {0}
 Untouched (Listed n) = Unit {0}
 Untouched Stopped = Unit {0}
 Untouched (Changed x) = ⊥
-Untouched (Formats n) = ⊥
+Untouched (Formats n size) = ⊥
 
 -- an unknown line says so; in each of these Stopped stands for an answer that could not be written
 abbrev pub Passes : Outcome → Type 0
@@ -34,7 +34,7 @@ Passes Silent = ⊥
 Passes (Told x) = ⊥
 Passes (Listed n) = ⊥
 Passes (Changed x) = ⊥
-Passes (Formats n) = ⊥
+Passes (Formats n size) = ⊥
 
 -- a line that reads tells the answer a
 abbrev pub TellsOnly : Out → Outcome → Type 0
@@ -44,7 +44,7 @@ TellsOnly a Silent = ⊥
 TellsOnly a NotKnown = ⊥
 TellsOnly a (Listed n) = ⊥
 TellsOnly a (Changed x) = ⊥
-TellsOnly a (Formats n) = ⊥
+TellsOnly a (Formats n size) = ⊥
 
 -- a line that writes tells the answer a, and the store counts as changed exactly where that is no refusal
 abbrev pub Outcomes : Out → Outcome → Type 0
@@ -54,7 +54,7 @@ Outcomes a Stopped = Unit {0}
 Outcomes a Silent = ⊥
 Outcomes a NotKnown = ⊥
 Outcomes a (Listed n) = ⊥
-Outcomes a (Formats n) = ⊥
+Outcomes a (Formats n size) = ⊥
 
 -- n rows, and their number
 abbrev pub Numbers : ℕ → Outcome → Type 0
@@ -64,7 +64,7 @@ Numbers n Silent = ⊥
 Numbers n NotKnown = ⊥
 Numbers n (Told x) = ⊥
 Numbers n (Changed x) = ⊥
-Numbers n (Formats m) = ⊥
+Numbers n (Formats m size) = ⊥
 
 -- the call c made t of the store s, and its answer is told
 pub record Written (c : Call) (s : List ℕ) (o : Outcome) (t : List ℕ) : Type 0 where
@@ -95,7 +95,7 @@ pub record ListAsked (s : List ℕ) (o : Outcome) : Type 0 where
 abbrev pub Does : List ℕ → Command → List ℕ → Outcome → List ℕ → Type 0
 Does k (Put n p m) s o t = Written (put (take n k) p m) s o t
 Does k (Remove n) s o t = Written (remove (take n k)) s o t
-Does k (Format n) s o t = (o ≡ Formats n) × (t ≡ s)
+Does k (Format n size) s o t = (o ≡ Formats n size) × (t ≡ s)
 Does k Nothing s o t = (o ≡ Silent) × (t ≡ s)
 Does k Unknown s o t = Passes o × (t ≡ s)
 Does k (Lookup n) s o t = Asked (lookup (take n k)) s o × (t ≡ s)

@@ -1,8 +1,9 @@
 -- What a session keeps from line to line. Assumes nothing.
 use Prim.Native.Nat.{ℕ, _*_, _≤_}
 use mathlib.Core.Path.{_≡_}
-use mathlib.Core.Bool.{true, false}
+use mathlib.Core.Bool.{Bool, true, false}
 use mathlib.Core.List.{List}
+use mathlib.Core.Logic.{_⊎_}
 use lib.ListN.{length, take}
 use Rattle.ground.specs.Ladder.{Answers}
 use Rattle.store.specs.Demands.{ok}
@@ -27,7 +28,7 @@ Leaves Silent = Unit {0}
 Leaves Unknown = Unit {0}
 Leaves (Told x) = Unit {0}
 Leaves (Listed n) = Unit {0}
-Leaves (Format n) = Unit {0}
+Leaves (Format n size) = Unit {0}
 Leaves (Changed x) = ⊥
 Leaves Stopped = ⊥
 
@@ -68,3 +69,7 @@ pub record FormatAsked (n size : ℕ) (z : Session) (s : List ℕ) (r : Session)
   pub made : Answers (formatSized size (take len s)) (answer, left)
   pub refused : ok answer ≡ false → (t ≡ s) × (r .len ≡ z .len)
   pub done : ok answer ≡ true → (take len t ≡ left) × (r .len ≡ len)
+
+-- A format that a line asks, with anew or not: where it would clear nothing or anew is said, and the buffer has room, the call is made.
+abbrev pub FormatDue : ℕ → ℕ → Bool → Session → List ℕ → Session → List ℕ → Type 0
+FormatDue n size anew z s r t = (z .len ≡ 0) ⊎ (anew ≡ true) → n * size ≤ length s → FormatAsked n size z s r t

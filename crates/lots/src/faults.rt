@@ -174,6 +174,19 @@ fn is_place(w: &[u8], i: usize) -> bool
     word_end(w, k) == w.len()
 }
 
+// Whether the word takes a second number, which is the last, and it stands from i on.
+fn is_size(word: &[u8], w: &[u8], i: usize) -> bool
+    requires { ⌜ i ≤ length (now w) ⌝ }
+{
+    if !same(word, b"format") {
+        return false;
+    }
+    if !is_number(w, i) {
+        return false;
+    }
+    word_end(w, i) == w.len()
+}
+
 // Whether the words are those of the command, so that a number in them is too large; the first word ends at e.
 fn is_range(w: &[u8], e: usize) -> bool
     requires { ⌜ e ≤ length (now w) ⌝ }
@@ -183,7 +196,10 @@ fn is_range(w: &[u8], e: usize) -> bool
         if !is_number(w, i) {
             return false;
         }
-        return word_end(w, i) == w.len();
+        if word_end(w, i) == w.len() {
+            return true;
+        }
+        return is_size(&w[0..e], w, next_word(w, i));
     }
     if !takes_place(&w[0..e]) {
         return false;

@@ -1,8 +1,10 @@
 // The input taken apart into lines, and what is kept from one to the next.
 ghost use mathlib.Core.Path.{_≡_};
+ghost use mathlib.Core.Bool.{true, false};
+ghost use mathlib.Core.Logic.{_⊎_};
 ghost use Prim.Native.Nat.{_*_, _≤_};
 ghost use lib.ListN.{length};
-ghost use Rattle.lots.specs.Sessions.{After, Alike, FormatAsked, SessionHolds, Kept, Ran};
+ghost use Rattle.lots.specs.Sessions.{After, Alike, FormatAsked, FormatDue, SessionHolds, Kept, Ran};
 use super::known;
 use super::obey;
 use super::say;
@@ -42,7 +44,7 @@ fn marked(z: Session, o: Outcome) -> Session
         Outcome::Unknown => {}
         Outcome::Told(_) => {}
         Outcome::Listed(_) => {}
-        Outcome::Format(_) => {}
+        Outcome::Format(_, _) => {}
     }
     y
 }
@@ -79,22 +81,60 @@ fn format(store: &mut [u8], z: Session, n: usize, size: usize) -> Session
 }
 
 // Whether a format waits for the word anew: there is something that it would clear.
-fn held_back(len: usize, anew: bool) -> bool {
+fn held_back(len: usize, anew: bool) -> bool
+    ensures { λ r. ⌜ ((len ≡ 0) ⊎ (anew ≡ true) → r ≡ false) ⌝ }
+{
     if anew {
         return false;
     }
-    len > 0
+    if len == 0 {
+        return false;
+    }
+    true
 }
 
-// A format of n pages that a line asks.
-fn ask_format(store: &mut [u8], z: Session, n: usize, anew: bool) -> Session
+// How many pages a store of a larger page size has at most; none of another size.
+fn most_pages(size: usize) -> usize
+    ensures { λ r. ⌜ r ≤ 4098 ⌝ }
+{
+    if size == 4096 {
+        return 1026;
+    }
+    if size == 16384 {
+        return 4098;
+    }
+    0
+}
+
+// Whether n pages of a size would be a store, but one that the buffer has no room for.
+fn lacks_room(n: usize, size: usize, most: usize) -> bool
+    ensures { λ r. ⌜ (n * size ≤ most → r ≡ false) ⌝ }
+{
+    if size > 16384 {
+        return false;
+    }
+    if n > most_pages(size) {
+        return false;
+    }
+    let len = n * size;
+    if len <= most {
+        return false;
+    }
+    true
+}
+
+// A format of n pages of a size that a line asks.
+fn ask_format(store: &mut [u8], z: Session, n: usize, size: usize, anew: bool) -> Session
     requires { ⌜ SessionHolds z (now store) ⌝ }
-    ensures { λ r. ⌜ Kept z (now (store .entry)) r (now (store .exit)) × (r .fill ≡ z .fill) ⌝ }
+    ensures { λ r. ⌜ Kept z (now (store .entry)) r (now (store .exit)) × (r .fill ≡ z .fill) × FormatDue n size anew z (now (store .entry)) r (now (store .exit)) ⌝ }
 {
     if held_back(z.len, anew) {
         return after(z, obey::unknown(Fault::Filled, z.number));
     }
-    format(store, z, n, 1024)
+    if lacks_room(n, size, store.len()) {
+        return after(z, obey::unknown(Fault::Room, z.number));
+    }
+    format(store, z, n, size)
 }
 
 // Where ` anew` stands at the end of a format, or the end.
@@ -123,8 +163,8 @@ fn command(store: &mut [u8], z: Session, line: &[u8]) -> Session
     let n = before_anew(line);
     let len = z.len;
     let o = obey::obey(&mut store[0..len], &line[..n], z.number, z.known);
-    if let Outcome::Format(p) = o {
-        return ask_format(store, z, p, n < line.len());
+    if let Outcome::Format(p, size) = o {
+        return ask_format(store, z, p, size, n < line.len());
     }
     after(z, o)
 }

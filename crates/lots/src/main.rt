@@ -12,14 +12,14 @@ mod say;
 use libc::STDERR_FILENO;
 use store::Answer;
 
-// What a line said, and whether it changed the store. Listed: so many rows, and their number. Format is still to be done; Stopped: an answer could not be written.
+// What a line said, and whether it changed the store. Listed: so many rows, and their number. Format is still to be done, so many pages of that size; Stopped: an answer could not be written.
 pub enum Outcome {
     Silent,
     Unknown,
     Told(Answer),
     Changed(Answer),
     Listed(usize),
-    Format(usize),
+    Format(usize, usize),
     Stopped,
 }
 

@@ -88,7 +88,7 @@ pub fn faults_in(o: Outcome) -> usize {
         Outcome::Silent => 0,
         Outcome::Changed(_) => 0,
         Outcome::Listed(_) => 0,
-        Outcome::Format(_) => 0,
+        Outcome::Format(_, _) => 0,
         Outcome::Stopped => 0,
     }
 }
@@ -260,7 +260,7 @@ pub fn obey(s: &mut [u8], line: &[u8], number: usize, known: bool) -> Outcome
     match c {
         Command::Nothing => Outcome::Silent,
         Command::Unknown => unknown(faults::fault_of(line), number),
-        Command::Format(n) => Outcome::Format(n),
+        Command::Format(n, size) => Outcome::Format(n, size),
         Command::Put(k, place, mode) => wrote(
             put_known(s, &code[0..k], place, mode, known),
             number,

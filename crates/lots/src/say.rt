@@ -48,7 +48,7 @@ pub fn prompt(terminal: bool) {
 
 pub fn help() -> bool {
     if !text(
-        b"format N | format N anew | put, add, move CODE PAGE SLOT VOLUME | lookup CODE | remove CODE\n",
+        b"format N [SIZE] [anew] (SIZE 1024, 4096 or 16384) | put, add, move CODE PAGE SLOT VOLUME | lookup CODE | remove CODE\n",
     ) {
         return false;
     }

@@ -79,6 +79,18 @@ slice-aggregate-add-fault-12 c = search needs
 add-fault-requires-6 : tie.Need-add-fault-requires-6
 add-fault-requires-6 c κs = search needs
 
+enum-told-7 : tie.Need-enum-told-7
+enum-told-7 c = search needs
+
+slice-aggregate-add-fault-13 : tie.Need-slice-aggregate-add-fault-13
+slice-aggregate-add-fault-13 c = search needs
+
+slice-aggregate-add-fault-14 : tie.Need-slice-aggregate-add-fault-14
+slice-aggregate-add-fault-14 c = search needs
+
+add-fault-requires-7 : tie.Need-add-fault-requires-7
+add-fault-requires-7 c κs = search needs
+
 same-length : tie.Need-same-length
 same-length c = search needs
 
@@ -115,6 +127,12 @@ same-length-6 c = search needs
 returns-6 : tie.Need-returns-6
 returns-6 c = let x = c .before .before in (as-text (ap (faulty _) (sym (x .before .before .before .before .enum-told6 .given .1))) (x .add-fault6 .ensures .0), omega (arith, x .add-fault6 .ensures .1))
 
+same-length-7 : tie.Need-same-length-7
+same-length-7 c = search needs
+
+returns-7 : tie.Need-returns-7
+returns-7 c = let x = c .before .before in (as-text (ap (faulty _) (sym (x .before .before .before .before .enum-told7 .given .1))) (x .add-fault7 .ensures .0), omega (arith, x .add-fault7 .ensures .1))
+
 pub fault-text-spec : {M : Type 1} → statement M
 fault-text-spec =
     tie.close
@@ -143,6 +161,10 @@ fault-text-spec =
     slice-aggregate-add-fault-11
     slice-aggregate-add-fault-12
     add-fault-requires-6
+    enum-told-7
+    slice-aggregate-add-fault-13
+    slice-aggregate-add-fault-14
+    add-fault-requires-7
     same-length
     returns
     same-length-2
@@ -154,4 +176,6 @@ fault-text-spec =
     same-length-5
     returns-5
     same-length-6
-    returns-6)
+    returns-6
+    same-length-7
+    returns-7)

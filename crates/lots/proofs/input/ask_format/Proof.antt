@@ -1,5 +1,6 @@
 -- `lots::ask_format` meets its contract. Assumes nothing.
-use mathlib.Core.Path.{refl}
+use mathlib.Core.Bool.{true≢false}
+use mathlib.Core.Path.{refl, sym, _∙_}
 use Rattle.lots.proofs.Leaving.{taken-in}
 use borrow.Author.Needs.{needs}
 use Rattle.lots.proofs.input.ask_format.Statement.{statement}
@@ -15,7 +16,25 @@ after-requires : tie.Need-after-requires
 after-requires c κs = search needs
 
 returns : tie.Need-returns
-returns c = let a = c .after .ensures in (taken-in a (λ l. refl) (c .before .before .before .before .before .pre), a .fill)
+returns c =
+    let a = c .after .ensures in
+    let t = c .before .before in
+    (taken-in a (λ l. refl) (t .before .before .before .pre), a .fill, λ due h. absurd (true≢false (sym (t .if1 .taken) ∙ t .before .held-back .ensures due)))
+
+lacks-room-requires : tie.Need-lacks-room-requires
+lacks-room-requires c κs = search needs
+
+unknown-requires-2 : tie.Need-unknown-requires-2
+unknown-requires-2 c κs = search needs
+
+after-requires-2 : tie.Need-after-requires-2
+after-requires-2 c κs = search needs
+
+returns-2 : tie.Need-returns-2
+returns-2 c =
+    let a = c .after2 .ensures in
+    let t = c .before .before in
+    (taken-in a (λ l. refl) (t .before .before .before .before .before .pre), a .fill, λ due h. absurd (true≢false (sym (t .if2 .taken) ∙ t .before .lacks-room .ensures h)))
 
 format-requires : tie.Need-format-requires
 format-requires c κs = search needs
@@ -23,8 +42,8 @@ format-requires c κs = search needs
 same-length : tie.Need-same-length
 same-length c = search needs
 
-returns-2 : tie.Need-returns-2
-returns-2 c = let f = c .before .before .format .ensures in (f .0, f .1)
+returns-3 : tie.Need-returns-3
+returns-3 c = let f = c .before .before .format .ensures in (f .0, f .1, λ due h. f .2)
 
 pub ask-format-spec : {M : Type 1} → statement M
 ask-format-spec =
@@ -34,6 +53,10 @@ ask-format-spec =
     unknown-requires
     after-requires
     returns
+    lacks-room-requires
+    unknown-requires-2
+    after-requires-2
+    returns-2
     format-requires
     same-length
-    returns-2)
+    returns-3)
