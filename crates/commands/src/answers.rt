@@ -92,11 +92,16 @@ fn add_word(out: &mut [u8], at: usize, d: u64) -> usize
 {
     let e = d / 256;
     let f = e / 256;
-    let text = [(d % 256) as u8, (e % 256) as u8, (f % 256) as u8, (f / 256 % 256) as u8];
+    let text = [
+        (d % 256) as u8,
+        (e % 256) as u8,
+        (f % 256) as u8,
+        (f / 256 % 256) as u8,
+    ];
     add(out, at, &text)
 }
 
-// A number below 10,000. What stands after its digits is written over.
+// A number below 10,000. Up to two bytes after its digits are written too.
 fn add_small(out: &mut [u8], at: usize, n: u64) -> usize
     requires { ⌜ (at + 4 ≤ length (now out)) × (n < 10000) ⌝ }
     ensures { λ r. ⌜ Adds (decimal n) (now (out .entry)) at (now (out .exit)) r ⌝ }
@@ -287,12 +292,12 @@ fn replaced_text(out: &mut [u8], p: Place) -> usize
     add_place(out, n, p)
 }
 
-fn row_text(out: &mut [u8], at: usize, code: &[u8], p: Place) -> usize
-    requires { ⌜ at + 127 + 3 * length (now code) ≤ length (now out) ⌝ }
-    ensures { λ r. ⌜ Adds (rowed (now (code .entry)) p) (now (out .entry)) at (now (out .exit)) r ⌝ }
-    ensures { λ r. ⌜ r ≤ at + 127 + 3 * length (now (code .entry)) ⌝ }
+fn row_text(out: &mut [u8], code: &[u8], p: Place) -> usize
+    requires { ⌜ 127 + 3 * length (now code) ≤ length (now out) ⌝ }
+    ensures { λ r. ⌜ Adds (rowed (now (code .entry)) p) (now (out .entry)) 0 (now (out .exit)) r ⌝ }
+    ensures { λ r. ⌜ r ≤ 127 + 3 * length (now (code .entry)) ⌝ }
 {
-    let n = add_code(out, at, code);
+    let n = add_code(out, 0, code);
     let m = add(out, n, b" ");
     add_place(out, m, p)
 }
@@ -304,9 +309,9 @@ fn row_part(out: &mut [u8], code: &[u8], n: usize, p: Place) -> usize
     ensures { λ r. ⌜ r ≤ 127 + 3 * length (now (code .entry)) ⌝ }
 {
     if n <= code.len() {
-        return row_text(out, 0, &code[..n], p);
+        return row_text(out, &code[..n], p);
     }
-    row_text(out, 0, code, p)
+    row_text(out, code, p)
 }
 
 fn answer_text(out: &mut [u8], code: &[u8], number: usize, a: Answer) -> usize
@@ -332,16 +337,6 @@ pub fn answer_line(a: Answer, code: &[u8], number: usize, out: &mut [u8]) -> usi
     ensures { λ r. ⌜ Lines (shows (now (code .entry)) number (meaning a)) (now (out .exit)) r ⌝ }
 {
     let n = answer_text(out, code, number, a);
-    add(out, n, b"\n")
-}
-
-// A row as a line at an index of out.
-pub fn row_line(out: &mut [u8], at: usize, code: &[u8], p: Place) -> usize
-    requires { ⌜ at + 128 + 3 * length (now code) ≤ length (now out) ⌝ }
-    ensures { λ r. ⌜ Adds (rowed (now (code .entry)) p ++ (10 ∷ [])) (now (out .entry)) at (now (out .exit)) r ⌝ }
-    ensures { λ r. ⌜ r ≤ at + 128 + 3 * length (now (code .entry)) ⌝ }
-{
-    let n = row_text(out, at, code, p);
     add(out, n, b"\n")
 }
 

@@ -7,7 +7,6 @@ mod numbers;
 pub use answers::answer_line;
 pub use answers::fault_line;
 pub use answers::number_line;
-pub use answers::row_line;
 pub use lines::parse;
 use page::Place;
 
