@@ -11,7 +11,7 @@ use lib.Dec.{ltb, eqb}
 use lib.IntN.{ℤ, pos, natAbs}
 use lib.Signed.{ltZ}
 use lib.ListN.{length, take, drop, set, length-append, length-drop, length-set}
-use lib.Seq.{take-add, take-suc, drop-cons, drop-set-lt, getD-set-same, length-take-le}
+use lib.Seq.{take-add, take-at, take-take, take-suc, drop-cons, drop-set-lt, getD-set-same, length-take-le}
 use borrow.Author.Tests.{lt-ltb, le-ltb, eq-eqb, ne-eqb}
 use Rattle.ground.specs.Lists.{byte, part}
 use Rattle.ground.proofs.Sides.{side}
@@ -51,6 +51,17 @@ as-text {v} {w} {p} {q} {at} {r} e a = subst (λ (t : List ℕ). Adds t p at q r
 -- a word, a space and what follows them
 pub word-then : (w : List ℕ) {v p q s : List ℕ} {at r u : ℕ} → Adds (w ++ (32 ∷ [])) p at q r → Adds v q r s u → Adds (w ++ (32 ∷ v)) p at s u
 word-then w {v} a b = as-text (append-assoc w (32 ∷ []) v) (then a b)
+
+-- the first part of what was added
+pub cut : (v w : List ℕ) {p q : List ℕ} {at r : ℕ} → at ≤ length p → Adds (v ++ w) p at q r → Adds v p at q (at + length v)
+cut v w {p} {q} {at} {r} h a =
+    let k : at + length v ≤ r = omega (arith, a .next, length-append v w) in
+    let l : length (take at p ++ v) ≡ at + length v = length-append (take at p) v ∙ ap (λ (n : ℕ). n + length v) (length-take-le at p h) in
+    record {
+      next = refl;
+      said = sym (take-take (at + length v) r q k) ∙ ap (λ (s : List ℕ). take (at + length v) s) (a .said ∙ sym (append-assoc (take at p) v w)) ∙ take-at (take at p ++ v) w (at + length v) l;
+      long = a .long;
+    }
 
 -- ---- codes
 
@@ -157,7 +168,7 @@ decimal-is n k e = ap (λ (j : ℕ). digits 10 j n) e
 
 -- ---- digits, the last one first
 
-glyph-digit : (n : ℕ) → 48 + n % 10 ≡ glyph (n % 10)
+pub glyph-digit : (n : ℕ) → 48 + n % 10 ≡ glyph (n % 10)
 glyph-digit n = simp (lt-ltb (n % 10) 10 (mod-lt n (omega arith)))
 
 drop-set : (xs : List ℕ) (p v : ℕ) → p < length xs → drop p (set xs p v) ≡ v ∷ drop (suc p) xs

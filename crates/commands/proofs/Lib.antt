@@ -9,3 +9,4 @@ pub mod Unasked
 pub mod Cutting
 pub mod OneRow
 pub mod Cents
+pub mod Small

@@ -8,6 +8,7 @@ ghost use lib.Signed.{ltZ, mag};
 ghost use Rattle.io.specs.Digits.{digits};
 ghost use Rattle.store.specs.Tables.{meaning, refusal};
 ghost use Rattle.commands.specs.Answers.{Adds, Lines, because, faulty, numbered, placed, rowed, shows, why};
+ghost use Rattle.words.specs.Le.{bytes};
 ghost use Rattle.commands.specs.Codes.{escape, glyphs, shown, upper};
 ghost use Rattle.commands.specs.Numbers.{decimal, integer, signed};
 ghost use Rattle.commands.specs.Numbers.{width as Numbers·width};
@@ -72,6 +73,56 @@ pub fn add_number(out: &mut [u8], at: usize, n: u64) -> usize
     at + k
 }
 
+// The digits of a number below 10,000 as the bytes of a word, the first one lowest: two and two at once.
+fn four_digits(n: u64) -> u64
+    requires { ⌜ n < 10000 ⌝ }
+    ensures { λ r. ⌜ bytes 4 r ≡ digits 10 4 n ⌝ }
+{
+    let high = n / 100;
+    let both = 65536 * n - 6553599 * high;
+    let x = both * 103 / 1024;
+    let tens = x % 16 + x / 65536 % 16 * 65536;
+    808464432 + 256 * both - 2559 * tens
+}
+
+// The four bytes of a word go to out at an index.
+fn add_word(out: &mut [u8], at: usize, d: u64) -> usize
+    requires { ⌜ at + 4 ≤ length (now out) ⌝ }
+    ensures { λ r. ⌜ Adds (bytes 4 d) (now (out .entry)) at (now (out .exit)) r ⌝ }
+{
+    let e = d / 256;
+    let f = e / 256;
+    let text = [
+        (d % 256) as u8,
+        (e % 256) as u8,
+        (f % 256) as u8,
+        (f / 256 % 256) as u8,
+    ];
+    add(out, at, &text)
+}
+
+// A number below 10,000. Up to two bytes after its digits are written too.
+fn add_small(out: &mut [u8], at: usize, n: u64) -> usize
+    requires { ⌜ (at + 4 ≤ length (now out)) × (n < 10000) ⌝ }
+    ensures { λ r. ⌜ Adds (decimal n) (now (out .entry)) at (now (out .exit)) r ⌝ }
+    ensures { λ r. ⌜ r ≤ at + 20 ⌝ }
+{
+    if n < 10 {
+        let text = [48 + n as u8];
+        return add(out, at, &text);
+    }
+    let d = four_digits(n);
+    if n > 999 {
+        return add_word(out, at, d);
+    }
+    if n > 99 {
+        add_word(out, at, d / 256);
+        return at + 3;
+    }
+    add_word(out, at, d / 256 / 256);
+    at + 2
+}
+
 fn wide32(z: i32) -> i64
     ensures { λ r. ⌜ (r ≡ z) × (mag r < 2147483648) ⌝ }
 {
@@ -103,6 +154,9 @@ fn add_signed(out: &mut [u8], at: usize, z: i64) -> usize
     if z < 0 {
         let next = add(out, at, b"-");
         return add_number(out, next, n);
+    }
+    if n < 10000 {
+        return add_small(out, at, n);
     }
     add_number(out, at, n)
 }

@@ -32,8 +32,8 @@ returns c =
       omega (arith, a .add .ensures .next, n .add-number .ensures .1),
     )
 
-add-number-requires-2 : tie.Need-add-number-requires-2
-add-number-requires-2 c κs = search needs
+add-small-requires : tie.Need-add-small-requires
+add-small-requires c κs = search needs
 
 same-length-2 : tie.Need-same-length-2
 same-length-2 c = search needs
@@ -41,7 +41,21 @@ same-length-2 c = search needs
 returns-2 : tie.Need-returns-2
 returns-2 c =
     let n = c .before .before in
-    let i = n .before .before in
+    let i = n .before .before .before in
+    let z = i .before in
+    let s = z .before .before in
+    (as-text (plain-text _ _ (size-is (s .args .z) (s .pre .1) _ (z .size-of .ensures)) (is-from (s .args .z) (s .pre .1) (i .if1 .left))) (n .add-small .ensures .0), omega (arith, n .add-small .ensures .1))
+
+add-number-requires-2 : tie.Need-add-number-requires-2
+add-number-requires-2 c κs = search needs
+
+same-length-3 : tie.Need-same-length-3
+same-length-3 c = search needs
+
+returns-3 : tie.Need-returns-3
+returns-3 c =
+    let n = c .before .before in
+    let i = n .before .before .before in
     let z = i .before in
     let s = z .before .before in
     (as-text (plain-text _ _ (size-is (s .args .z) (s .pre .1) _ (z .size-of .ensures)) (is-from (s .args .z) (s .pre .1) (i .if1 .left))) (n .add-number2 .ensures .0), omega (arith, n .add-number2 .ensures .1))
@@ -56,6 +70,9 @@ add-signed-spec =
     add-number-requires
     same-length
     returns
-    add-number-requires-2
+    add-small-requires
     same-length-2
-    returns-2)
+    returns-2
+    add-number-requires-2
+    same-length-3
+    returns-3)
