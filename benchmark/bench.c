@@ -113,11 +113,11 @@ static void start(size_t pages) {
     expect(lots_format(store, size) == 0, "a format");
 }
 
-/* Codes of one byte, from 0x21 on. */
+/* Codes of one byte, from 0x5B on: no capitals. */
 static void one_byte(size_t rows) {
     for (; many < rows; many++) {
         codes[many].len = 1;
-        codes[many].bytes[0] = 0x21 + many;
+        codes[many].bytes[0] = 0x5B + many;
         expect(put(many) == LOTS_NEW, "a put");
     }
 }

@@ -1,4 +1,4 @@
-/* The check of document 01 in plain C, written for speed: what the proved check is measured against. Same rules, same order, same answer word.
+/* The check of document 01, with Item 4 of document 02, in plain C, written for speed: what the proved check is measured against. Same rules, same order, same answer word.
  * A page's slots are read once, then its records in the order in which they lie; the directory is counted once, and what the rows of a prefix need is a
  * difference of two sums. */
 #include <stddef.h>
@@ -77,7 +77,24 @@ APART int rises(const uint8_t *g, const uint8_t *slot) {
     return c < 0 || (c == 0 && v_len < w_len);
 }
 
-/* The n slots: words, ranges, the order of the codes, k shared bits. Each record's length goes into starts, where it begins; *shared gets the shared
+#define EACH(byte) ((byte) * 0x0101010101010101u)
+
+/* The top bit of each byte that is a capital: seven bits from 0x41 on and not from 0x5B on, and no eighth. */
+static inline uint64_t capitals(uint64_t eight) {
+    uint64_t low = eight & EACH(0x7F);
+    return ((low + EACH(0x80 - 0x41)) ^ (low + EACH(0x80 - 0x5B))) & ~eight & EACH(0x80);
+}
+
+/* Whether a code has no capital. Before a code lie the eight bytes of its place. */
+static inline int folded(const uint8_t *code, uint32_t len) {
+    uint64_t last = get64(code + len - 8), any;
+    if (len < 8) last &= ~(UINT64_MAX >> 8 * len);
+    any = capitals(last);
+    for (uint32_t i = 0; i + 8 < len; i += 8) any |= capitals(get64(code + i));
+    return any == 0;
+}
+
+/* The n slots: words, ranges, the order of the codes, no capital in them, k shared bits. Each record's length goes into starts, where it begins; *shared gets the shared
  * bits. All lengths together; 0 where a rule fails. */
 APART uint32_t slots(const uint8_t *g, uint32_t n, uint32_t frontier, uint32_t k, uint8_t *starts, uint32_t *shared) {
     const uint8_t *slot = g + PAGE - 4, *end = slot - 4 * n;
@@ -89,6 +106,7 @@ APART uint32_t slots(const uint8_t *g, uint32_t n, uint32_t frontier, uint32_t k
         uint64_t eight = l < 16 ? 0 : __builtin_bswap64(get64(g + o + 8));
         if (last >= eight && !rises(g, slot)) return 0;
         last = l < 16 ? UINT64_MAX : eight;
+        if (!folded(g + o + 8, l - 8)) return 0;
         starts[o] = l;
         uint32_t h = hash(g + o + 8, l - 8);
         in_one |= h;

@@ -13,7 +13,7 @@
 enum { PAGE = 1024, MOST = 258 * PAGE + 4 * PAGE, POOL = 12000 };
 
 static uint64_t state;
-static uint64_t steps, refused[16], inspected[16], in_batch[16], reached[9], joins, splits;
+static uint64_t steps, refused[16], inspected[16], in_batch[16], reached[9], joins, splits, respelled, capitals;
 static const int numbers[] = {1, 2, 3, 4, 5, 6, 7, 8, 9, 12, 13, 14};
 enum { NUMBERS = sizeof numbers / sizeof *numbers };
 
@@ -164,13 +164,19 @@ static struct {
     size_t len;
 } pool[POOL];
 
-/* Lengths from `least` to `most`; only codes whose hash begins with the `bits` bits of `value`. */
+static int capital(uint8_t b) { return b >= 'A' && b <= 'Z'; }
+static int letter(uint8_t b) { return b >= 'a' && b <= 'z'; }
+
+/* Lengths from `least` to `most`, without capitals; only codes whose hash begins with the `bits` bits of `value`. */
 static size_t fill_pool(size_t many, size_t least, size_t most, int bits, uint32_t value) {
     size_t n = 0;
     while (n < many) {
         size_t len = least + below(most - least + 1);
         uint8_t code[64];
-        for (size_t i = 0; i < len; i++) code[i] = draw();
+        for (size_t i = 0; i < len; i++) {
+            code[i] = below(3) ? draw() : 'a' + below(26);
+            if (capital(code[i])) code[i] += 32;
+        }
         if (bits > 0 && ref_hash(code, len) >> (32 - bits) != value) continue;
         memcpy(pool[n].code, code, len);
         pool[n++].len = len;
@@ -178,10 +184,14 @@ static size_t fill_pool(size_t many, size_t least, size_t most, int bits, uint32
     return n;
 }
 
+/* One of the pool, in one of its spellings. */
 static void pick(struct call *c, size_t many) {
     size_t i = below(many);
     memcpy(c->code, pool[i].code, pool[i].len);
     c->code_len = pool[i].len;
+    if (below(2)) return;
+    for (size_t b = 0; b < c->code_len; b++)
+        if (letter(c->code[b]) && below(2)) c->code[b] -= 32, respelled++;
 }
 
 static void random_place(struct call *c) {
@@ -280,10 +290,30 @@ static void history(size_t pages, size_t many, int rounds, int each) {
         }
 }
 
+/* A letter of a stored code becomes a capital: its page breaks a rule, for the check and for inspection. */
+static void stored_capitals(size_t len, int times) {
+    for (int t = 0; t < times; t++) {
+        size_t p = 2 + below(len / PAGE - 2);
+        uint8_t *g = ours + p * PAGE;
+        if (g[0] != 1) continue;
+        const uint8_t *slot = g + PAGE - 4 * (1 + below(g[2] | g[3] << 8));
+        uint32_t w = slot[0] | slot[1] << 8 | slot[2] << 16 | (uint32_t)slot[3] << 24;
+        size_t at = p * PAGE + (w & 0x3FFF) + 8 + below((w >> 14 & 0x3FFF) - 8);
+        if (!letter(ours[at])) continue;
+        struct call check = {.kind = CHECK}, inspect = {.kind = INSPECT, .at = p, .page_len = PAGE, .out_len = 64};
+        ours[at] = theirs[at] -= 32;
+        if (lots_refusal_page(both(&check, len)) != p) fail("the page of a stored capital", lots_refusal_page(lots_check(ours, len)), p);
+        if (both(&inspect, len) != (LOTS_REFUSED | 2)) fail("the inspection of a stored capital", 0, 2);
+        ours[at] = theirs[at] += 32;
+        capitals++;
+    }
+}
+
 /* Every call on a store with some bytes changed. */
 static void damage(size_t len, int times, size_t many) {
     static uint8_t sound[MOST];
     memcpy(sound, ours, len);
+    stored_capitals(len, times);
     for (int t = 0; t < times; t++) {
         int flips = 1 + below(3);
         size_t at = 0;
@@ -343,6 +373,34 @@ static void modes(int bits, uint32_t value, unsigned number) {
         expect("a new code, a broken store", put_as(13, m, len), LOTS_BAD_PAGE);
     }
     expect("no mode, a broken store", put_as(5, UINT64_MAX, len), LOTS_BAD_MODE);
+}
+
+/* Every byte value in a code: put, looked up in both spellings, listed folded, known under the other spelling, and removed by it. */
+static void spellings(void) {
+    size_t len = 20 * PAGE;
+    format(len);
+    for (int v = 0; v < 256; v++) {
+        struct call c = {.kind = PUT, .code = {'7', v, 'k', 'K'}, .code_len = 4, .page = v, .slot = 2, .volume = 3, .mode = LOTS_EITHER}, d = c;
+        d.code[1] = letter(v) ? v - 32 : capital(v) ? v + 32 : v;
+        d.code[2] = 'K', d.code[3] = 'k';
+        uint64_t r = both(&c, len);
+        if (lots_refusal(r) || (r != LOTS_NEW) != letter(v)) fail("whether a spelling is new", r, letter(v));
+        d.mode = LOTS_ONLY_NEW;
+        expect("the other spelling, only new", both(&d, len), LOTS_KNOWN_CODE);
+        c.kind = d.kind = LOOKUP;
+        if (lots_place_page(both(&c, len)) != v || lots_place_page(both(&d, len)) != v) fail("a lookup in both spellings", v, v);
+    }
+    if (lots_count(ours, len) != 256 - 26) fail("the number of lots", lots_count(ours, len), 256 - 26);
+    struct call row = {.kind = ROW, .out_len = 64};
+    for (; row.n < 256 - 26; row.n++) {
+        expect("a listed row", both(&row, len), 0);
+        for (int b = 0; b < 4; b++)
+            if (capital(our_out[b])) fail("a listed code", our_out[b], our_out[b] + 32);
+    }
+    for (int v = 0; v < 256; v++) {
+        struct call c = {.kind = REMOVE, .code = {'7', v, 'K', 'k'}, .code_len = 4};
+        expect("a remove by another spelling", both(&c, len), letter(v) ? LOTS_NO_CODE : 0);
+    }
 }
 
 /* ---- batches */
@@ -522,6 +580,7 @@ int main(int argc, char **argv) {
     nothing_lent();
     modes(0, 0, LOTS_PAGES_FULL);
     modes(8, below(256), LOTS_PREFIX_FULL);
+    spellings();
     for (int k = 0; k < scale; k++) {
         many = fill_pool(60, 1, 3, 0, 0), history(3, many, 4, 400), damage(3 * PAGE, 400, many);
         many = fill_pool(40, 60, 64, 0, 0), history(3 + below(4), many, 4, 300);
@@ -555,6 +614,10 @@ int main(int argc, char **argv) {
             printf("compare: no put of a batch was refused with %d\n", i);
             return 1;
         }
+    if (respelled == 0 || capitals == 0) {
+        printf("compare: no code was spelled anew, or no capital stored\n");
+        return 1;
+    }
     if (reached[8] == 0) {
         printf("compare: depth 8 was never reached\n");
         return 1;

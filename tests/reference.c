@@ -31,6 +31,13 @@ uint32_t ref_hash(const uint8_t *code, size_t len) {
     return h;
 }
 
+/* One lot, two spellings: bytes 0x41 to 0x5A of a given code become 0x61 to 0x7A. */
+static uint8_t fold_byte(uint8_t b) { return b >= 0x41 && b <= 0x5A ? b + 0x20 : b; }
+
+static void fold(uint8_t *folded, const uint8_t *code, size_t len) {
+    for (size_t i = 0; i < len; i++) folded[i] = fold_byte(code[i]);
+}
+
 static uint32_t prefix(uint32_t hash, int bits) { return bits == 0 ? 0 : hash >> (32 - bits); }
 
 struct row {
@@ -83,6 +90,8 @@ static int bucket_rows(const uint8_t *g, int page, struct row *out) {
         memcpy(r->place, g + start, 8);
         r->len = len - 8;
         memcpy(r->code, g + start + 8, r->len);
+        for (int b = 0; b < r->len; b++)
+            if (r->code[b] != fold_byte(r->code[b])) return -1;
         r->hash = ref_hash(r->code, r->len);
         r->page = page;
         r->start = start;
@@ -274,7 +283,9 @@ uint64_t ref_lookup(const uint8_t *s, size_t len, const uint8_t *code, size_t co
     if (code_len == 0 || code_len > 64) return refusal(3);
     uint64_t bad = read_store(s, len);
     if (bad) return bad;
-    int at = find(code, code_len);
+    uint8_t folded[64];
+    fold(folded, code, code_len);
+    int at = find(folded, code_len);
     return at < 0 ? refusal(5) : place_word(rows[at].place);
 }
 
@@ -428,11 +439,12 @@ uint64_t ref_put(uint8_t *s, size_t len, const uint8_t *code, size_t code_len, i
     if (mode != 0 && mode != 1 && mode != 2) return refusal(14);
     uint64_t bad = read_store(s, len);
     if (bad) return bad;
-    uint8_t place[8];
+    uint8_t folded[64], place[8];
+    fold(folded, code, code_len);
     set_number(place, 4, page);
     set_number(place + 4, 2, slot);
     set_number(place + 6, 2, volume);
-    int known = find(code, code_len);
+    int known = find(folded, code_len);
     if (known >= 0 && mode == 1) return refusal(13);
     if (known < 0 && mode == 2) return refusal(5);
     if (known >= 0) {
@@ -443,10 +455,10 @@ uint64_t ref_put(uint8_t *s, size_t len, const uint8_t *code, size_t code_len, i
     int pages = len / PAGE, were = partition(rows, row_count, before);
     struct row *r = rows + row_count++;
     memset(r, 0, sizeof *r);
-    memcpy(r->code, code, code_len);
+    memcpy(r->code, folded, code_len);
     r->len = code_len;
     memcpy(r->place, place, 8);
-    r->hash = ref_hash(code, code_len);
+    r->hash = ref_hash(folded, code_len);
     if (needs_of(rows, row_count, DEEPEST, prefix(r->hash, DEEPEST)) > CAPACITY) return refusal(6);
     int are = partition(rows, row_count, after), old = 0, depth = 0;
     if (are > pages - 2) return refusal(7);
@@ -495,7 +507,9 @@ uint64_t ref_remove(uint8_t *s, size_t len, const uint8_t *code, size_t code_len
     if (code_len == 0 || code_len > 64) return refusal(3);
     uint64_t bad = read_store(s, len);
     if (bad) return bad;
-    int at = find(code, code_len);
+    uint8_t folded[64];
+    fold(folded, code, code_len);
+    int at = find(folded, code_len);
     if (at < 0) return refusal(5);
     struct row gone = rows[at];
     rows[at] = rows[--row_count];

@@ -1,4 +1,4 @@
-// Whether bytes are a bucket page: the rules of its bytes by page_ok, the shared bits of its hashes slot by slot.
+// Whether bytes are a bucket page: the rules of its bytes by page_ok, capitals and the shared bits of its hashes slot by slot.
 ghost use mathlib.Core.Path.{_≡_};
 ghost use mathlib.Core.Bool.{true, false};
 ghost use Prim.Native.Nat.{_+_, _*_, _-_, _^_, _≤_, _<_};
@@ -13,7 +13,7 @@ ghost use Rattle.page.specs.Page.{BucketPage, depth, count, frontier, code};
 ghost use Rattle.page_check.specs.Rules.{HeadOk, NaturalAt, WordOk, SlotsOk, offOf, lenOf};
 ghost use Rattle.page_check.specs.Table.{Table, Inside, Laid, NextOk};
 ghost use Rattle.page_check.specs.Big.{big, Stretch, Lead};
-ghost use Rattle.page_check.specs.Shared.{Alike, Share, Keeps};
+ghost use Rattle.page_check.specs.Shared.{Spelled, Alike, Share, Keeps};
 use words::Order;
 
 // Size, byte 0, row count, and a frontier that leaves room for a record and for the slots.
@@ -248,7 +248,7 @@ fn records_ok(page: &[u8], tab: &mut [u8], n: usize, f: usize) -> bool
     words::all_zero(&page[f..e])
 }
 
-// Whether the page keeps the rules of a bucket page (but for the hashes' shared bits). tab is scratch of the page's length, zero before and after.
+// Whether the page keeps the rules of a bucket page (but for capitals and the hashes' shared bits). tab is scratch of the page's length, zero before and after.
 pub fn page_ok(page: &[u8], tab: &mut [u8]) -> bool
     requires { ⌜ (length (now tab) ≡ length (now page)) × Zero (now tab) ⌝ }
     ensures says { λ r. ⌜ Says r (BucketPage (now (page .entry))) ⌝ }
@@ -264,6 +264,22 @@ pub fn page_ok(page: &[u8], tab: &mut [u8]) -> bool
     }
     words::clear(tab, 8, f);
     false
+}
+
+// Whether no code of a bucket page has a capital.
+pub fn spelled_ok(page: &[u8]) -> bool
+    requires { ⌜ BucketPage (now page) ⌝ }
+    ensures { λ r. ⌜ Says r (Spelled (now (page .entry))) ⌝ }
+{
+    let n = words::get16(page, 2);
+    let mut i = 0;
+    while i < n {
+        if !words::folded(page::code_at(page, i)) {
+            return false;
+        }
+        i += 1;
+    }
+    true
 }
 
 // The hash of slot i's code.
@@ -315,6 +331,9 @@ pub fn bucket_ok(page: &[u8], tab: &mut [u8], deepest: u8) -> bool
         return false;
     }
     if deepest < page[1] {
+        return false;
+    }
+    if !spelled_ok(page) {
         return false;
     }
     share_ok(page)

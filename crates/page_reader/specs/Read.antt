@@ -8,7 +8,7 @@ use Rattle.page_check.specs.Shared.{Keeps}
 use Rattle.store.specs.Pages.{S1024, size, read, rowsOn}
 use Rattle.store.specs.Tables.{Out, refusedAt, rowOf}
 
--- a bucket page of the store's size: its rules, shared hash bits included, local depth 0 to 8
+-- a bucket page of the store's size: its rules, no capital and shared hash bits included, local depth 0 to 8
 pub record SoundBucket (g : List ℕ) : Type 0 where
   pub long : length g ≡ size S1024
   pub keeps : Keeps (S1024 .deepest) g

@@ -10,6 +10,7 @@ use lib.ListN.{length}
 use Rattle.ground.proofs.Tests.{none-some}
 use Rattle.ground.specs.Ladder.{Answers}
 use Rattle.hash.specs.Fnv.{fnv, fnv-lt}
+use Rattle.words.specs.Folds.{fold}
 use Rattle.partition.specs.Partition.{buckets}
 use Rattle.page.specs.declared.Place.{Place}
 use Rattle.page.specs.Places.{place, stored, Negative}
@@ -26,6 +27,7 @@ use Rattle.store.proofs.Demands.Modes.{is-known, is-absent, let-new}
 use Rattle.store.proofs.Demands.Order.{good-length, whole-pages}
 use Rattle.store.proofs.Demands.Whole.{demand-1, demand-2, demand-3}
 use Rattle.store.proofs.Demands.Choice.{put-chooses, remove-chooses}
+use Rattle.store.proofs.Demands.Spellings.{one-lot}
 use Rattle.store.proofs.Result.Total.{answered-always}
 use Rattle.promises.specs.Promises.{First, joining, near, Fair, PutSays, Second, Third, Promised}
 
@@ -82,7 +84,7 @@ module _ (s c : List ℕ) (p : Place) (m : ℕ) (o : Out) (t : List ℕ) (a : Ac
 
   module _ (fair : Fair c p m) where
     -- past the refusals before 13
-    past : (x : Out) → Answers (putByMode S1024 fnv s m (record { code = c; place = stored p })) (x, s) → o ≡ x
+    past : (x : Out) → Answers (putByMode S1024 fnv s m (record { code = fold c; place = stored p })) (x, s) → o ≡ x
     unfolding putTable
     past x w = only x s (inr (
       (λ _ r. r (a .long)),
@@ -90,26 +92,26 @@ module _ (s c : List ℕ) (p : Place) (m : ℕ) (o : Out) (t : List ℕ) (a : Ac
     ))
 
     -- a put that is not refused answers as the map says
-    answers : (Refuses S1024 fnv s c p m → ⊥) → o ≡ putAnswer (map-of S1024 s c)
+    answers : (Refuses S1024 fnv s c p m → ⊥) → o ≡ putAnswer (map-of S1024 s (fold c))
     answers f = go (ok o) refl
       where
-        go : (b : Bool) → ok o ≡ b → o ≡ putAnswer (map-of S1024 s c)
+        go : (b : Bool) → ok o ≡ b → o ≡ putAnswer (map-of S1024 s (fold c))
         go true e = demand-2 S1024 fnv sized-1024 fnv-lt .2 s c p m o t a made .0 e .0
         go false e = absurd (f (demand-2 S1024 fnv sized-1024 fnv-lt .4 s c p m o t a made .0 e))
 
-    says-thirteen : m ≡ 1 → (b : List ℕ) → map-of S1024 s c ≡ some b → o ≡ refused 13
-    says-thirteen e b k = past (refused 13) (is-known S1024 fnv s m (record { code = c; place = stored p }) b k e)
+    says-thirteen : m ≡ 1 → (b : List ℕ) → map-of S1024 s (fold c) ≡ some b → o ≡ refused 13
+    says-thirteen e b k = past (refused 13) (is-known S1024 fnv s m (record { code = fold c; place = stored p }) b k e)
 
-    says-known : (m ≡ 1 → ⊥) → (b : List ℕ) → map-of S1024 s c ≡ some b → o ≡ replaced (place b)
+    says-known : (m ≡ 1 → ⊥) → (b : List ℕ) → map-of S1024 s (fold c) ≡ some b → o ≡ replaced (place b)
     says-known n b e = answers (unrefused S1024 fnv s c p m (fair .coded) (fair .placed) (fair .moded) (λ x _ _. n x) (λ x. absurd (none-some x e))) ∙ ap putAnswer e
 
-    says-five : m ≡ 2 → map-of S1024 s c ≡ none → o ≡ refused 5
-    says-five e k = past (refused 5) (is-absent S1024 fnv s m (record { code = c; place = stored p }) k e)
+    says-five : m ≡ 2 → map-of S1024 s (fold c) ≡ none → o ≡ refused 5
+    says-five e k = past (refused 5) (is-absent S1024 fnv s m (record { code = fold c; place = stored p }) k e)
 
-    module _ (n : m ≡ 2 → ⊥) (e : map-of S1024 s c ≡ none) where
+    module _ (n : m ≡ 2 → ⊥) (e : map-of S1024 s (fold c) ≡ none) where
       -- past the mode
-      through : (x : Out) → Answers (putAccepted S1024 fnv s (record { code = c; place = stored p })) (x, s) → o ≡ x
-      through x w = past x (let-new S1024 fnv s m (record { code = c; place = stored p }) e n (x, s) w)
+      through : (x : Out) → Answers (putAccepted S1024 fnv s (record { code = fold c; place = stored p })) (x, s) → o ≡ x
+      through x w = past x (let-new S1024 fnv s m (record { code = fold c; place = stored p }) e n (x, s) w)
 
       says-six : 1016 < near s c p → o ≡ refused 6
       says-six l = through (refused 6) (inr ((λ b f. none-some e f), inl (tt, (l, refl))))
@@ -146,6 +148,8 @@ second =
       put-refused = d .4;
       put-says = put-says;
       either-as-before = d .12;
+      same-lot = one-lot S1024 fnv sized-1024 fnv-lt .0;
+      stored-folded = one-lot S1024 fnv sized-1024 fnv-lt .1;
       listed-once = d .5;
       count = d .6;
       row = d .7;

@@ -8,6 +8,7 @@ use Prim.Native.Nat.{ℕ, _-_, _*_, _/_, _≤_, _<_}
 use lib.ListN.{length}
 use Rattle.ground.specs.Ladder.{Answers}
 use Rattle.hash.specs.Fnv.{fnv}
+use Rattle.words.specs.Folds.{fold}
 use Rattle.partition.specs.Bits.{top}
 use Rattle.partition.specs.Partition.{Row, needs, rowsOf, buckets}
 use Rattle.page.specs.declared.Place.{Place}
@@ -18,6 +19,7 @@ use Rattle.store.specs.Accepted.{GoodLength, Accepted}
 use Rattle.store.specs.Tables.{Out, refused, formatted, new, replaced, meaning, rowTable, inspectTable}
 use Rattle.store.specs.Demands.{Call, format, put as a-put, Made, ok, surviving, GoodCode, Mode, map-of, Answered, WholePages, RefusedInOrder, FormatSucceeds, RefusalKeeps, OutputKept, CheckExact, LookupIsMap, PutIsMap, RemoveIsMap, PutRefused, EitherAsBefore, ListedOnce, CountIsSize, RowIsListed, InspectIsSlot, PlaceComesBack, AcceptedAgain, FormatAccepted, AfreshAlways, SameRefusals, KeptPages}
 use Rattle.store.specs.Choice.{PutChooses, RemoveChooses}
+use Rattle.store.specs.Spellings.{SameLot, StoredFolded}
 
 -- a finished promise: for every input the answer and each byte of store and output are settled, refused calls too; so is the enum's case
 pub record Settled : Type 0 where
@@ -37,12 +39,12 @@ pub record First : Type 0 where
   pub store-kept : RefusalKeeps S1024 fnv
   pub output-kept : OutputKept S1024 fnv
 
--- the rows of s with the row (c, p), and what those of them need that share its first 8 bits
+-- the rows of s with the row of the code c, folded, at p, and what those of them need that share its first 8 bits
 abbrev pub joining : List ℕ → List ℕ → Place → List Row
-joining s c p = record { code = c; place = stored p } ∷ rowsHeld S1024 s
+joining s c p = record { code = fold c; place = stored p } ∷ rowsHeld S1024 s
 
 abbrev pub near : List ℕ → List ℕ → Place → ℕ
-near s c p = needs (rowsOf fnv (joining s c p) 8 (top 8 (fnv c)))
+near s c p = needs (rowsOf fnv (joining s c p) 8 (top 8 (fnv (fold c))))
 
 -- a put that is refused for nothing it is given: a code, a place and a mode as they must be
 pub record Fair (c : List ℕ) (p : Place) (m : ℕ) : Type 0 where
@@ -55,12 +57,12 @@ pub record PutSays (s c : List ℕ) (p : Place) (m : ℕ) (o : Out) : Type 0 whe
   pub three : (GoodCode c → ⊥) → o ≡ refused 3
   pub four : GoodCode c → Negative p → o ≡ refused 4
   pub fourteen : GoodCode c → (Negative p → ⊥) → (Mode m → ⊥) → o ≡ refused 14
-  pub thirteen : Fair c p m → m ≡ 1 → (b : List ℕ) → map-of S1024 s c ≡ some b → o ≡ refused 13
-  pub known : Fair c p m → (m ≡ 1 → ⊥) → (b : List ℕ) → map-of S1024 s c ≡ some b → o ≡ replaced (place b)
-  pub five : Fair c p m → m ≡ 2 → map-of S1024 s c ≡ none → o ≡ refused 5
-  pub six : Fair c p m → (m ≡ 2 → ⊥) → map-of S1024 s c ≡ none → 1016 < near s c p → o ≡ refused 6
-  pub seven : Fair c p m → (m ≡ 2 → ⊥) → map-of S1024 s c ≡ none → near s c p ≤ 1016 → length s / 1024 - 2 < length (buckets S1024 fnv (joining s c p)) → o ≡ refused 7
-  pub otherwise : Fair c p m → (m ≡ 2 → ⊥) → map-of S1024 s c ≡ none → near s c p ≤ 1016 → length (buckets S1024 fnv (joining s c p)) ≤ length s / 1024 - 2 → o ≡ new
+  pub thirteen : Fair c p m → m ≡ 1 → (b : List ℕ) → map-of S1024 s (fold c) ≡ some b → o ≡ refused 13
+  pub known : Fair c p m → (m ≡ 1 → ⊥) → (b : List ℕ) → map-of S1024 s (fold c) ≡ some b → o ≡ replaced (place b)
+  pub five : Fair c p m → m ≡ 2 → map-of S1024 s (fold c) ≡ none → o ≡ refused 5
+  pub six : Fair c p m → (m ≡ 2 → ⊥) → map-of S1024 s (fold c) ≡ none → 1016 < near s c p → o ≡ refused 6
+  pub seven : Fair c p m → (m ≡ 2 → ⊥) → map-of S1024 s (fold c) ≡ none → near s c p ≤ 1016 → length s / 1024 - 2 < length (buckets S1024 fnv (joining s c p)) → o ≡ refused 7
+  pub otherwise : Fair c p m → (m ≡ 2 → ⊥) → map-of S1024 s (fold c) ≡ none → near s c p ≤ 1016 → length (buckets S1024 fnv (joining s c p)) ≤ length s / 1024 - 2 → o ≡ new
 
 -- 2. The check accepts exactly the stores that document 01 describes. On an accepted store, lookup, put, remove and listing answer as a plain map from code to
 -- row place, save that a put is refused exactly when the table says. Each row is listed once, and the store is accepted again afterwards.
@@ -73,6 +75,9 @@ pub record Second : Type 0 where
   pub put-says : (s c : List ℕ) (p : Place) (m : ℕ) (o : Out) (t : List ℕ) → Accepted S1024 fnv s → Made S1024 fnv (a-put c p m) s o t → PutSays s c p m o
   -- mode 0 behaves as before
   pub either-as-before : EitherAsBefore S1024 fnv
+  -- two spellings are the same lot; every stored and every listed code is folded
+  pub same-lot : SameLot S1024 fnv
+  pub stored-folded : StoredFolded S1024 fnv
   pub listed-once : ListedOnce S1024 fnv
   pub count : CountIsSize S1024 fnv
   pub row : RowIsListed S1024 fnv

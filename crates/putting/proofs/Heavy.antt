@@ -29,6 +29,7 @@ use Rattle.store.proofs.Accepted.Rules.{opened}
 use Rattle.store.proofs.Showing.Shown.{page-row}
 use Rattle.store.proofs.Showing.Showing.{accepted-shows, pages-held}
 use Rattle.store.proofs.Accepted.Unique.{page-long}
+use Rattle.store.proofs.Accepted.Spelled.{held-folded, one-more}
 use Rattle.store.proofs.Accepted.Reading.{Naming, place-on}
 use Rattle.store.proofs.Paging.PageTies.{found-not, fits-needs}
 use Rattle.store.proofs.Put.PutCases.{here-six, splits-seven, put-splits-is}
@@ -185,7 +186,7 @@ module _ (S : Shape) (h : List ℕ → ℕ) (hash : Hash h) (s : List ℕ) (p i 
                 (λ _. six),
                 inr (
                   (λ _. seven),
-                  (refl, rw (← holds) (settled S sized h hash s A t (W .pages) u D (r ∷ rowsHeld S s) (rw holds (put-shown S h sized hash s r A absent six seven)) b)),
+                  (refl, rw (← holds) (settled S sized h hash s A t (W .pages) u D (r ∷ rowsHeld S s) (rw holds (put-shown S h sized hash s r A absent six seven)) (one-more r _ (P .folded) (held-folded S h sized hash s A)) b)),
                 ),
               ),
             )

@@ -3,6 +3,8 @@ ghost use Rattle.ground.specs.Ladder.{Answers};
 ghost use Prim.Native.Nat.{_≤_};
 ghost use lib.ListN.{length};
 ghost use Rattle.hash.specs.Fnv.{fnv};
+ghost use Rattle.words.specs.Codes.{GoodCode};
+ghost use Rattle.words.specs.Folds.{fold};
 ghost use Rattle.partition.specs.Listing.{listing};
 ghost use mathlib.Core.Path.{_≡_};
 ghost use Rattle.page.specs.Page.{rowAt};
@@ -71,8 +73,8 @@ pub fn count(s: &[u8]) -> Answer
     Answer::Rows(spots::count_rows(s, partition::S1024, n))
 }
 
-// The place of a code, on an accepted store.
-pub fn place_of(s: &[u8], z: Shape, key: &[u8]) -> Answer
+// The place of a code as it is stored, on an accepted store.
+fn place_of_folded(s: &[u8], z: Shape, key: &[u8]) -> Answer
     requires { ⌜ Sized z × Accepted z fnv (now s) ⌝ }
     ensures { λ r. ⌜ Answers (lookedUp z (now (s .entry)) (now (key .entry))) (meaning r) ⌝ }
 {
@@ -85,6 +87,17 @@ pub fn place_of(s: &[u8], z: Shape, key: &[u8]) -> Answer
         }
         Spot::Nowhere => Answer::Refused(Refusal::NoCode),
     }
+}
+
+// The place of a given code, on an accepted store.
+pub fn place_of(s: &[u8], z: Shape, key: &[u8]) -> Answer
+    requires { ⌜ Sized z × Accepted z fnv (now s) × GoodCode (now key) ⌝ }
+    ensures { λ r. ⌜ Answers (lookedUp z (now (s .entry)) (fold (now (key .entry)))) (meaning r) ⌝ }
+{
+    let n = key.len();
+    let mut low = [0u8; 64];
+    words::fold_code(&mut low, key);
+    place_of_folded(s, z, &low[0..n])
 }
 
 // The place of a code.

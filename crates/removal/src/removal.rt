@@ -2,6 +2,8 @@
 ghost use mathlib.Core.Path.{_≡_};
 ghost use Rattle.ground.specs.Ladder.{Answers};
 ghost use Rattle.hash.specs.Fnv.{fnv};
+ghost use Rattle.words.specs.Codes.{GoodCode};
+ghost use Rattle.words.specs.Folds.{fold};
 ghost use Rattle.store.specs.Pages.{S1024, contents};
 ghost use Rattle.store.specs.Accepted.{Accepted};
 ghost use Rattle.store.specs.Moves.{removed};
@@ -40,8 +42,8 @@ fn take_out(s: &mut [u8], z: Shape, p: usize, i: usize, key: &[u8], scratch: &mu
     page::remove_slot(&mut s[a..e], i);
 }
 
-// Remove on an accepted store; a page is lent, on which rows that join are gathered, and comes back as it was.
-pub fn remove_row(s: &mut [u8], z: Shape, key: &[u8], scratch: &mut [u8]) -> store::Answer
+// Remove of a code as it is stored, on an accepted store; a page is lent, on which rows that join are gathered, and comes back as it was.
+fn remove_folded(s: &mut [u8], z: Shape, key: &[u8], scratch: &mut [u8]) -> store::Answer
     requires { ⌜ Scratch z (now scratch) × Accepted z fnv (now s) ⌝ }
     ensures answers { λ r. ⌜ Answers (removeAccepted z fnv (now (s .entry)) (now (key .entry))) (meaning r, now (s .exit)) ⌝ }
     ensures lent { λ _. ⌜ now (scratch .exit) ≡ now (scratch .entry) ⌝ }
@@ -57,6 +59,18 @@ pub fn remove_row(s: &mut [u8], z: Shape, key: &[u8], scratch: &mut [u8]) -> sto
             store::Answer::Found(old)
         }
     }
+}
+
+// Remove of a given code on an accepted store; a page is lent, as above.
+pub fn remove_row(s: &mut [u8], z: Shape, key: &[u8], scratch: &mut [u8]) -> store::Answer
+    requires { ⌜ Scratch z (now scratch) × Accepted z fnv (now s) × GoodCode (now key) ⌝ }
+    ensures answers { λ r. ⌜ Answers (removeAccepted z fnv (now (s .entry)) (fold (now (key .entry)))) (meaning r, now (s .exit)) ⌝ }
+    ensures lent { λ _. ⌜ now (scratch .exit) ≡ now (scratch .entry) ⌝ }
+{
+    let n = key.len();
+    let mut low = [0u8; 64];
+    words::fold_code(&mut low, key);
+    remove_folded(s, z, &low[0..n], scratch)
 }
 
 // The row of a code goes; its place. Pages of 1,024 bytes.

@@ -46,7 +46,7 @@ module _ (S : Shape) (s dir counts : List ℕ) (n d p : ℕ) (B : Begun S s dir 
   module _ (nz : byte (page S s p) 0 ≡ 0 → ⊥) where
     own-of : Stands S fnv s p → Own (page S s p) d
     own-of (unused a u) = absurd (nz (a 0))
-    own-of (used b k _) = record { rules = b .rules; deep = omega (arith, k, B .depth) }
+    own-of (used b k _) = record { rules = b .rules; folded = b .folded; deep = omega (arith, k, B .depth) }
 
     like-of : Stands S fnv s p → (i : ℕ) → i < count (page S s p) → Like (page S s p) i
     like-of (unused a u) i l = absurd (nz (a 0))
@@ -68,7 +68,7 @@ module _ (S : Shape) (s dir counts : List ℕ) (n d p : ℕ) (B : Begun S s dir 
 
     pub used-stands : Own g d → ((i : ℕ) → i < count g → Like g i) → Named dir d (depth g) (prefixOf g) p → Stands S fnv s p
     used-stands o like names = used
-        (subst (Bucket fnv) e (record { rules = o .rules; share = λ i j l m. sym (like i l) ∙ like j m }))
+        (subst (Bucket fnv) e (record { rules = o .rules; folded = o .folded; share = λ i j l m. sym (like i l) ∙ like j m }))
         (subst (λ x. depth x ≤ dirDepth s) e (omega (arith, o .deep, B .depth)))
         (λ i l. subst (λ x. (entryAt S s i ≡ p) ↔ Calls (dirDepth s) (depth x) (prefixOf x) i) e (
           (λ q. subst (λ k. Calls k (depth g) (prefixOf g) i) (B .depth) (names i (high i l) .0 (B .entries .entry i l ∙ q))),

@@ -34,7 +34,10 @@ fn own_ok(pg: &[u8], tab: &mut [u8], d: u32) -> bool
     if !page_check::page_ok(pg, tab) {
         return false;
     }
-    (pg[1] as u32) <= d
+    if d < pg[1] as u32 {
+        return false;
+    }
+    page_check::spelled_ok(pg)
 }
 
 // The first page that does not stand, or n; and the first hash of each page before it. tab is as for page_check::page_ok.

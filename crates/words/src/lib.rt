@@ -1,10 +1,11 @@
-// Bytes of a slice: little-endian numbers, copies and shifts, zeros, and the byte order of codes.
+// Bytes of a slice: little-endian numbers, copies and shifts, zeros, the byte order of codes, and their folding.
 ghost use mathlib.Core.Path.{_≡_};
 ghost use Prim.Native.Nat.{_+_, _*_, _^_, _≤_, _<_};
 ghost use lib.ListN.{length};
 ghost use Rattle.ground.specs.Says.{Says};
 ghost use Rattle.words.specs.Le.{le16, le32};
 ghost use Rattle.words.specs.Codes.{Ordered};
+ghost use Rattle.words.specs.Folds.{foldByte, fold, Folded};
 ghost use Rattle.words.specs.Moves.{Put16, Put32, Copied, MovedDown, Cleared, MovedUp};
 ghost use Rattle.words.specs.Zeros.{Zero};
 
@@ -147,4 +148,43 @@ pub fn compare(a: &[u8], b: &[u8]) -> Order
         return Order::Less;
     }
     Order::Equal
+}
+
+// A byte from 0x41 to 0x5A becomes one from 0x61 to 0x7A.
+fn fold_byte(x: u8) -> u8
+    ensures { λ r. ⌜ r ≡ foldByte x ⌝ }
+{
+    if x < 0x41 {
+        return x;
+    }
+    if 0x5A < x {
+        return x;
+    }
+    x + 0x20
+}
+
+// The code src, folded, goes to the start of dst.
+pub fn fold_code(dst: &mut [u8], src: &[u8])
+    requires { ⌜ length (now src) ≤ length (now dst) ⌝ }
+    ensures { λ _. ⌜ Copied (now (dst .entry)) 0 (fold (now (src .entry))) (now (dst .exit)) ⌝ }
+{
+    let mut i = 0;
+    while i < src.len() {
+        dst[i] = fold_byte(src[i]);
+        i += 1;
+    }
+}
+
+// Whether a code has no capital.
+pub fn folded(s: &[u8]) -> bool
+    ensures { λ r. ⌜ Says r (Folded (now (s .entry))) ⌝ }
+{
+    let mut i = 0;
+    while i < s.len() {
+        if fold_byte(s[i]) != s[i] {
+            return false;
+        }
+        i += 1;
+    }
+    true
 }

@@ -58,7 +58,7 @@ returns-3 c =
     inr ((λ _ n. n (long (first d))), inr ((λ _ r. no-three _ (good d) r), inl (c .before .first-bad .result, (c .before .first-bad .ensures .bad (c .if3 .taken), refl))))
 
 place-of-requires : tie.Need-place-of-requires
-place-of-requires c κs = (sized-1024, c .before .first-bad .ensures .sound (c .if3 .left))
+place-of-requires c κs = (sized-1024, c .before .first-bad .ensures .sound (c .if3 .left), good (c .before .before))
 
 returns-4 : tie.Need-returns-4
 unfolding lookupTable

@@ -1,101 +1,48 @@
--- `query::place_of` meets its contract. Assumes nothing.
+-- `query::place_of` meets its contract: the code is folded, then looked up. Assumes nothing.
 use denote.Ref.{now}
-use Rattle.ground.proofs.Tests.{none-some}
-use Rattle.query.specs.Spots.{StandsAt}
-use Rattle.query.specs.declared.Spot.the-variants.{Here}
-use borrow.Author.Needs.{needs}
-use mathlib.Core.Path.{_≡_, refl, ap, subst, _∙_}
-use mathlib.Core.List.{List}
-use mathlib.Core.Logic.{inl, inr}
-use mathlib.Core.Option.{none}
-use Prim.Native.Nat.{ℕ}
+use mathlib.Core.Path.{subst}
 use native.Mathlib.Omega.{arith}
-use Rattle.partition.specs.declared.Shape.{Shape}
-use Rattle.partition.specs.Listing.{placeOf}
-use Rattle.page.specs.Page.{place}
-use Rattle.page.specs.Places as Places
-use Rattle.store.specs.Pages.{page}
-use Rattle.store.specs.Tables.{found}
-use Rattle.store.proofs.Paging.Views.{page-lent}
+use borrow.Author.Needs.{needs}
+use Rattle.ground.specs.Ladder.{Answers}
+use Rattle.words.proofs.Folds.{folded-part}
+use Rattle.store.specs.Tables.{lookedUp, meaning}
 use Rattle.query.proofs.place_of.Statement.{statement}
 use Rattle.query.proofs.place_of.Tie as tie
 
--- where the row was found
-module _ (b : tie.After-p) where
-  abbrev S : Shape
-  S = b .before .before .before .before .before .args .z
+slice-aggregate-fold-code : tie.Need-slice-aggregate-fold-code
+slice-aggregate-fold-code c = search needs
 
-  abbrev store : List ℕ
-  store = now (b .before .before .before .before .before .args .s)
+fold-code-requires : tie.Need-fold-code-requires
+fold-code-requires c κs = c .before .before .before .pre .2 .most
 
-  abbrev key : List ℕ
-  key = now (b .before .before .before .before .before .args .key)
+sub-place-of-folded : tie.Need-sub-place-of-folded
+sub-place-of-folded c = search needs
 
-  abbrev page-no : ℕ
-  page-no = b .p .given .0 .0
+part-place-of-folded-start : tie.Need-part-place-of-folded-start
+part-place-of-folded-start c = search needs
 
-  abbrev slot-no : ℕ
-  slot-no = b .p .given .0 .1 .0
+part-place-of-folded-end : tie.Need-part-place-of-folded-end
+part-place-of-folded-end c = omega (arith, c .before .before .before .before .before .before .pre .2 .most)
 
-  here : StandsAt S store key (Here page-no slot-no)
-  here = subst (StandsAt S store key) (b .p .given .1) (b .before .before .find-row .ensures)
-
-find-row-requires : tie.Need-find-row-requires
-find-row-requires c κs = search needs
-
-enum-known-p : tie.Need-enum-known-p
-enum-known-p c = search needs
-
-add-size : tie.Need-add-size
-add-size c = omega (arith, here (c .before .before) .0 .within)
-
-mul-a : tie.Need-mul-a
-mul-a c = omega (arith, here (c .before .before) .0 .within)
-
-add-e : tie.Need-add-e
-add-e c = omega (arith, here (c .before .before) .0 .within)
-
-sub-read-place : tie.Need-sub-read-place
-sub-read-place c = search needs
-
-part-read-place-start : tie.Need-part-read-place-start
-part-read-place-start c = search needs
-
-part-read-place-end : tie.Need-part-read-place-end
-part-read-place-end c = omega (arith, here (c .before .before) .0 .within)
-
-read-place-requires : tie.Need-read-place-requires
-read-place-requires c κs = let b = c .before .before .before in
-    let w = here b .0 in
-    rw (page-lent (S b) (store b) (page-no b)) (w .rules .rules, omega (arith, w .slot))
-
-enum-told : tie.Need-enum-told
-enum-told c = search needs
+place-of-folded-requires : tie.Need-place-of-folded-requires
+place-of-folded-requires c κs = let z = c .before .before .before .before .before .before .before in (z .pre .0, z .pre .1)
 
 returns : tie.Need-returns
-returns c = let b = c .before .before .before .before in
-    let e : c .read-place .result ≡ Places.place (place (page (S b) (store b) (page-no b)) (slot-no b)) =
-    c .read-place .ensures ∙ ap (λ g. Places.place (place g (slot-no b))) (page-lent (S b) (store b) (page-no b)) in
-    inl (place (page (S b) (store b) (page-no b)) (slot-no b), (here b .2, ap found e))
-
-returns-2 : tie.Need-returns-2
-returns-2 c = let f = c .before .before in
-    let e : placeOf _ _ ≡ none = subst (StandsAt _ _ _) (c .enum-told .given .1) (f .find-row .ensures) in
-    inr ((λ b q. none-some e q), refl)
+returns c =
+    let w = c .before .before .before .before in
+    let z = w .before .before .before .before in
+    let f = w .fold-code in
+    subst (λ x. Answers (lookedUp (z .args .z) (now (z .args .s)) x) (meaning (c .place-of-folded .result)))
+    (folded-part _ (now (z .args .key)) (f .last .0) (f .ensures) (omega (arith, f .ensures .old .len, z .pre .2 .most))) (c .place-of-folded .ensures)
 
 pub place-of-spec : {M : Type 1} → statement M
 place-of-spec =
     tie.close
     (tie.spec
-    find-row-requires
-    enum-known-p
-    add-size
-    mul-a
-    add-e
-    sub-read-place
-    part-read-place-start
-    part-read-place-end
-    read-place-requires
-    enum-told
-    returns
-    returns-2)
+    slice-aggregate-fold-code
+    fold-code-requires
+    sub-place-of-folded
+    part-place-of-folded-start
+    part-place-of-folded-end
+    place-of-folded-requires
+    returns)

@@ -36,7 +36,7 @@ returns-2 : tie.Need-returns-2
 returns-2 c = finds-3 S1024 fnv _ (sound (c .before .before)) _ (uncoded c)
 
 place-of-requires : tie.Need-place-of-requires
-place-of-requires c κs = (sized-1024, sound (c .before .before))
+place-of-requires c κs = (sized-1024, sound (c .before .before), coded c)
 
 returns-3 : tie.Need-returns-3
 returns-3 c = finds S1024 fnv _ (sound (c .before .before .before)) _ _ (coded (c .before)) (c .place-of .ensures)

@@ -43,7 +43,7 @@ slice-aggregate-remove-row : tie.Need-slice-aggregate-remove-row
 slice-aggregate-remove-row c = search needs
 
 remove-row-requires : tie.Need-remove-row-requires
-remove-row-requires c κs = (record { sized = sized-1024; blank = refl }, sound (c .before .before .before .before))
+remove-row-requires c κs = (record { sized = sized-1024; blank = refl }, sound (c .before .before .before .before), coded (c .before .before))
 
 same-length-2 : tie.Need-same-length-2
 same-length-2 c = search needs

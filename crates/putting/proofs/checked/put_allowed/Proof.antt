@@ -5,6 +5,7 @@ use Rattle.store.specs.Pages.{S1024}
 use Rattle.page.proofs.Stored.{stored-natural}
 use Rattle.page.specs.Places.{InRange}
 use Rattle.page.specs.Page.{Natural}
+use Rattle.words.specs.Folds.{fold}
 use Rattle.hash.specs.Fnv.{fnv}
 use Rattle.ground.specs.Ladder.{Answers}
 use denote.Ref.{now}
@@ -24,11 +25,11 @@ slice-aggregate-store-place c = search needs
 store-place-requires : tie.Need-store-place-requires
 store-place-requires c κs = (refl, c .before .before .before .pre .natural)
 
-slice-aggregate-put-row : tie.Need-slice-aggregate-put-row
-slice-aggregate-put-row c = search needs
+slice-aggregate-put-given : tie.Need-slice-aggregate-put-given
+slice-aggregate-put-given c = search needs
 
-put-row-requires : tie.Need-put-row-requires
-put-row-requires c κs =
+put-given-requires : tie.Need-put-given-requires
+put-given-requires c κs =
     let w = c .before .before .before in
     let z = w .before .before .before .before in
     record {
@@ -43,10 +44,10 @@ same-length c = search needs
 
 returns : tie.Need-returns
 returns c =
-    let w = c .before .before .put-row in
+    let w = c .before .before .put-given in
     let y = c .before .before .before .before .before .before in
     let z = y .before .before .before .before in
-    subst (λ x. Answers (putByMode S1024 fnv (now (z .args .s)) (z .args .mode) (newRow (now (z .args .key)) x)) (meaning (w .result), w .last .0)) (y .store-place .ensures) (w .ensures)
+    subst (λ x. Answers (putByMode S1024 fnv (now (z .args .s)) (z .args .mode) (newRow (fold (now (z .args .key))) x)) (meaning (w .result), w .last .0)) (y .store-place .ensures) (w .ensures)
 
 pub put-allowed-spec : {M : Type 1} → statement M
 put-allowed-spec =
@@ -54,7 +55,7 @@ put-allowed-spec =
     (tie.spec
     slice-aggregate-store-place
     store-place-requires
-    slice-aggregate-put-row
-    put-row-requires
+    slice-aggregate-put-given
+    put-given-requires
     same-length
     returns)

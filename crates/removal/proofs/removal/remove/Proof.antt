@@ -70,7 +70,9 @@ slice-aggregate-remove-row : tie.Need-slice-aggregate-remove-row
 slice-aggregate-remove-row c = search needs
 
 remove-row-requires : tie.Need-remove-row-requires
-remove-row-requires c κs = (record { sized = sized-1024; blank = refl }, c .before .before .before .first-bad .ensures .sound (c .before .before .if3 .left))
+remove-row-requires c κs =
+    let b = c .before .before in
+    (record { sized = sized-1024; blank = refl }, b .before .first-bad .ensures .sound (b .if3 .left), good (b .before .before .before))
 
 same-length-4 : tie.Need-same-length-4
 same-length-4 c = search needs
