@@ -9,7 +9,7 @@ use super::show::digits;
 use super::show::part;
 use libc::STDOUT_FILENO;
 
-// Codes of one length, 2 to 64 bytes, whose hashes begin with these bits.
+// Codes of one length, 2 to 64 bytes, without a capital, whose hashes begin with these bits.
 struct Kind {
     len: usize,
     bits: u32,
@@ -37,6 +37,9 @@ fn is_of(kind: Kind, i: u32) -> bool
     let mut code = [120u8; 64];
     write_code(&mut code, i);
     let len = kind.len;
+    if !words::folded(&code[0..len]) {
+        return false;
+    }
     partition::top_bits(hash::hash(&code[0..len]), kind.bits) == kind.value
 }
 

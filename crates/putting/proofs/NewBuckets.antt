@@ -28,6 +28,7 @@ use Rattle.store.proofs.Accepted.Rules.{opened}
 use Rattle.store.proofs.Showing.Shows.{Shows}
 use Rattle.store.proofs.Showing.Showing.{accepted-shows, pages-held}
 use Rattle.store.proofs.Accepted.Unique.{page-long}
+use Rattle.store.proofs.Accepted.Spelled.{held-folded, one-more}
 use Rattle.store.proofs.Accepted.Reading.{entryOf, lookup-none}
 use Rattle.store.proofs.Put.PutCases.{unheld-six, unheld-seven, put-unheld-is}
 use Rattle.store.proofs.Put.PutRows.{put-shown}
@@ -138,7 +139,7 @@ module _ (S : Shape) (h : List ℕ → ℕ) (hash : Hash h) (s : List ℕ) (x : 
             (λ _. six),
             inr (
               (λ _. room),
-              (refl, rw (← holds) (settled S sized h hash s A (setPage S s f q) wrote u D (r ∷ rowsHeld S s) (rw holds (put-shown S h sized hash s r A absent six room)) b)),
+              (refl, rw (← holds) (settled S sized h hash s A (setPage S s f q) wrote u D (r ∷ rowsHeld S s) (rw holds (put-shown S h sized hash s r A absent six room)) (one-more r _ (P .folded) (held-folded S h sized hash s A)) b)),
             ),
           ),
         )

@@ -4,5 +4,6 @@ mod prefix;
 mod removal;
 
 pub use removal::remove;
+pub use removal::remove_given;
 pub use removal::remove_lent;
 pub use removal::remove_row;
