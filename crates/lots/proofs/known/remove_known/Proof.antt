@@ -50,7 +50,7 @@ at-own : (c : tie.After-shape-of) → Accepted (c .shape-of .result) fnv (now (c
 at-own c = subst (λ S. Accepted S fnv (now (c .before .before .before .before .before .before .before .args .s))) (sym (c .shape-of .ensures .0)) (sound (c .before .before .before .before))
 
 remove-given-requires : tie.Need-remove-given-requires
-remove-given-requires c κs = let b = c .before in record { sized = b .shape-of .ensures .1; accepted = at-own b; good = coded (b .before) }
+remove-given-requires c κs = let b = c .before in record { sized = b .shape-of .ensures .1; accepted = at-own b; good = coded (b .before .before) }
 
 same-length-2 : tie.Need-same-length-2
 same-length-2 c = search needs
