@@ -138,11 +138,11 @@ static void start(size_t pages, size_t page_size) {
     expect(lots_format(store, size, page) == 0, "a format");
 }
 
-/* Codes of one byte, from 0x21 on. */
+/* Codes of one byte, from 0x5B on: no capitals. */
 static void one_byte(size_t rows) {
     for (; many < rows; many++) {
         codes[many].len = 1;
-        codes[many].bytes[0] = 0x21 + many;
+        codes[many].bytes[0] = 0x5B + many;
         expect(put(many) == LOTS_NEW, "a put");
     }
 }
@@ -181,6 +181,7 @@ static void full_store(const char *dir, const char *name, size_t page_size, size
     start(entries + 2, page_size);
     while (rows > 0) {
         next_code(8, 20);
+        for (size_t i = 0; i < codes[0].len; i++) codes[0].bytes[i] += codes[0].bytes[i] >= 'A' && codes[0].bytes[i] <= 'Z' ? 32 : 0; /* as they are stored */
         rows -= lay(store + page * (2 + (hash(codes[0].bytes, codes[0].len) >> (32 - depth))), codes[0].bytes, codes[0].len);
     }
     set32(store + 16, depth);
@@ -333,7 +334,7 @@ static void hurt(void) {
     uint32_t most = (page - 8) / 13, n = get16(g + 2) < most ? get16(g + 2) : most, pages = size / page;
     uint8_t *slot = g + page - 4 * (1 + below(n + 1)), *second = g + page - 4 * (1 + below(n + 1));
     uint32_t v = get32(slot), w = get32(second), next = get32(slot - 4), o = v % 16384, l = v >> 14 & 127;
-    switch (below(14)) {
+    switch (below(15)) {
     case 0: store[below(size)] = draw(); break;
     case 1: store[below(size)] ^= one; break;
     case 2: store[below(24)] ^= one; break;
@@ -357,6 +358,9 @@ static void hurt(void) {
     case 11: memmove(g, other, page); break;
     case 12: /* the number of a size, or of none */
         if (below(8) == 0) set32(store + 20, 1024u << 2 * below(4));
+        break;
+    case 13: /* a code gets a capital, or one of the bytes beside these */
+        if (o + l <= page && l > 8) g[o + 8 + below(l - 8)] = 0x40 + below(28);
         break;
     default: /* a page and its entries go: what it was parted from may fit without it */
         memset(g, 0, page);

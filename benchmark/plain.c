@@ -1,7 +1,8 @@
-/* The check of document 01 in plain C, written for speed: what the proved check is measured against. Same rules, same order, same answer word.
+/* The check of document 01, with Item 4 of document 02, in plain C, written for speed: what the proved check is measured against. Same rules, same order, same answer word.
  * Built once for each page size (-DPAGE, -DDEEPEST); which is asked is the caller's to say, by the number at 20.
  * A page's slots are read once, then its records in the order in which they lie; the directory is counted once, and what the rows of a prefix need is a
  * difference of two sums. */
+#include <emmintrin.h>
 #include <stddef.h>
 #include <stdint.h>
 #include <string.h>
@@ -78,7 +79,20 @@ APART int rises(const uint8_t *g, const uint8_t *slot) {
     return c < 0 || (c == 0 && v_len < w_len);
 }
 
-/* The n slots: words, ranges, the order of the codes, k shared bits. Each record's length goes into starts, where it begins; *shared gets the shared
+/* Of sixteen bytes, those that are capitals: 0x41 to 0x5A become the 26 least signed numbers. */
+static inline __m128i capitals(const uint8_t *p) {
+    return _mm_cmplt_epi8(_mm_add_epi8(_mm_loadu_si128((const __m128i *)p), _mm_set1_epi8(0x80 - 0x41)), _mm_set1_epi8(-128 + 26));
+}
+
+/* Whether a code has no capital. Before a code lie sixteen bytes of its page at least, those of its place the last. */
+static inline int folded(const uint8_t *code, uint32_t len) {
+    __m128i any = capitals(code + len - 16);
+    if (len < 16) return _mm_movemask_epi8(any) >> (16 - len) == 0;
+    for (uint32_t i = 0; i + 16 < len; i += 16) any = _mm_or_si128(any, capitals(code + i));
+    return _mm_movemask_epi8(any) == 0;
+}
+
+/* The n slots: words, ranges, the order of the codes, no capital in them, k shared bits. Each record's length goes into starts, where it begins; *shared gets the shared
  * bits. All lengths together; 0 where a rule fails. */
 APART uint32_t slots(const uint8_t *g, uint32_t n, uint32_t frontier, uint32_t k, uint8_t *starts, uint32_t *shared) {
     const uint8_t *slot = g + PAGE - 4, *end = slot - 4 * n;
@@ -90,6 +104,7 @@ APART uint32_t slots(const uint8_t *g, uint32_t n, uint32_t frontier, uint32_t k
         uint64_t eight = l < 16 ? 0 : __builtin_bswap64(get64(g + o + 8));
         if (last >= eight && !rises(g, slot)) return 0;
         last = l < 16 ? UINT64_MAX : eight;
+        if (!folded(g + o + 8, l - 8)) return 0;
         starts[o] = l;
         uint32_t h = hash(g + o + 8, l - 8);
         in_one |= h;

@@ -22,8 +22,8 @@ int main(void) {
     put("LOT-7A", 9, 1, 0, LOTS_ONLY_NEW);
     put("LOT-7A", 9, 1, 0, LOTS_ONLY_KNOWN);
     put("", 1, 1, 1, LOTS_EITHER);
-    uint64_t found = lots_lookup(store, sizeof store, (const uint8_t *)"LOT-7A", 6);
-    printf("LOT-7A: ");
+    uint64_t found = lots_lookup(store, sizeof store, (const uint8_t *)"Lot-7a", 6);
+    printf("Lot-7a: ");
     print_place(found);
     uint64_t rows = lots_count(store, sizeof store);
     for (uint64_t n = 0; n < rows; n++) {

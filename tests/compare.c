@@ -32,7 +32,7 @@ static const uint64_t no_sizes[] = {0, 1, 1016, 1023, 1025, 2048, 4095, 4097, 81
 enum { NO_SIZES = sizeof no_sizes / sizeof *no_sizes };
 
 static uint64_t state;
-static uint64_t steps, refused[16], inspected[16], in_batch[16], reached[3][13], full[3], joins, splits;
+static uint64_t steps, refused[16], inspected[16], in_batch[16], reached[3][13], full[3], joins, splits, respelled, capitals;
 static const int numbers[] = {1, 2, 3, 4, 5, 6, 7, 8, 9, 12, 13, 14};
 enum { NUMBERS = sizeof numbers / sizeof *numbers };
 
@@ -190,19 +190,26 @@ static struct {
     size_t len;
 } pool[POOL];
 
+static int capital(uint8_t b) { return b >= 'A' && b <= 'Z'; }
+static int letter(uint8_t b) { return b >= 'a' && b <= 'z'; }
+
+/* A byte of a code as it is stored: no capital, and a letter more often than not. */
+static uint8_t stored_byte(uint8_t b) { return capital(b) ? b + 32 : b; }
+static uint8_t draw_byte(void) { return below(3) ? stored_byte(draw()) : 'a' + below(26); }
+
 static int begins(const uint8_t *code, size_t len, int bits, uint32_t value) { return bits == 0 || ref_hash(code, len) >> (32 - bits) == value; }
 
-/* A code of these lengths whose hash begins with the `bits` bits of `value`: any, then others that begin the same. */
+/* A code of these lengths, without capitals, whose hash begins with the `bits` bits of `value`: any, then others that begin the same. */
 static size_t draw_code(uint8_t *code, size_t least, size_t most, int bits, uint32_t value) {
     for (;;) {
         size_t len = least + below(most - least + 1), fixed = len < 4 ? 0 : len - 3;
         uint32_t h = 2166136261u;
-        for (size_t i = 0; i < len; i++) code[i] = draw();
+        for (size_t i = 0; i < len; i++) code[i] = draw_byte();
         if (bits == 0) return len;
         for (size_t i = 0; i < fixed; i++) h = (h ^ code[i]) * 16777619u;
         for (int turn = 0; turn < 1 << bits; turn++) {
             uint32_t g = h, d = draw();
-            for (size_t i = fixed; i < len; i++, d >>= 8) g = (g ^ (code[i] = d)) * 16777619u;
+            for (size_t i = fixed; i < len; i++, d >>= 8) g = (g ^ (code[i] = stored_byte(d))) * 16777619u;
             if (g >> (32 - bits) == value && begins(code, len, bits, value)) return len;
         }
     }
@@ -216,10 +223,14 @@ static size_t more_codes(size_t from, size_t many, size_t least, size_t most, in
 
 static size_t fill_pool(size_t many, size_t least, size_t most, int bits, uint32_t value) { return more_codes(0, many, least, most, bits, value); }
 
+/* One of the pool, in one of its spellings. */
 static void pick(struct call *c, size_t many) {
     size_t i = below(many);
     memcpy(c->code, pool[i].code, pool[i].len);
     c->code_len = pool[i].len;
+    if (below(2)) return;
+    for (size_t b = 0; b < c->code_len; b++)
+        if (letter(c->code[b]) && below(2)) c->code[b] -= 32, respelled++;
 }
 
 static void random_place(struct call *c) {
@@ -375,10 +386,30 @@ static void hurt_once(size_t len, size_t *at) {
     if (below(20) == 0) set_number(ours + 20, any_number());
 }
 
+/* A letter of a stored code becomes a capital: its page breaks a rule, for the check and for inspection. */
+static void stored_capitals(size_t len, int times) {
+    for (int t = 0; t < times; t++) {
+        size_t p = 2 + below(len / page_size - 2);
+        uint8_t *g = ours + p * page_size;
+        if (g[0] != 1) continue;
+        const uint8_t *slot = g + page_size - 4 * (1 + below(g[2] | g[3] << 8));
+        uint32_t w = slot[0] | slot[1] << 8 | slot[2] << 16 | (uint32_t)slot[3] << 24;
+        size_t at = p * page_size + (w & 0x3FFF) + 8 + below((w >> 14 & 0x3FFF) - 8);
+        if (!letter(ours[at])) continue;
+        struct call check = {.kind = CHECK}, inspect = {.kind = INSPECT, .at = p, .page_len = page_size, .out_len = 64};
+        ours[at] = theirs[at] -= 32;
+        if (lots_refusal_page(both(&check, len)) != p) fail("the page of a stored capital", lots_refusal_page(lots_check(ours, len)), p);
+        if (both(&inspect, len) != (LOTS_REFUSED | 2)) fail("the inspection of a stored capital", 0, 2);
+        ours[at] = theirs[at] += 32;
+        capitals++;
+    }
+}
+
 /* Every call on a store with some bytes changed. */
 static void damage(size_t len, int times, size_t many) {
     static uint8_t sound[MOST];
     memcpy(sound, ours, len);
+    stored_capitals(len, times);
     for (int t = 0; t < times; t++) {
         size_t at = 0;
         for (int flips = 1 + below(3); flips > 0; flips--) hurt_once(len, &at);
@@ -436,6 +467,34 @@ static void modes(int bits, uint32_t value, unsigned number) {
         expect("a new code, a broken store", put_as(fit, m, len), LOTS_BAD_PAGE);
     }
     expect("no mode, a broken store", put_as(5, UINT64_MAX, len), LOTS_BAD_MODE);
+}
+
+/* Every byte value in a code: put, looked up in both spellings, listed folded, known under the other spelling, and removed by it. */
+static void spellings(void) {
+    size_t len = 20 * page_size;
+    format(len);
+    for (int v = 0; v < 256; v++) {
+        struct call c = {.kind = PUT, .code = {'7', v, 'k', 'K'}, .code_len = 4, .page = v, .slot = 2, .volume = 3, .mode = LOTS_EITHER}, d = c;
+        d.code[1] = letter(v) ? v - 32 : capital(v) ? v + 32 : v;
+        d.code[2] = 'K', d.code[3] = 'k';
+        uint64_t r = both(&c, len);
+        if (lots_refusal(r) || (r != LOTS_NEW) != letter(v)) fail("whether a spelling is new", r, letter(v));
+        d.mode = LOTS_ONLY_NEW;
+        expect("the other spelling, only new", both(&d, len), LOTS_KNOWN_CODE);
+        c.kind = d.kind = LOOKUP;
+        if (lots_place_page(both(&c, len)) != v || lots_place_page(both(&d, len)) != v) fail("a lookup in both spellings", v, v);
+    }
+    if (lots_count(ours, len) != 256 - 26) fail("the number of lots", lots_count(ours, len), 256 - 26);
+    struct call row = {.kind = ROW, .out_len = 64};
+    for (; row.n < 256 - 26; row.n++) {
+        expect("a listed row", both(&row, len), 0);
+        for (int b = 0; b < 4; b++)
+            if (capital(our_out[b])) fail("a listed code", our_out[b], our_out[b] + 32);
+    }
+    for (int v = 0; v < 256; v++) {
+        struct call c = {.kind = REMOVE, .code = {'7', v, 'K', 'k'}, .code_len = 4};
+        expect("a remove by another spelling", both(&c, len), letter(v) ? LOTS_NO_CODE : 0);
+    }
 }
 
 /* ---- batches */
@@ -906,7 +965,7 @@ static void every_entry(int size, int each) {
                 join_crowd(code, 64);
                 break;
             }
-            code[63] = draw(), code[62] = draw();
+            code[63] = draw_byte(), code[62] = draw_byte();
         }
     }
     crowd_in(sizes[by].entries + 2, 0);
@@ -968,6 +1027,7 @@ static int sum_up(uint64_t seed) {
     if (!inspected[0] || !inspected[1] || !inspected[2] || !inspected[8] || !inspected[9]) bad = 1, printf("compare: an answer of inspection was never reached\n");
     for (int i = 3; i <= 13; i++)
         if (in_batch[i] == 0 && (i < 8 || i == 13)) bad = 1, printf("compare: no put of a batch was refused with %d\n", i);
+    if (respelled == 0 || capitals == 0) bad = 1, printf("compare: no code was spelled anew, or no capital stored\n");
     for (int k = 0; k < 3; k++)
         if (reached[k][sizes[k].deepest] == 0 || (k > 0 && full[k] == 0)) bad = 1, printf("compare: the deepest depth or a full directory of %zu was never reached\n", sizes[k].page);
     return bad;
@@ -996,6 +1056,7 @@ int main(int argc, char **argv) {
         numbers_at_20();
         modes(0, 0, LOTS_PAGES_FULL);
         modes(sizes[size].deepest, below(sizes[size].entries), LOTS_PREFIX_FULL);
+        spellings();
     }
     for (int k = 0; k < scale; k++) {
         small_pages();

@@ -53,6 +53,13 @@ uint32_t ref_hash(const uint8_t *code, size_t len) {
     return h;
 }
 
+/* One lot, two spellings: bytes 0x41 to 0x5A of a given code become 0x61 to 0x7A. */
+static uint8_t fold_byte(uint8_t b) { return b >= 0x41 && b <= 0x5A ? b + 0x20 : b; }
+
+static void fold(uint8_t *folded, const uint8_t *code, size_t len) {
+    for (size_t i = 0; i < len; i++) folded[i] = fold_byte(code[i]);
+}
+
 static uint32_t prefix(uint32_t hash, int bits) { return bits == 0 ? 0 : hash >> (32 - bits); }
 
 struct row {
@@ -105,6 +112,8 @@ static int bucket_rows(const uint8_t *g, int page, struct row *out) {
         memcpy(r->place, g + start, 8);
         r->len = len - 8;
         memcpy(r->code, g + start + 8, r->len);
+        for (int b = 0; b < r->len; b++)
+            if (r->code[b] != fold_byte(r->code[b])) return -1;
         r->hash = ref_hash(r->code, r->len);
         r->page = page;
         r->start = start;
@@ -339,7 +348,9 @@ uint64_t ref_lookup(const uint8_t *s, size_t len, const uint8_t *code, size_t co
     if (code_len == 0 || code_len > 64) return refusal(3);
     uint64_t bad = read_store(s, len);
     if (bad) return bad;
-    int at = find(code, code_len);
+    uint8_t folded[64];
+    fold(folded, code, code_len);
+    int at = find(folded, code_len);
     return at < 0 ? refusal(5) : place_word(rows[at].place);
 }
 
@@ -490,11 +501,12 @@ uint64_t ref_put(uint8_t *s, size_t len, const uint8_t *code, size_t code_len, i
     if (mode != 0 && mode != 1 && mode != 2) return refusal(14);
     uint64_t bad = read_store(s, len);
     if (bad) return bad;
-    uint8_t place[8];
+    uint8_t folded[64], place[8];
+    fold(folded, code, code_len);
     set_number(place, 4, page);
     set_number(place + 4, 2, slot);
     set_number(place + 6, 2, volume);
-    int known = find(code, code_len);
+    int known = find(folded, code_len);
     if (known >= 0 && mode == 1) return refusal(13);
     if (known < 0 && mode == 2) return refusal(5);
     if (known >= 0) {
@@ -503,10 +515,10 @@ uint64_t ref_put(uint8_t *s, size_t len, const uint8_t *code, size_t code_len, i
         return old;
     }
     partition(rows, row_count, before);
-    int pages = len / page_size, home = bucket_of(ref_hash(code, code_len)), old = 0;
+    int pages = len / page_size, home = bucket_of(ref_hash(folded, code_len)), old = 0;
     for (int i = 0; i < row_count && home >= 0; i++)
         if (bucket_of(rows[i].hash) == home) old = rows[i].page;
-    struct row *r = add_row(code, code_len, place);
+    struct row *r = add_row(folded, code_len, place);
     int are = partition(rows, row_count, after);
     if (weight(deepest, prefix(r->hash, deepest)) > capacity) return refusal(6);
     if (are > pages - 2) return refusal(7);
@@ -543,7 +555,9 @@ uint64_t ref_remove(uint8_t *s, size_t len, const uint8_t *code, size_t code_len
     if (code_len == 0 || code_len > 64) return refusal(3);
     uint64_t bad = read_store(s, len);
     if (bad) return bad;
-    int at = find(code, code_len);
+    uint8_t folded[64];
+    fold(folded, code, code_len);
+    int at = find(folded, code_len);
     if (at < 0) return refusal(5);
     struct row gone = rows[at];
     rows[at] = rows[--row_count];

@@ -1,4 +1,4 @@
-/* A second implementation of document 01 with the modes, the batch, the report and the page sizes of document 02, written from the documents and from nothing else: slow, plain, and worked out afresh from the rows at every call. */
+/* A second implementation of document 01 with the modes, the spellings, the batch, the report and the page sizes of document 02, written from the documents and from nothing else: slow, plain, and worked out afresh from the rows at every call. */
 #ifndef REFERENCE_H
 #define REFERENCE_H
 

@@ -5,6 +5,7 @@ use mathlib.Core.List.{List, _∷_}
 use Prim.Native.Nat.{ℕ}
 use Rattle.ground.specs.Ladder.{Answers}
 use Rattle.ground.proofs.Ladders.{Each, each}
+use Rattle.words.specs.Folds.{fold}
 use Rattle.partition.specs.declared.Shape.{Shape}
 use Rattle.partition.specs.Partition.{Row}
 use Rattle.page.specs.Places.{stored}
@@ -24,7 +25,7 @@ module _ (S : Shape) (h : List ℕ → ℕ) (m : ℕ) where
     wrote : (o : Out) → Left o → (x : Out × List ℕ) → x .0 ≡ o → Left (x .0)
     wrote o f x e = subst Left (sym e) f
 
-    by-mode : Each (λ x. Left (x .0)) (putByMode S h s m (record { code = w .code; place = stored (w .place) }))
+    by-mode : Each (λ x. Left (x .0)) (putByMode S h s m (record { code = fold (w .code); place = stored (w .place) }))
     by-mode = (
       (λ _ _. kept _ refl),
       (λ _. (

@@ -4,6 +4,7 @@ use mathlib.Core.List.{List, [], _∷_}
 use Prim.Native.Nat.{ℕ, zero, suc, _+_}
 use lib.ListN.{length, take, drop}
 use Rattle.ground.specs.Ladder.{Ladder, Answers, refuse, ends}
+use Rattle.words.specs.Folds.{fold}
 use Rattle.partition.specs.declared.Shape.{Shape}
 use Rattle.partition.specs.Partition.{Row}
 use Rattle.partition.specs.Listing.{without}
@@ -81,7 +82,7 @@ batchTable S h s b m =
 
 -- the rows that a put leaves, by its answer number
 abbrev pub leftBy : ℕ → Wanted → List Row → List Row
-leftBy zero w rs = record { code = w .code; place = stored (w .place) } ∷ without (λ q. q .code) (w .code) rs
+leftBy zero w rs = record { code = fold (w .code); place = stored (w .place) } ∷ without (λ q. q .code) (fold (w .code)) rs
 leftBy (suc n) w rs = rs
 
 -- the rows that survive a batch, by its answer numbers

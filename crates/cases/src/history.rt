@@ -9,7 +9,7 @@ use super::show::digits;
 use super::show::part;
 use libc::STDOUT_FILENO;
 
-// Codes of one length, 2 to 64 bytes, whose hashes begin with these bits.
+// Codes of one length, 2 to 64 bytes, without a capital, whose hashes begin with these bits.
 pub struct Kind {
     pub len: usize,
     pub bits: u32,
@@ -38,28 +38,31 @@ fn is_of(kind: Kind, i: u32) -> bool
     let mut code = [120u8; 64];
     write_code(&mut code, i);
     let len = kind.len;
+    if !words::folded(&code[0..len]) {
+        return false;
+    }
     partition::top_bits(hash::hash(&code[0..len]), kind.bits) == kind.value
 }
 
 // The number of the kind's first code from this number on.
 fn next_of(kind: Kind, from: u32) -> u32
     requires { ⌜ (kind .len ≤ 64) × (kind .bits ≤ 12) ⌝ }
-    ensures { λ r. ⌜ r ≤ 1048576 ⌝ }
+    ensures { λ r. ⌜ r ≤ 2097152 ⌝ }
 {
     let mut i = from;
-    while i < 1048576 {
+    while i < 2097152 {
         if is_of(kind, i) {
             return i;
         }
         i += 1;
     }
-    1048576
+    2097152
 }
 
 // The number of the kind's code n, counted from 0.
 fn number_of(kind: Kind, n: u32) -> u32
     requires { ⌜ (kind .len ≤ 64) × (kind .bits ≤ 12) ⌝ }
-    ensures { λ r. ⌜ r ≤ 1048576 ⌝ }
+    ensures { λ r. ⌜ r ≤ 2097152 ⌝ }
 {
     let mut i = next_of(kind, 0);
     let mut left = n;

@@ -60,8 +60,8 @@ pub fn row_by_row() {
     let mut bucket = [0xAAu8; 1024];
     page::new_page(&mut bucket, 0);
     add(&mut bucket, b"b", 1);
-    add(&mut bucket, b"LOT-7A", 2);
-    add(&mut bucket, b"LOT-7", 3);
+    add(&mut bucket, b"lot-7a", 2);
+    add(&mut bucket, b"lot-7", 3);
     add(&mut bucket, b"a", 4);
     io::write_all(STDOUT_FILENO, b"a page, row by row\n");
     rows(&bucket);

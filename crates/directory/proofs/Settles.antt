@@ -17,6 +17,7 @@ use Rattle.store.specs.Demands.{Sized, Hash}
 use Rattle.store.proofs.Accepted.Rules.{opened}
 use Rattle.store.proofs.Showing.Shows.{Shows}
 use Rattle.store.proofs.Accepted.Unique.{read-used}
+use Rattle.store.proofs.Accepted.Spelled.{AllFolded}
 use Rattle.store.proofs.Accepted.Accepting.{accepted-laid, head-kept, laid-becomes}
 use Rattle.store.proofs.Paging.Views.{set-long, set-same, set-other, set-below, set-contents}
 use Rattle.directory.specs.Directory.{Directed, SoundPage, free, used, Settling, Rewritten}
@@ -64,10 +65,10 @@ module _ (S : Shape) (sized : Sized S) (h : List ℕ → ℕ) (hash : Hash h) (s
           pages = W .sound;
         }
 
-    pub settled : (u : List ℕ) → Directed S h t (deepestIn (contents S t)) (pages S s) u → (rs : List Row) → Shows S h rs (contents S t) → ((k : ℕ) → byte u k < 256)
+    pub settled : (u : List ℕ) → Directed S h t (deepestIn (contents S t)) (pages S s) u → (rs : List Row) → Shows S h rs (contents S t) → AllFolded rs → ((k : ℕ) → byte u k < 256)
         → Becomes S h s (contents S t) u
-    settled u D rs w small =
+    settled u D rs w spelled small =
         laid-becomes S h sized hash u rs (contents S t)
         (directed-laid S t (pages S s) settling h u sized
         (head-kept S sized s t (W .long) (λ k l. W .low k (omega (arith, sized .least))) (λ k a l. W .low k (omega arith)) (accepted-laid S h sized hash s A .head)) D)
-        w s (D .long ∙ W .long) small
+        w spelled s (D .long ∙ W .long) small

@@ -51,7 +51,7 @@ pub fn lookup_known(s: &[u8], key: &[u8], known: bool) -> Answer
     if !store::good_code(key) {
         return Answer::Refused(Refusal::BadCode);
     }
-    query::place_of(s, partition::shape_of(s), key)
+    query::place_given(s, partition::shape_of(s), key)
 }
 
 pub fn row_known(s: &[u8], n: usize, out: &mut [u8], known: bool) -> Answer
@@ -89,5 +89,5 @@ pub fn remove_known(s: &mut [u8], key: &[u8], known: bool) -> Answer
         return Answer::Refused(Refusal::BadCode);
     }
     let z = partition::shape_of(s);
-    removal::remove_row(s, z, key)
+    removal::remove_given(s, z, key)
 }

@@ -1,7 +1,9 @@
--- The rule of the hashes, and all rules of one bucket page. Assumes nothing.
+-- The rules of the codes' bytes and of the hashes, and all rules of one bucket page. Assumes nothing.
 use Prim.Native.Nat.{ℕ, _≤_, _<_}
 use mathlib.Core.Path.{_≡_}
 use mathlib.Core.List.{List}
+use lib.Bits.{bitXor}
+use Rattle.words.specs.Folds.{Folded}
 use Rattle.hash.specs.Fnv.{fnv}
 use Rattle.partition.specs.Bits.{top}
 use Rattle.page.specs.Page.{BucketPage, depth, count, code}
@@ -14,8 +16,18 @@ Alike h p k = (i : ℕ) → i < count p → top k (h (code p 0)) ≡ top k (h (c
 abbrev pub Share : (List ℕ → ℕ) → List ℕ → Type 0
 Share h p = (i j : ℕ) → i < count p → j < count p → top (depth p) (h (code p i)) ≡ top (depth p) (h (code p j))
 
--- the bucket page's rules, shared hash bits included, local depth 0 to the deepest
+-- no code has a capital
+abbrev pub Spelled : List ℕ → Type 0
+Spelled p = (i : ℕ) → i < count p → Folded (code p i)
+
+-- slot i's code has no capital, and the difference of its hash and the first is below m
+pub record SlotOk (p : List ℕ) (i first m : ℕ) : Type 0 where
+  pub folded : Folded (code p i)
+  pub near : bitXor first (fnv (code p i)) < m
+
+-- the bucket page's rules, no capital and shared hash bits included, local depth 0 to the deepest
 pub record Keeps (deepest : ℕ) (p : List ℕ) : Type 0 where
   pub rules : BucketPage p
+  pub folded : Spelled p
   pub deep : depth p ≤ deepest
   pub share : Share fnv p

@@ -1,4 +1,4 @@
-// Whether bytes are a bucket page: the rules of its bytes by page_ok, the shared bits of its hashes slot by slot.
+// Whether bytes are a bucket page: the rules of its bytes by page_ok, capitals and the shared bits of its hashes slot by slot.
 ghost use mathlib.Core.Path.{_≡_};
 ghost use mathlib.Core.Bool.{true, false};
 ghost use Prim.Native.Nat.{_+_, _*_, _-_, _^_, _≤_, _<_};
@@ -7,6 +7,7 @@ ghost use lib.ListN.{length, set};
 ghost use Rattle.ground.specs.Says.{Says};
 ghost use Rattle.ground.specs.Lists.{part};
 ghost use Rattle.words.specs.Codes.{Before};
+ghost use Rattle.words.specs.Folds.{Folded};
 ghost use Rattle.words.specs.Zeros.{Zero};
 ghost use Rattle.hash.specs.Fnv.{fnv};
 ghost use Rattle.partition.specs.Bits.{top};
@@ -14,7 +15,7 @@ ghost use Rattle.page.specs.Page.{BucketPage, depth, count, frontier, code};
 ghost use Rattle.page_check.specs.Rules.{HeadOk, NaturalAt, WordOk, SlotsOk, offOf, lenOf, slotOf, prior, Preceded, Codes};
 ghost use Rattle.page_check.specs.Table.{Table, Inside, Laid, Pair, Turn, NextOk};
 ghost use Rattle.page_check.specs.Big.{big, Stretch, Lead};
-ghost use Rattle.page_check.specs.Shared.{Alike, Share, Keeps};
+ghost use Rattle.page_check.specs.Shared.{Spelled, SlotOk, Alike, Share, Keeps};
 use words::Order;
 
 // Size, byte 0, row count, and a frontier that leaves room for a record and for the slots.
@@ -269,7 +270,7 @@ fn records_ok(page: &[u8], tab: &mut [u8], n: usize, f: usize) -> bool
     words::all_zero(&page[f..e])
 }
 
-// Whether the page keeps the rules of a bucket page (but for the hashes' shared bits). tab is scratch of the page's length, zero before and after.
+// Whether the page keeps the rules of a bucket page (but for capitals and the hashes' shared bits). tab is scratch of the page's length, zero before and after.
 pub fn page_ok(page: &[u8], tab: &mut [u8]) -> bool
     requires { ⌜ (length (now tab) ≡ length (now page)) × Zero (now tab) ⌝ }
     ensures says { λ r. ⌜ Says r (BucketPage (now (page .entry))) ⌝ }
@@ -285,6 +286,30 @@ pub fn page_ok(page: &[u8], tab: &mut [u8]) -> bool
     }
     words::clear(tab, 8, f);
     false
+}
+
+// Whether slot i's code has no capital.
+pub fn slot_folded(page: &[u8], i: usize) -> bool
+    requires { ⌜ BucketPage (now page) × (i < count (now page)) ⌝ }
+    ensures { λ r. ⌜ Says r (Folded (code (now (page .entry)) i)) ⌝ }
+{
+    words::folded(page::code_at(page, i))
+}
+
+// Whether no code of a bucket page has a capital.
+pub fn spelled_ok(page: &[u8]) -> bool
+    requires { ⌜ BucketPage (now page) ⌝ }
+    ensures { λ r. ⌜ Says r (Spelled (now (page .entry))) ⌝ }
+{
+    let n = words::get16(page, 2);
+    let mut i = 0;
+    while i < n {
+        if !slot_folded(page, i) {
+            return false;
+        }
+        i += 1;
+    }
+    true
 }
 
 // The hash of slot i's code.
@@ -316,6 +341,17 @@ pub fn differ_below(first: u32, x: u32, m: u64) -> bool
     ensures { λ r. ⌜ Says r (bitXor first x < m) ⌝ }
 {
     ((first ^ x) as u64) < m
+}
+
+// Whether slot i's code has no capital, and the difference of its hash and the first is below m.
+pub fn slot_ok(page: &[u8], i: usize, first: u32, m: u64) -> bool
+    requires { ⌜ BucketPage (now page) × (i < count (now page)) ⌝ }
+    ensures { λ r. ⌜ Says r (SlotOk (now (page .entry)) i first m) ⌝ }
+{
+    if !slot_folded(page, i) {
+        return false;
+    }
+    differ_below(first, hash_slot(page, i), m)
 }
 
 // Whether the hashes of a bucket page, the first of them given, share their first k bits: their differences or-ed have none there.
@@ -351,6 +387,9 @@ pub fn bucket_ok(page: &[u8], tab: &mut [u8], deepest: u8) -> bool
         return false;
     }
     if deepest < page[1] {
+        return false;
+    }
+    if !spelled_ok(page) {
         return false;
     }
     share_ok(page)

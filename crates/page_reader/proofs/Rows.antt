@@ -148,8 +148,8 @@ module _ (g : List ℕ) (n : ℕ) (out : List ℕ) where
       -- another is read
       pub inspect-read : (Zero g → ⊥) → (r : Out × List ℕ) → Answers (nthTable g n out) r → Answers (inspectTable S fnv g n out) r
       unfolding nthTable inspectTable
-      inspect-read u r (inl x) = inr ((λ _ f. f long), inr ((λ _ l. omega arith), inl (tt, (⊎-elim u (λ b. x .1 .0 (record { long = long; keeps = record { rules = b .0 .rules; deep = b .1; share = b .0 .share } })), x .1 .1))))
+      inspect-read u r (inl x) = inr ((λ _ f. f long), inr ((λ _ l. omega arith), inl (tt, (⊎-elim u (λ b. x .1 .0 (record { long = long; keeps = record { rules = b .0 .rules; folded = b .0 .folded; deep = b .1; share = b .0 .share } })), x .1 .1))))
       inspect-read u r (inr x) =
           let s = x .1 .0 .keeps in
-          let k : PageKeeps S fnv g = inr (record { rules = s .rules; share = s .share }, s .deep) in
+          let k : PageKeeps S fnv g = inr (record { rules = s .rules; folded = s .folded; share = s .share }, s .deep) in
           inr ((λ _ f. f long), inr ((λ _ l. omega arith), inr ((λ _ f. f k), (k, x .1 .1))))

@@ -9,7 +9,7 @@ use Rattle.page_check.specs.Shared.{Keeps}
 use Rattle.store.specs.Pages.{size, read, rowsOn}
 use Rattle.store.specs.Tables.{Out, refusedAt, rowOf}
 
--- a bucket page of any of the three lengths: its rules, shared hash bits included, local depth from 0 to the size's deepest
+-- a bucket page of any of the three lengths: its rules, no capital and shared hash bits included, local depth from 0 to the size's deepest
 pub record SoundBucket (g : List ℕ) : Type 0 where
   pub long : length g ≡ size (shapeFor (length g))
   pub keeps : Keeps (shapeFor (length g) .deepest) g

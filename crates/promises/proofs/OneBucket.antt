@@ -1,22 +1,22 @@
 -- ONE BUCKET FOR EVERYTHING IS TURNED AWAY: rows that do not fit together have a directory of more than one entry. Under any hash, after any history;
--- and under a hash that parts fourteen long codes, as the one chosen for the worked cases does, a program that keeps the tables comes to such rows. Assumes nothing.
+-- and under a hash that parts fourteen long codes, as one by the first byte does, a program that keeps the tables comes to such rows. Assumes nothing.
 use borrow.Author.Tests.{le-leb, lt-leb}
 use mathlib.Core.Path.{_≡_, refl, sym, ap, ap₂, subst, _∙_}
 use mathlib.Core.Bool.{Bool, true, false}
 use mathlib.Core.List.{List, [], _∷_, _++_, List·Memᴰ, List·Memᴰ·head, List·Memᴰ·not-nil, List·Memᴰ·cases-cons}
 use mathlib.Core.Logic.{_⊎_, inl, inr, ⊎-elim}
 use mathlib.Core.Option.{none}
-use Prim.Native.Nat.{ℕ, zero, suc, _+_, _-_, _*_, _/_, _^_, _≤_, _<_}
+use Prim.Native.Nat.{ℕ, zero, suc, _*_, _/_, _%_, _^_, _≤_, _<_}
 use native.Mathlib.Omega.{arith}
-use native.Mathlib.Nat.{mul-mod-left}
 use lib.Dec.{leb}
 use lib.ListN.{length, replicate}
-use lib.Pow.{pow-add}
 use Rattle.ground.specs.Lists.{byte}
 use Rattle.ground.proofs.Sides.{side}
 use Rattle.partition.specs.Bits.{top}
 use Rattle.words.proofs.Bytes.{small-zeros}
-use Rattle.partition.specs.Cases.{chosen}
+use Rattle.words.specs.Folds.{Folded}
+use Rattle.words.proofs.Folds.{byte-kept, folded-each}
+use Rattle.store.proofs.Paging.PageTies.{zeros}
 use Rattle.partition.specs.Listing.{placeOf}
 use Rattle.partition.specs.Partition.{Row, Fine, IsBucket, Grade, fits, over, fitting, need, needs, rowsOf, grade, walk, buckets, depthOf}
 use Rattle.partition.specs.declared.Shape.{Shape}
@@ -164,7 +164,7 @@ module _ (h : List ℕ → ℕ) (hash : Hash h) where
           let w = put-all n (omega arith) in
           let m : n < 14 = omega arith in (
             P .put (w .0) (G .code n) (at 0) 0 .1,
-            at-next h hash P meets (w .1) (G .code n) (at 0) (record { least = omega (arith, G .long n m); most = omega (arith, G .long n m) }) (G .small n m) (in-range 0 (omega arith)) (natural 0)
+            at-next h hash P meets (w .1) (G .code n) (at 0) (record { least = omega (arith, G .long n m); most = omega (arith, G .long n m) }) (G .small n m) (G .folded n m) (in-range 0 (omega arith)) (natural 0)
                 (fresh n m) (near-of n m) (room-of n m),
             f (w .0) (G .code n) (at 0) 0 (w .2),
           )
@@ -178,7 +178,10 @@ module _ (h : List ℕ → ℕ) (hash : Hash h) where
 pub one-bucket : (h : List ℕ → ℕ) → Hash h → (P : Program) → Meets h P → Parting h → OneBucket P → ⊥
 one-bucket h hash P meets G f = comes-to-two h hash G P meets f
 
--- ---- the hash chosen for the worked cases: codes that begin with 0 to 12, and with 80
+-- ---- a hash that has such codes: the top bit, by the first byte; codes that begin with 0 to 12, and with 13
+
+abbrev pub byFirst : List ℕ → ℕ
+byFirst c = byte c 0 / 13 % 2 * 2147483648
 
 abbrev coded : ℕ → List ℕ
 coded x = x ∷ replicate 63 0
@@ -187,17 +190,25 @@ coded-small : (x : ℕ) → x ≤ 255 → Bytes (coded x)
 coded-small x l zero = omega arith
 coded-small x l (suc k) = small-zeros 63 .at k
 
--- no bit where the code begins with a byte below 80
-no-bit : (x : ℕ) → x < 80 → chosen (coded x) ≡ 0
-no-bit x l = let e : 111 - x ≡ (79 - x) + 32 = omega arith in rw (e, pow-add 2 (79 - x) 32) (mul-mod-left (2 ^ (79 - x)) (2 ^ 32))
+-- no byte of them is a capital
+coded-folded : (x : ℕ) → x < 14 → Folded (coded x)
+coded-folded x l = folded-each (coded x) (λ k _. byte-kept (byte (coded x) k) .1 (inl (low k)))
+  where
+    low : (k : ℕ) → byte (coded x) k < 0x41
+    low zero = omega arith
+    low (suc k) = omega (arith, zeros 63 k)
 
-pub chosen-parts : Parting chosen
+top-bit : (n : ℕ) → top 1 (n % 2 * 2147483648) ≡ n % 2
 unfolding top
-chosen-parts = record {
-  code = λ i. coded (i + 67 * (i / 13));
+top-bit n = omega arith
+
+pub first-parts : Parting byFirst
+first-parts = record {
+  code = coded;
   long = λ i l. refl;
-  small = λ i l. coded-small (i + 67 * (i / 13)) (omega arith);
+  small = λ i l. coded-small i (omega arith);
+  folded = coded-folded;
   apart = λ i j l m e. omega (arith, ap (λ c. byte c 0) e);
-  zeros = λ i l. ap (top 1) (no-bit (i + 67 * (i / 13)) (omega arith));
-  one = refl;
+  zeros = λ i l. top-bit (i / 13) ∙ omega arith;
+  one = top-bit 1;
 }

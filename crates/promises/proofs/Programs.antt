@@ -3,7 +3,7 @@ use mathlib.Core.Path.{_≡_, refl, sym, ap, subst, _∙_}
 use mathlib.Core.Bool.{true, false, true≢false}
 use mathlib.Core.List.{List, [], _∷_}
 use mathlib.Core.Logic.{_↔_, inl, ⊎-elim}
-use mathlib.Core.Option.{some}
+use mathlib.Core.Option.{some, none}
 use Prim.Native.Nat.{ℕ, zero, suc, _≤_, _<_}
 use native.Mathlib.Omega.{arith}
 use lib.Signed.{mag}
@@ -13,6 +13,7 @@ use Rattle.ground.proofs.Tests.{none-some}
 use Rattle.ground.specs.Ladder.{Answers}
 use Rattle.ground.proofs.Sides.{side}
 use Rattle.words.specs.Codes.{order}
+use Rattle.words.specs.Folds.{foldByte, fold, Folded}
 use Rattle.words.proofs.Bytes.{small-zeros}
 use Rattle.partition.specs.Bits.{top}
 use Rattle.partition.specs.Partition.{Row, need, needs}
@@ -44,6 +45,14 @@ b = 98 ∷ []
 
 one-good : (x : ℕ) → GoodCode (x ∷ [])
 one-good x = record { least = omega arith; most = omega arith }
+
+low-a : Folded a
+unfolding fold foldByte
+low-a = refl
+
+low-b : Folded b
+unfolding fold foldByte
+low-b = refl
 
 one-small : (x : ℕ) → x < 256 → Bytes (x ∷ [])
 one-small x l zero = l
@@ -113,17 +122,21 @@ module _ (h : List ℕ → ℕ) (hash : Hash h) where
     module _ (n : ℕ) (l : n < 2) where
       said-a : P .put (begun h hash P meets) a (at n) 0 .0 ≡ new
       unfolding placeOf
-      said-a = says-new h hash P meets (at-first h hash P meets) a (at n) (one-good 97) (one-small 97 (omega arith)) (in-range n l) (natural n) refl
+      said-a = says-new h hash P meets (at-first h hash P meets) a (at n) (one-good 97) (one-small 97 (omega arith)) low-a (in-range n l) (natural n) refl
           (omega (arith, prefix-needs h (row-a n ∷ []) 8 (top 8 (h a)), needs-a n)) (omega (arith, room h hash (row-a n) [] (omega (arith, needs-a n))))
 
       with-a : At h hash P meets (row-a n ∷ []) (one n)
       unfolding placeOf
-      with-a = at-next h hash P meets (at-first h hash P meets) a (at n) (one-good 97) (one-small 97 (omega arith)) (in-range n l) (natural n) refl
+      with-a = at-next h hash P meets (at-first h hash P meets) a (at n) (one-good 97) (one-small 97 (omega arith)) low-a (in-range n l) (natural n) refl
           (omega (arith, prefix-needs h (row-a n ∷ []) 8 (top 8 (h a)), needs-a n)) (omega (arith, room h hash (row-a n) [] (omega (arith, needs-a n))))
 
       holds-a : map-of S1024 (one n) a ≡ some (stored (at n))
       unfolding placeOf order
       holds-a = map-at h hash P meets with-a a
+
+      -- also as it is given
+      given-a : map-of S1024 (one n) (fold a) ≡ some (stored (at n))
+      given-a = ap (map-of S1024 (one n)) low-a ∙ holds-a
 
     -- ONE THAT REFUSES EVERY PUT
     pub refuses-every-put : RefusesEveryPut P → ⊥
@@ -137,10 +150,10 @@ module _ (h : List ℕ → ℕ) (hash : Hash h) where
         (puts-at h hash P meets w a (at 1) m (one-small 97 (omega arith)) (in-range 1 (omega arith)))
 
     pub replaces-silently : ReplacesSilently P → ⊥
-    replaces-silently f = replaces (again 0 .0 (ap (λ x. ok (x .0)) (sym (f (one 0) a (at 1))) ∙ again 1 .1 (known refl (stored (at 0)) (holds-a 0 (omega arith)))))
+    replaces-silently f = replaces (again 0 .0 (ap (λ x. ok (x .0)) (sym (f (one 0) a (at 1))) ∙ again 1 .1 (known refl (stored (at 0)) (given-a 0 (omega arith)))))
       where
         replaces : Refuses S1024 h (one 0) a (at 1) 0 → ⊥
-        replaces = unrefused S1024 h (one 0) a (at 1) 0 (one-good 97) (natural 1) (inl refl) (λ x _ _. omega (arith, x)) (λ x. absurd (none-some x (holds-a 0 (omega arith))))
+        replaces = unrefused S1024 h (one 0) a (at 1) 0 (one-good 97) (natural 1) (inl refl) (λ x _ _. omega (arith, x)) (λ x. absurd (none-some x (given-a 0 (omega arith))))
 
     -- LOOKUP WITH ONE FIXED PLACE
     looks-up : (n : ℕ) (l : n < 2) → P .lookup (one n) a ≡ found (at n)
@@ -148,7 +161,7 @@ module _ (h : List ℕ → ℕ) (hash : Hash h) where
         let w = with-a n l in
         let d = demand-2 S1024 h sized-1024 hash in
         d .1 (one n) a (P .lookup (one n) a) (one n) (accepted-at h hash P meets w) (looks-at h hash P meets w a (one-small 97 (omega arith)), refl) (one-good 97)
-        ∙ ap answerOf (holds-a n l) ∙ ap found (d .9 .0 (at n) (in-range n l) (natural n))
+        ∙ ap answerOf (given-a n l) ∙ ap found (d .9 .0 (at n) (in-range n l) (natural n))
 
     pub one-fixed-place : OneFixedPlace P → ⊥
     one-fixed-place f =
@@ -162,7 +175,9 @@ module _ (h : List ℕ → ℕ) (hash : Hash h) where
     only-answers f =
         let w = with-a 0 (omega arith) in
         let t : List ℕ = one 0 in
-        let m = demand-2 S1024 h sized-1024 hash .3 t a (P .remove t a .0) (P .remove t a .1) (accepted-at h hash P meets w) (removes-at h hash P meets w a (one-small 97 (omega arith))) (one-good 97) .1 a in
+        let m : map-of S1024 (P .remove t a .1) a ≡ update (map-of S1024 t) a none a =
+        subst (λ x. map-of S1024 (P .remove t a .1) a ≡ update (map-of S1024 t) x none a) low-a
+        (demand-2 S1024 h sized-1024 hash .3 t a (P .remove t a .0) (P .remove t a .1) (accepted-at h hash P meets w) (removes-at h hash P meets w a (one-small 97 (omega arith))) (one-good 97) .1 a) in
         none-some (ap (λ s. map-of S1024 s a) (sym (f t a)) ∙ m) (holds-a 0 (omega arith))
 
     -- A COUNT THAT IS NOT THE MAP'S SIZE
@@ -182,12 +197,12 @@ module _ (h : List ℕ → ℕ) (hash : Hash h) where
 
     said-b : P .put (one 0) b (at 1) 0 .0 ≡ new
     unfolding placeOf order
-    said-b = says-new h hash P meets (with-a 0 (omega arith)) b (at 1) (one-good 98) (one-small 98 (omega arith)) (in-range 1 (omega arith)) (natural 1) refl
+    said-b = says-new h hash P meets (with-a 0 (omega arith)) b (at 1) (one-good 98) (one-small 98 (omega arith)) low-b (in-range 1 (omega arith)) (natural 1) refl
         (omega (arith, prefix-needs h (row-b ∷ row-a 0 ∷ []) 8 (top 8 (h b)), needs-b)) (omega (arith, room h hash row-b (row-a 0 ∷ []) (omega (arith, needs-b))))
 
     with-b : At h hash P meets (row-b ∷ row-a 0 ∷ []) two
     unfolding placeOf order
-    with-b = at-next h hash P meets (with-a 0 (omega arith)) b (at 1) (one-good 98) (one-small 98 (omega arith)) (in-range 1 (omega arith)) (natural 1) refl
+    with-b = at-next h hash P meets (with-a 0 (omega arith)) b (at 1) (one-good 98) (one-small 98 (omega arith)) low-b (in-range 1 (omega arith)) (natural 1) refl
         (omega (arith, prefix-needs h (row-b ∷ row-a 0 ∷ []) 8 (top 8 (h b)), needs-b)) (omega (arith, room h hash row-b (row-a 0 ∷ []) (omega (arith, needs-b))))
 
     -- A PUT THAT STORES THE FIRST ROW AND THEN ONLY SAYS "NEW"

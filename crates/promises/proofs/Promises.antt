@@ -29,6 +29,7 @@ use Rattle.store.proofs.Demands.Modes.{is-known, is-absent, let-new}
 use Rattle.store.proofs.Demands.Order.{good-length, whole-pages}
 use Rattle.store.proofs.Demands.Whole.{demand-1, demand-2, demand-3}
 use Rattle.store.proofs.Demands.Choice.{put-chooses, remove-chooses}
+use Rattle.store.proofs.Demands.Spellings.{one-lot}
 use Rattle.store.proofs.Result.Total.{answered-always}
 use Rattle.any_size.proofs.Calls.{made-settled}
 use Rattle.any_size.proofs.Whole.{any-size}
@@ -138,6 +139,8 @@ module _ (S : Shape) (sized : Sized S) where
         put-refused = d .4;
         put-says = put-says;
         either-as-before = d .12;
+        same-lot = one-lot S fnv sized fnv-lt .0;
+        stored-folded = one-lot S fnv sized fnv-lt .1;
         listed-once = d .5;
         count = d .6;
         row = d .7;

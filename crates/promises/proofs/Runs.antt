@@ -12,10 +12,11 @@ use lib.ListN.{length, replicate, length-replicate}
 use Rattle.ground.specs.Ladder.{Answers}
 use Rattle.ground.proofs.Ladders.{each}
 use Rattle.words.proofs.Bytes.{small-append, small-bytes, small-zeros}
+use Rattle.words.specs.Folds.{fold, Folded}
 use Rattle.partition.specs.Bits.{top}
 use Rattle.partition.specs.Partition.{Row, Reordered, front, needs, rowsOf, grade, fitting, walk, buckets}
 use Rattle.partition.specs.Sizes.{shapeAt, shapeFor, sizeNumber, shapeOf}
-use Rattle.partition.specs.Listing.{placeOf}
+use Rattle.partition.specs.Listing.{without, placeOf}
 use Rattle.partition.proofs.Laws.{load-reordered, reordered}
 use Rattle.partition.proofs.Maps.{cut-none}
 use Rattle.partition.proofs.Reorders.{turned}
@@ -141,8 +142,15 @@ module _ (h : List ℕ → ℕ) (hash : Hash h) (P : Program) (meets : Meets h P
       }
 
   -- a put of a new code, of mode 0, that neither 6 nor 7 refuses is stored
-  module _ {rs : List Row} {t : List ℕ} (w : At rs t) (c : List ℕ) (p : Place) (good : GoodCode c) (small : Bytes c) (range : InRange p) (natural : Negative p → ⊥)
+  module _ {rs : List Row} {t : List ℕ} (w : At rs t) (c : List ℕ) (p : Place) (good : GoodCode c) (small : Bytes c) (low : Folded c) (range : InRange p) (natural : Negative p → ⊥)
       (fresh : placeOf rs c ≡ none) (near : needs (rowsOf h (rowOf c p ∷ rs) 8 (top 8 (h c))) ≤ 1016) (room : length (buckets S1024 h (rowOf c p ∷ rs)) ≤ 2) where
+    -- the row as it is stored
+    abbrev r : Row
+    r = rowOf (fold c) p
+
+    same-row : r ≡ rowOf c p
+    same-row = ap (λ x. rowOf x p) low
+
     abbrev o : Out
     o = P .put t c p 0 .0
 
@@ -152,11 +160,17 @@ module _ (h : List ℕ → ℕ) (hash : Hash h) (P : Program) (meets : Meets h P
     made : Made S1024 h (put c p 0) t o then
     made = puts-at w c p 0 small range
 
+    near-now : needs (rowsOf h (r ∷ rs) 8 (top 8 (h (fold c)))) ≤ 1016
+    near-now = subst (λ x. needs (rowsOf h (rowOf x p ∷ rs) 8 (top 8 (h x))) ≤ 1016) (sym low) near
+
+    room-now : length (buckets S1024 h (r ∷ rs)) ≤ 2
+    room-now = subst (λ x. length (buckets S1024 h (rowOf x p ∷ rs)) ≤ 2) (sym low) room
+
     refuses : Refuses S1024 h t c p 0 → ⊥
     refuses = unrefused S1024 h t c p 0 good natural (inl refl) (λ x _ _. omega (arith, x)) (λ _. (
       (λ x. omega (arith, x)),
-      (λ x. omega (arith, load-reordered S1024 h (front (rowOf c p) (same-at w)) 8 (top 8 (h c)))),
-      (λ x. let e : length t / 1024 ≡ 4 = rw (w .long) refl in omega (arith, ap length (reordered S1024 h (front (rowOf c p) (same-at w))))),
+      (λ x. omega (arith, near-now, load-reordered S1024 h (front r (same-at w)) 8 (top 8 (h (fold c))))),
+      (λ x. let e : length t / 1024 ≡ 4 = rw (w .long) refl in omega (arith, room-now, ap length (reordered S1024 h (front r (same-at w))))),
     ))
 
     sure : (b : Bool) → ok o ≡ b → ok o ≡ true
@@ -164,11 +178,11 @@ module _ (h : List ℕ → ℕ) (hash : Hash h) (P : Program) (meets : Meets h P
     sure false e = absurd (refuses (demand-2 S1024 h sized-1024 hash .4 t c p 0 o then (accepted-at w) made .0 e))
 
     pub says-new : o ≡ new
-    says-new = demand-2 S1024 h sized-1024 hash .2 t c p 0 o then (accepted-at w) made .0 (sure (ok o) refl) .0 ∙ ap putAnswer (map-at w c ∙ fresh)
+    says-new = demand-2 S1024 h sized-1024 hash .2 t c p 0 o then (accepted-at w) made .0 (sure (ok o) refl) .0 ∙ ap putAnswer (map-at w (fold c) ∙ ap (placeOf rs) low ∙ fresh)
 
     pub at-next : At (rowOf c p ∷ rs) then
     at-next = record {
-      past = subst (λ (q : List Row). History S1024 h q then) (ap (λ (b : Bool). pick b (after (put c p 0) rs) rs) (ap ok says-new) ∙ ap (λ q. rowOf c p ∷ q) (cut-none c rs fresh)) (next (put c p 0) o (w .past) made);
+      past = subst (λ (q : List Row). History S1024 h q then) (ap (λ (b : Bool). pick b (after (put c p 0) rs) rs) (ap ok says-new) ∙ ap (λ x. rowOf x p ∷ without (λ q. q .code) x rs) low ∙ ap (λ q. rowOf c p ∷ q) (cut-none c rs fresh)) (next (put c p 0) o (w .past) made);
       long = demand-2 S1024 h sized-1024 hash .10 (put c p 0) t o then (accepted-at w) made .1 ∙ w .long;
       small = put-bytes h t c p 0 (w .small) (o, then) made;
     }

@@ -6,6 +6,7 @@ use Prim.Native.Nat.{ℕ, _<_}
 use lib.ListN.{length}
 use Rattle.ground.specs.Ladder.{Answers}
 use Rattle.ground.specs.Lists.{byte}
+use Rattle.words.specs.Folds.{Folded}
 use Rattle.partition.specs.Bits.{top}
 use Rattle.partition.specs.Partition.{Row, needs}
 use Rattle.partition.specs.Listing.{listing}
@@ -74,11 +75,12 @@ Miscounts h P = (s : List ℕ) × Bytes s × Accepted (shapeOf s) h s × (P .cou
 abbrev pub OneBucket : Program → Type 0
 OneBucket P = (s c : List ℕ) (p : Place) (m : ℕ) → dirDepth s ≡ 0 → dirDepth (P .put s c p m .1) ≡ 0
 
--- fourteen codes of 64 bytes, whose rows do not fit together on 1,024 bytes: the hashes of thirteen begin with 0, that of the last with 1
+-- fourteen codes of 64 bytes and without a capital, whose rows do not fit together on 1,024 bytes: the hashes of thirteen begin with 0, that of the last with 1
 pub record Parting (h : List ℕ → ℕ) : Type 0 where
   pub code : ℕ → List ℕ
   pub long : (i : ℕ) → i < 14 → length (code i) ≡ 64
   pub small : (i : ℕ) → i < 14 → Bytes (code i)
+  pub folded : (i : ℕ) → i < 14 → Folded (code i)
   pub apart : (i j : ℕ) → i < j → j < 14 → code i ≡ code j → ⊥
   pub zeros : (i : ℕ) → i < 13 → top 1 (h (code i)) ≡ 0
   pub one : top 1 (h (code 13)) ≡ 1

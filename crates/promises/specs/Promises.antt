@@ -8,6 +8,7 @@ use Prim.Native.Nat.{ℕ, _+_, _-_, _*_, _/_, _≤_, _<_}
 use lib.ListN.{length}
 use Rattle.ground.specs.Ladder.{Answers}
 use Rattle.hash.specs.Fnv.{fnv}
+use Rattle.words.specs.Folds.{fold}
 use Rattle.partition.specs.Bits.{top}
 use Rattle.partition.specs.declared.Shape.{Shape}
 use Rattle.partition.specs.Partition.{Row, needs, rowsOf, buckets}
@@ -20,6 +21,7 @@ use Rattle.store.specs.Accepted.{GoodLength, Accepted}
 use Rattle.store.specs.Tables.{Out, refused, formatted, new, replaced, meaning, rowTable, inspectTable}
 use Rattle.store.specs.Demands.{Call, format, put as a-put, Made, ok, surviving, GoodCode, Mode, map-of, Answered, WholePages, RefusedInOrder, FormatSucceeds, RefusalKeeps, OutputKept, CheckExact, LookupIsMap, PutIsMap, RemoveIsMap, PutRefused, EitherAsBefore, ListedOnce, CountIsSize, RowIsListed, InspectIsSlot, PlaceComesBack, AcceptedAgain, FormatAccepted, AfreshAlways, SameRefusals, KeptPages}
 use Rattle.store.specs.Choice.{PutChooses, RemoveChooses}
+use Rattle.store.specs.Spellings.{SameLot, StoredFolded}
 use Rattle.any_size.specs.OwnSizes.{OwnDemands}
 
 -- a finished promise: for every input the answer and each byte of store and output are settled, refused calls too; so is the enum's case
@@ -40,20 +42,20 @@ pub record First (S : Shape) (z e : ℕ) : Type 0 where
   pub store-kept : RefusalKeeps S fnv
   pub output-kept : OutputKept S fnv
 
--- the row that a put is given
+-- the row that a put is given, its code folded
 abbrev pub given : List ℕ → Place → Row
-given c p = record { code = c; place = stored p }
+given c p = record { code = fold c; place = stored p }
 
 -- the place that s has for a code
 abbrev pub held : Shape → List ℕ → List ℕ → Option (List ℕ)
-held S s c = map-of S s c
+held S s c = map-of S s (fold c)
 
 -- the rows of s with the row given, and what those of them need that share its first k bits
 abbrev pub joining : Shape → List ℕ → List ℕ → Place → List Row
 joining S s c p = given c p ∷ rowsHeld S s
 
 abbrev pub near : Shape → ℕ → List ℕ → List ℕ → Place → ℕ
-near S k s c p = needs (rowsOf fnv (joining S s c p) k (top k (fnv c)))
+near S k s c p = needs (rowsOf fnv (joining S s c p) k (top k (fnv (fold c))))
 
 -- a put that is refused for nothing it is given: a code, a place and a mode as they must be
 pub record Fair (c : List ℕ) (p : Place) (m : ℕ) : Type 0 where
@@ -85,6 +87,9 @@ pub record Second (S : Shape) (z k : ℕ) : Type 0 where
   pub put-says : (s c : List ℕ) (p : Place) (m : ℕ) (o : Out) (t : List ℕ) → Accepted S fnv s → Made S fnv (a-put c p m) s o t → PutSays S z k s c p m o
   -- mode 0 behaves as before
   pub either-as-before : EitherAsBefore S fnv
+  -- two spellings are the same lot; every stored and every listed code is folded
+  pub same-lot : SameLot S fnv
+  pub stored-folded : StoredFolded S fnv
   pub listed-once : ListedOnce S fnv
   pub count : CountIsSize S fnv
   pub row : RowIsListed S fnv

@@ -30,6 +30,7 @@ use Rattle.store.proofs.Accepted.Rules.{opened}
 use Rattle.store.proofs.Showing.Shown.{page-row}
 use Rattle.store.proofs.Showing.Showing.{first-code, accepted-shows, pages-held}
 use Rattle.store.proofs.Accepted.Unique.{page-long}
+use Rattle.store.proofs.Accepted.Spelled.{held-folded, one-more}
 use Rattle.store.proofs.Accepted.Reading.{Naming, place-on}
 use Rattle.store.proofs.Paging.PageTies.{found-not, fits-needs}
 use Rattle.store.proofs.Put.PutCases.{here-six, splits-seven, put-splits-is}
@@ -286,7 +287,7 @@ module _ (S : Shape) (h : List ℕ → ℕ) (hash : Hash h) (s : List ℕ) (p i 
                   (λ _. six),
                   inr (
                     (λ _. seven),
-                    (refl, rw (← holds) (settled S sized h hash s A t split-kept u D (r ∷ rowsHeld S s) shown b)),
+                    (refl, rw (← holds) (settled S sized h hash s A t split-kept u D (r ∷ rowsHeld S s) shown (one-more r _ (P .folded) (held-folded S h sized hash s A)) b)),
                   ),
                 ),
               )

@@ -35,6 +35,7 @@ use Rattle.store.proofs.Accepted.Accepting.{accepted-laid}
 use Rattle.store.proofs.Paging.Depths.{kind-byte}
 use Rattle.store.proofs.Paging.Views.{set-same, set-other, set-entry as entry-kept}
 use Rattle.store.proofs.Accepted.Unique.{page-long}
+use Rattle.store.proofs.Accepted.Spelled.{held-folded, one-more}
 use Rattle.store.proofs.Accepted.Reading.{entryOf, lookup-none}
 use Rattle.store.proofs.Put.PutCases.{unheld-six, unheld-seven, put-unheld-is}
 use Rattle.store.proofs.Put.PutRows.{put-shown}
@@ -225,7 +226,7 @@ module _ (S : Shape) (h : List ℕ → ℕ) (hash : Hash h) (s : List ℕ) (x : 
               (λ _. six),
               inr (
                 (λ _. room),
-                (refl, rw (← holds-then) (settled S sized h hash s A t kept t directed (r ∷ rowsHeld S s) (rw holds-then (put-shown S h sized hash s r A absent six room)) b)),
+                (refl, rw (← holds-then) (settled S sized h hash s A t kept t directed (r ∷ rowsHeld S s) (rw holds-then (put-shown S h sized hash s r A absent six room)) (one-more r _ (P .folded) (held-folded S h sized hash s A)) b)),
               ),
             ),
           )

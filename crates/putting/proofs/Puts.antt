@@ -13,6 +13,7 @@ use Rattle.ground.specs.Ladder.{Answers}
 use Rattle.ground.proofs.Sides.{side}
 use Rattle.ground.proofs.Tables.{length-tab}
 use Rattle.page.specs.Page.{Slotted, BucketPage, depth, count, frontier, code, place, rows, rowAt}
+use Rattle.words.specs.Folds.{Folded}
 use Rattle.page.specs.Steps.{Overwritten}
 use Rattle.page.specs.Packed.{Fitting, Added}
 use Rattle.page.specs.Places as Places
@@ -32,6 +33,7 @@ use Rattle.store.specs.Demands.{Sized, Hash}
 use Rattle.store.proofs.Showing.Shows.{prefixOn, Holding, Shows}
 use Rattle.store.proofs.Showing.Shown.{within-pages, page-row, find-only}
 use Rattle.store.proofs.Accepted.Unique.{page-long}
+use Rattle.store.proofs.Accepted.Spelled.{held-folded, one-more, one-less}
 use Rattle.store.proofs.Showing.Showing.{accepted-shows, pages-held}
 use Rattle.store.proofs.Accepted.Reading.{Naming, lookup-page, place-on}
 use Rattle.store.proofs.Put.OverShows.{over-one, prefix-over}
@@ -122,14 +124,15 @@ module _ (S : Shape) (h : List ℕ → ℕ) (sized : Sized S) (hash : Hash h) (s
             (
               refl,
               laid-becomes S h sized hash (setPage S s p q) (known-row ∷ without (λ x. x .code) c (rowsHeld S s)) (overwritten gs known-row) known-laid
-                  (over-shown S h sized hash s known-row (place g i) A old) s (set-long S s p q (U .to) (O .long ∙ long)) small,
+                  (over-shown S h sized hash s known-row (place g i) A old)
+                  (one-more known-row _ (subst Folded e (U .bytes .folded i b)) (one-less c (rowsHeld S s) (held-folded S h sized hash s A))) s (set-long S s p q (U .to) (O .long ∙ long)) small,
             ),
           ),
         )
 
   -- ---- a new code that fits
 
-  module _ (i : ℕ) (pl t q t′ : List ℕ) (F : Fitting g i c pl) (D : Added g i c pl t q t′) where
+  module _ (i : ℕ) (pl t q t′ : List ℕ) (F : Fitting g i c pl) (D : Added g i c pl t q t′) (folded : Folded c) where
     abbrev new-row : Row
     new-row = newRow c pl
 
@@ -195,7 +198,7 @@ module _ (S : Shape) (h : List ℕ → ℕ) (sized : Sized S) (hash : Hash h) (s
             (λ _. six),
             inr (
               (λ _. seven),
-              (refl, laid-becomes S h sized hash (setPage S s p q) (new-row ∷ rowsHeld S s) (putNew S h gs new-row) L later s (set-long S s p q (U .to) (N .long ∙ long)) small),
+              (refl, laid-becomes S h sized hash (setPage S s p q) (new-row ∷ rowsHeld S s) (putNew S h gs new-row) L later (one-more new-row _ folded (held-folded S h sized hash s A)) s (set-long S s p q (U .to) (N .long ∙ long)) small),
             ),
           ),
         )

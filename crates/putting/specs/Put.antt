@@ -4,6 +4,7 @@ use mathlib.Core.List.{List}
 use Prim.Native.Nat.{ℕ, suc, _+_, _*_, _/_, _≤_, _<_}
 use lib.ListN.{length}
 use Rattle.words.specs.Codes.{GoodCode}
+use Rattle.words.specs.Folds.{Folded}
 use Rattle.page.specs.Page.{Belongs, Natural, count, free, code}
 use Rattle.page.specs.Packed.{Fitting}
 use Rattle.page.specs.declared.Place.{Place}
@@ -19,14 +20,22 @@ use Rattle.store.specs.Demands.{Sized, Mode}
 abbrev pub newRow : List ℕ → List ℕ → Row
 newRow c pl = record { code = c; place = pl }
 
--- a row that can be put on the accepted store s: a code of 1 to 64 bytes, and a place of which no part is negative
+-- a row that can be put on the accepted store s: a code of 1 to 64 bytes without a capital, and a place of which no part is negative
 pub record Puttable (S : Shape) (h : List ℕ → ℕ) (s c pl : List ℕ) : Type 0 where
+  pub sized : Sized S
+  pub accepted : Accepted S h s
+  pub good : GoodCode c
+  pub folded : Folded c
+  pub natural : Natural pl
+
+-- what makes such a row: its code not yet folded
+pub record Givable (S : Shape) (h : List ℕ → ℕ) (s c pl : List ℕ) : Type 0 where
   pub sized : Sized S
   pub accepted : Accepted S h s
   pub good : GoodCode c
   pub natural : Natural pl
 
--- such a row, its place not yet in bytes
+-- and its place not yet in bytes
 pub record Allowed (S : Shape) (h : List ℕ → ℕ) (s c : List ℕ) (p : Place) : Type 0 where
   pub sized : Sized S
   pub accepted : Accepted S h s

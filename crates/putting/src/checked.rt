@@ -1,11 +1,12 @@
 // A put on a store that is known to be accepted: the same table, without another check.
 ghost use Rattle.ground.specs.Ladder.{Answers};
 ghost use Rattle.hash.specs.Fnv.{fnv};
+ghost use Rattle.words.specs.Folds.{fold};
 ghost use Rattle.page.specs.Places.{stored};
 ghost use Rattle.store.specs.Demands.{put, Made};
 ghost use Rattle.store.specs.Tables.{putByMode, meaning};
 ghost use Rattle.putting.specs.Put.{newRow, Allowed, Ready};
-use super::putting::put_row;
+use super::putting::put_given;
 use partition::Shape;
 
 // A code that is one gets a place with no negative part.
@@ -17,11 +18,11 @@ pub fn put_allowed(
     mode: u64,
 ) -> store::Answer
     requires { ⌜ Allowed z fnv (now s) (now key) place ⌝ }
-    ensures { λ r. ⌜ Answers (putByMode z fnv (now (s .entry)) mode (newRow (now (key .entry)) (stored place))) (meaning r, now (s .exit)) ⌝ }
+    ensures { λ r. ⌜ Answers (putByMode z fnv (now (s .entry)) mode (newRow (fold (now (key .entry))) (stored place))) (meaning r, now (s .exit)) ⌝ }
 {
     let mut bytes = [0u8; 8];
     page::store_place(&mut bytes, place);
-    put_row(s, z, key, &bytes, mode)
+    put_given(s, z, key, &bytes, mode)
 }
 
 // A code gets a place, if it is what the mode expects.

@@ -3,11 +3,12 @@ ghost use mathlib.Core.Path.{_≡_};
 ghost use lib.ListN.{length};
 ghost use Rattle.ground.specs.Ladder.{Answers};
 ghost use Rattle.hash.specs.Fnv.{fnv};
+ghost use Rattle.words.specs.Folds.{fold};
 ghost use Rattle.page.specs.Page.{code};
 ghost use Rattle.partition.specs.Sizes.{shapeOf};
 ghost use Rattle.store.specs.Pages.{size, page};
 ghost use Rattle.store.specs.Tables.{putAccepted, putByMode, putTable, meaning};
-ghost use Rattle.putting.specs.Put.{newRow, Puttable, Homeless, Homed, KnownAt, Insertion};
+ghost use Rattle.putting.specs.Put.{newRow, Puttable, Givable, Homeless, Homed, KnownAt, Insertion};
 use super::checked::put_allowed;
 use super::split::split_lent;
 use super::vacant::vacant_depth;
@@ -144,7 +145,7 @@ fn put_on(s: &mut [u8], z: Shape, p: usize, key: &[u8], place: &[u8], mode: u64)
     }
 }
 
-// The row on an accepted store.
+// The row of a code as it is stored, on an accepted store.
 pub fn put_row(s: &mut [u8], z: Shape, key: &[u8], place: &[u8], mode: u64) -> store::Answer
     requires { ⌜ Puttable z fnv (now s) (now key) (now place) ⌝ }
     ensures { λ r. ⌜ Answers (putByMode z fnv (now (s .entry)) mode (newRow (now (key .entry)) (now (place .entry)))) (meaning r, now (s .exit)) ⌝ }
@@ -158,6 +159,17 @@ pub fn put_row(s: &mut [u8], z: Shape, key: &[u8], place: &[u8], mode: u64) -> s
         return new_bucket(s, z, x, key, place);
     }
     put_on(s, z, p, key, place, mode)
+}
+
+// The row of a given code on an accepted store.
+pub fn put_given(s: &mut [u8], z: Shape, key: &[u8], place: &[u8], mode: u64) -> store::Answer
+    requires { ⌜ Givable z fnv (now s) (now key) (now place) ⌝ }
+    ensures { λ r. ⌜ Answers (putByMode z fnv (now (s .entry)) mode (newRow (fold (now (key .entry))) (now (place .entry)))) (meaning r, now (s .exit)) ⌝ }
+{
+    let n = key.len();
+    let mut low = [0u8; 64];
+    words::fold_code(&mut low, key);
+    put_row(s, z, &low[0..n], place, mode)
 }
 
 // A code gets a place, if it is what the mode expects.

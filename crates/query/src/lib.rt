@@ -3,6 +3,7 @@ ghost use Rattle.ground.specs.Ladder.{Answers};
 ghost use Prim.Native.Nat.{_≤_};
 ghost use lib.ListN.{length};
 ghost use Rattle.hash.specs.Fnv.{fnv};
+ghost use Rattle.words.specs.Folds.{fold};
 ghost use Rattle.partition.specs.Listing.{listing};
 ghost use Rattle.partition.specs.Sizes.{shapeOf};
 ghost use mathlib.Core.Path.{_≡_};
@@ -11,6 +12,7 @@ ghost use Rattle.store.specs.Pages.{page, asRow, rowsHeld};
 ghost use Rattle.store.specs.Accepted.{Accepted};
 ghost use Rattle.store.specs.Demands.{Sized};
 ghost use Rattle.store.specs.Tables.{checkTable, countTable, lookedUp, lookupTable, rowOf, rowTable, giving, meaning};
+ghost use Rattle.query.specs.Asked.{Asked};
 ghost use Rattle.query.specs.Spots.{OnPage};
 use partition::Shape;
 use store::Answer;
@@ -73,7 +75,7 @@ pub fn count(s: &[u8]) -> Answer
     Answer::Rows(spots::count_rows(s, z, n))
 }
 
-// The place of a code, on an accepted store.
+// The place of a code as it is stored, on an accepted store.
 pub fn place_of(s: &[u8], z: Shape, key: &[u8]) -> Answer
     requires { ⌜ Sized z × Accepted z fnv (now s) ⌝ }
     ensures { λ r. ⌜ Answers (lookedUp z (now (s .entry)) (now (key .entry))) (meaning r) ⌝ }
@@ -87,6 +89,17 @@ pub fn place_of(s: &[u8], z: Shape, key: &[u8]) -> Answer
         }
         Spot::Nowhere => Answer::Refused(Refusal::NoCode),
     }
+}
+
+// The place of a given code, on an accepted store.
+pub fn place_given(s: &[u8], z: Shape, key: &[u8]) -> Answer
+    requires { ⌜ Asked z fnv (now s) (now key) ⌝ }
+    ensures { λ r. ⌜ Answers (lookedUp z (now (s .entry)) (fold (now (key .entry)))) (meaning r) ⌝ }
+{
+    let n = key.len();
+    let mut low = [0u8; 64];
+    words::fold_code(&mut low, key);
+    place_of(s, z, &low[0..n])
 }
 
 // The place of a code.
@@ -103,7 +116,7 @@ pub fn lookup(s: &[u8], key: &[u8]) -> Answer
     if p < s.len() / (8 + z.capacity) {
         return Answer::Refused(Refusal::BadPage(p));
     }
-    place_of(s, z, key)
+    place_given(s, z, key)
 }
 
 // The row in slot i of the bucket page p, its code to the start of the output.

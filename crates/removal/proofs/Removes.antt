@@ -53,6 +53,7 @@ use Rattle.store.proofs.Showing.Rooms.{bucket-one}
 use Rattle.store.proofs.Remove.MoveRows.{remove-shown}
 use Rattle.store.proofs.Remove.RemoveCases as Cases
 use Rattle.store.proofs.Showing.Within.{one-depth, rows-within}
+use Rattle.store.proofs.Accepted.Spelled.{AllFolded, held-folded, one-less}
 use Rattle.store.proofs.Accepted.Accepting.{Laid, accepted-laid, laid-becomes}
 use Rattle.store.proofs.Paging.PageTies.{row-in, zeros, read-cleared, page-once, found-at, removed-rows}
 use Rattle.store.proofs.Paging.Views.{set-long, set-same, set-other, set-below, set-contents}
@@ -175,6 +176,9 @@ module _ (S : Shape) (sized : Sized S) (h : List ℕ → ℕ) (hash : Hash h) (s
     shallow : Shallowest S h (rowsLeft S s c) x j
     shallow = record { fit = F .fit; above = F .over }
 
+    spelled : AllFolded (rowsLeft S s c)
+    spelled = one-less c rs (held-folded S h sized hash s (L .accepted))
+
     -- the pages then
     after : Shows S h (rowsLeft S s c) (removed S h gs c)
     after = remove-shown S h sized hash s c old (L .accepted) (L .known)
@@ -219,14 +223,14 @@ module _ (S : Shape) (sized : Sized S) (h : List ℕ → ℕ) (hash : Hash h) (s
           laid-becomes S h sized hash (setPage S s p q) (rowsLeft S s c) (removed S h gs c)
           (subst (Laid S h (setPage S s p q)) (sym written)
           (laid-set S h sized s gs (accepted-laid S h sized hash s (L .accepted)) p k (rows g) (L .from) (L .to) holding q kept (R .long ∙ long) (R .deep) still))
-          after s (set-long S s p q (L .to) (R .long ∙ long)) small
+          after spelled s (set-long S s p q (L .to) (R .long ∙ long)) small
 
     -- pages written anew and settled
     module _ {t u : List ℕ} (W : Rewritten S s t) (holds-then : contents S t ≡ removed S h gs c) (D : Directed S h t (deepestIn (contents S t)) (pages S s) u) where
       pub settles : ((m : ℕ) → byte u m < 256) → Becomes S h s (removed S h gs c) u
       settles small =
           subst (λ l. Becomes S h s l u) holds-then
-          (settled S sized h hash s (L .accepted) t W u D (rowsLeft S s c) (subst (Shows S h (rowsLeft S s c)) (sym holds-then) after) small)
+          (settled S sized h hash s (L .accepted) t W u D (rowsLeft S s c) (subst (Shows S h (rowsLeft S s c)) (sym holds-then) after) spelled small)
 
     -- ---- nothing left on the page: it is cleared
 

@@ -4,4 +4,5 @@ mod prefix;
 mod removal;
 
 pub use removal::remove;
+pub use removal::remove_given;
 pub use removal::remove_row;

@@ -2,12 +2,14 @@
 ghost use mathlib.Core.Path.{_≡_};
 ghost use Rattle.ground.specs.Ladder.{Answers};
 ghost use Rattle.hash.specs.Fnv.{fnv};
+ghost use Rattle.words.specs.Folds.{fold};
 ghost use Rattle.partition.specs.Sizes.{shapeOf};
 ghost use Rattle.store.specs.Pages.{contents};
 ghost use Rattle.store.specs.Accepted.{Accepted};
 ghost use Rattle.store.specs.Demands.{Sized};
 ghost use Rattle.store.specs.Moves.{removed};
 ghost use Rattle.store.specs.Tables.{Becomes, removeAccepted, removeTable, meaning};
+ghost use Rattle.query.specs.Asked.{Asked};
 ghost use Rattle.removal.specs.Remove.{Leaving};
 use super::join::join_lent;
 use super::prefix::climb;
@@ -44,7 +46,7 @@ fn take_out(s: &mut [u8], z: Shape, p: usize, i: usize, key: &[u8], x: u32)
     page::remove_slot(&mut s[a..e], i);
 }
 
-// Remove on an accepted store.
+// Remove of a code as it is stored, on an accepted store.
 pub fn remove_row(s: &mut [u8], z: Shape, key: &[u8]) -> store::Answer
     requires { ⌜ Sized z × Accepted z fnv (now s) ⌝ }
     ensures { λ r. ⌜ Answers (removeAccepted z fnv (now (s .entry)) (now (key .entry))) (meaning r, now (s .exit)) ⌝ }
@@ -63,6 +65,17 @@ pub fn remove_row(s: &mut [u8], z: Shape, key: &[u8]) -> store::Answer
     }
 }
 
+// Remove of a given code on an accepted store.
+pub fn remove_given(s: &mut [u8], z: Shape, key: &[u8]) -> store::Answer
+    requires { ⌜ Asked z fnv (now s) (now key) ⌝ }
+    ensures { λ r. ⌜ Answers (removeAccepted z fnv (now (s .entry)) (fold (now (key .entry)))) (meaning r, now (s .exit)) ⌝ }
+{
+    let n = key.len();
+    let mut low = [0u8; 64];
+    words::fold_code(&mut low, key);
+    remove_row(s, z, &low[0..n])
+}
+
 // The row of a code goes; its place.
 pub fn remove(s: &mut [u8], key: &[u8]) -> store::Answer
     ensures { λ r. ⌜ Answers (removeTable (shapeOf (now (s .entry))) fnv (now (s .entry)) (now (key .entry))) (meaning r, now (s .exit)) ⌝ }
@@ -77,5 +90,5 @@ pub fn remove(s: &mut [u8], key: &[u8]) -> store::Answer
     if p < s.len() / (8 + z.capacity) {
         return store::Answer::Refused(store::Refusal::BadPage(p));
     }
-    remove_row(s, z, key)
+    remove_given(s, z, key)
 }

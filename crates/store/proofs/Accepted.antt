@@ -4,6 +4,7 @@ pub mod Unique
 pub mod Format
 pub mod Owner
 pub mod Named
+pub mod Spelled
 pub mod Accepting
 pub mod Reading
 pub mod OwnSize

@@ -13,3 +13,4 @@ pub mod Said
 pub mod Meaning
 pub mod Whole
 pub mod Choice
+pub mod Spellings

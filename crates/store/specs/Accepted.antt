@@ -7,6 +7,7 @@ use lib.ListN.{length}
 use Rattle.ground.specs.Lists.{byte}
 use Rattle.words.specs.Le.{le32}
 pub use Rattle.words.specs.Zeros.{Zero}
+use Rattle.words.specs.Folds.{Folded}
 use Rattle.ground.specs.Lists.{tab}
 use Rattle.page.specs.Page.{BucketPage, depth, count, code}
 use Rattle.partition.specs.Bits.{top}
@@ -45,9 +46,10 @@ pub record Page1 (S : Shape) (s : List ℕ) : Type 0 where
   pub range : (i : ℕ) → i < S .entries → (entryAt S s i ≡ 0) ⊎ ((2 ≤ entryAt S s i) × (entryAt S s i < pages S s))
   pub beyond : (i : ℕ) → i < S .entries → 2 ^ dirDepth s ≤ i → entryAt S s i ≡ 0
 
--- a bucket page's own bytes: the page's rules, and the hashes share the first local-depth bits
+-- a bucket page's own bytes: the page's rules, no stored code with a capital, and the hashes share the first local-depth bits
 pub record Bucket (h : List ℕ → ℕ) (g : List ℕ) : Type 0 where
   pub rules : BucketPage g
+  pub folded : (i : ℕ) → i < count g → Folded (code g i)
   pub share : (i j : ℕ) → i < count g → j < count g → top (depth g) (h (code g i)) ≡ top (depth g) (h (code g j))
 
 -- entry i, i below 2^d, names the bucket whose prefix of length k equals the top k of i's d bits

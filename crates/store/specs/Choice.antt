@@ -4,6 +4,7 @@ use mathlib.Core.List.{List, [], _∷_}
 use mathlib.Core.Logic.{_≢_}
 use mathlib.Core.Option.{Option, some, none}
 use Prim.Native.Nat.{ℕ, _-_, _/_, _^_, _≤_, _<_}
+use Rattle.words.specs.Folds.{fold}
 use Rattle.page.specs.declared.Place.{Place}
 use Rattle.partition.specs.Bits.{top}
 use Rattle.partition.specs.declared.Shape.{Shape}
@@ -66,8 +67,8 @@ pub record RemovePages (S : Shape) (h : List ℕ → ℕ) (s c t : List ℕ) : T
 module _ (S : Shape) (h : List ℕ → ℕ) where
   -- so it is of every put that answers new
   abbrev pub PutChooses : Type 0
-  PutChooses = (s c : List ℕ) (a : Place) (m : ℕ) (t : List ℕ) → Accepted S h s → Made S h (put c a m) s new t → PutPages S h s c t
+  PutChooses = (s c : List ℕ) (a : Place) (m : ℕ) (t : List ℕ) → Accepted S h s → Made S h (put c a m) s new t → PutPages S h s (fold c) t
 
   -- and of every remove that answers a place
   abbrev pub RemoveChooses : Type 0
-  RemoveChooses = (s c : List ℕ) (a : Place) (t : List ℕ) → Accepted S h s → Made S h (remove c) s (found a) t → RemovePages S h s c t
+  RemoveChooses = (s c : List ℕ) (a : Place) (t : List ℕ) → Accepted S h s → Made S h (remove c) s (found a) t → RemovePages S h s (fold c) t

@@ -17,6 +17,7 @@ use Rattle.page.specs.declared.Place.{Place}
 use Rattle.ground.specs.Ladder.{Answers}
 pub use Rattle.words.specs.Codes.{GoodCode}
 use Rattle.words.specs.Codes.{order}
+use Rattle.words.specs.Folds.{fold, Folded}
 use Rattle.partition.specs.Listing.{by, without, inOrder, listing, placeOf, Once}
 use Rattle.store.specs.Pages.{S1024, size, pages, page, Page, free, bucket, read, asRow, rowsHeld, dirDepth, entryAt}
 use Rattle.store.specs.Accepted.{Zero, Bucket, Page0, Page0Before, Page1, Stands, Parted, Deepest, Accepted}
@@ -191,28 +192,28 @@ module _ (S : Shape) (h : List ℕ → ℕ) where
 
   -- lookup answers the map's place, 5 where there is none
   abbrev pub LookupIsMap : Type 0
-  LookupIsMap = (s c : List ℕ) (o : Out) (t : List ℕ) → Accepted S h s → Made S h (lookup c) s o t → GoodCode c → o ≡ answerOf (map-of S s c)
+  LookupIsMap = (s c : List ℕ) (o : Out) (t : List ℕ) → Accepted S h s → Made S h (lookup c) s o t → GoodCode c → o ≡ answerOf (map-of S s (fold c))
 
   -- a put that is not refused sets its code, one that is changes nothing
   abbrev pub PutIsMap : Type 0
   PutIsMap = (s c : List ℕ) (p : Place) (m : ℕ) (o : Out) (t : List ℕ) → Accepted S h s → Made S h (put c p m) s o t
-      → (ok o ≡ true → (o ≡ putAnswer (map-of S s c)) × ((x : List ℕ) → map-of S t x ≡ update (map-of S s) c (some (stored p)) x))
+      → (ok o ≡ true → (o ≡ putAnswer (map-of S s (fold c))) × ((x : List ℕ) → map-of S t x ≡ update (map-of S s) (fold c) (some (stored p)) x))
       × (ok o ≡ false → t ≡ s)
 
   -- remove answers as lookup does, and the map afterwards is the map without the code
   abbrev pub RemoveIsMap : Type 0
   RemoveIsMap = (s c : List ℕ) (o : Out) (t : List ℕ) → Accepted S h s → Made S h (remove c) s o t → GoodCode c
-      → (o ≡ answerOf (map-of S s c)) × ((x : List ℕ) → map-of S t x ≡ update (map-of S s) c none x)
+      → (o ≡ answerOf (map-of S s (fold c))) × ((x : List ℕ) → map-of S t x ≡ update (map-of S s) (fold c) none x)
 
   -- what the table refuses a put on an accepted store for
   pub data Refuses (s c : List ℕ) (p : Place) (m : ℕ) : Type 0 where
     no-code : (GoodCode c → ⊥) → Refuses s c p m
     negative : Negative p → Refuses s c p m
     no-mode : (Mode m → ⊥) → Refuses s c p m
-    known : m ≡ 1 → (old : List ℕ) → map-of S s c ≡ some old → Refuses s c p m
-    absent : m ≡ 2 → map-of S s c ≡ none → Refuses s c p m
-    prefix-full : map-of S s c ≡ none → Refusal6 S h (rowsHeld S s) (record { code = c; place = stored p }) → Refuses s c p m
-    pages-full : map-of S s c ≡ none → Refusal7 S h s (rowsHeld S s) (record { code = c; place = stored p }) → Refuses s c p m
+    known : m ≡ 1 → (old : List ℕ) → map-of S s (fold c) ≡ some old → Refuses s c p m
+    absent : m ≡ 2 → map-of S s (fold c) ≡ none → Refuses s c p m
+    prefix-full : map-of S s (fold c) ≡ none → Refusal6 S h (rowsHeld S s) (record { code = fold c; place = stored p }) → Refuses s c p m
+    pages-full : map-of S s (fold c) ≡ none → Refusal7 S h s (rowsHeld S s) (record { code = fold c; place = stored p }) → Refuses s c p m
 
   -- it is refused exactly when the table says
   abbrev pub PutRefused : Type 0
@@ -263,8 +264,8 @@ after format rs = []
 after check rs = rs
 after count rs = rs
 after (lookup c) rs = rs
-after (remove c) rs = without (λ q. q .code) c rs
-after (put c p m) rs = record { code = c; place = stored p } ∷ without (λ q. q .code) c rs
+after (remove c) rs = without (λ q. q .code) (fold c) rs
+after (put c p m) rs = record { code = fold c; place = stored p } ∷ without (λ q. q .code) (fold c) rs
 after (rowAt n out) rs = rs
 after (inspect g n out) rs = rs
 

@@ -4,3 +4,4 @@ pub mod Moves
 pub mod Tables
 pub mod Demands
 pub mod Choice
+pub mod Spellings

@@ -7,6 +7,7 @@ use Prim.Native.Nat.{ℕ, _+_, _-_, _*_, _≤_, _<_}
 use lib.ListN.{length, drop, replicate, getElem?}
 use Rattle.ground.specs.Lists.{byte}
 use Rattle.words.specs.Le.{bytes}
+use Rattle.words.specs.Folds.{fold}
 use Rattle.page.specs.Page.{depth}
 use Rattle.partition.specs.Bits.{top}
 use Rattle.partition.specs.declared.Shape.{Shape}
@@ -149,7 +150,7 @@ lookupTable S h s c =
     refuse (Refusal1 S s) (refused 1)
     (refuse (Refusal3 c) (refused 3)
     (checked S h s (λ o. o)
-    (lookedUp S s c)))
+    (lookedUp S s (fold c))))
 
 -- ---- put, remove: answer and store
 
@@ -179,7 +180,7 @@ putTable S h s c p m =
     (refuse (Refusal4 p) (refused 4, s)
     (refuse (Refusal14 m) (refused 14, s)
     (checked S h s (λ o. (o, s))
-    (putByMode S h s m (record { code = c; place = stored p }))))))
+    (putByMode S h s m (record { code = fold c; place = stored p }))))))
 
 -- put as document 01 has it, before there were modes
 unfoldable pub putBefore : Shape → (List ℕ → ℕ) → List ℕ → List ℕ → Place → Ladder (Out × List ℕ)
@@ -188,7 +189,7 @@ putBefore S h s c p =
     (refuse (Refusal3 c) (refused 3, s)
     (refuse (Refusal4 p) (refused 4, s)
     (checked S h s (λ o. (o, s))
-    (putAccepted S h s (record { code = c; place = stored p })))))
+    (putAccepted S h s (record { code = fold c; place = stored p })))))
 
 -- remove of the code c on an accepted store
 abbrev pub removeAccepted : Shape → (List ℕ → ℕ) → List ℕ → List ℕ → Ladder (Out × List ℕ)
@@ -201,7 +202,7 @@ removeTable S h s c =
     refuse (Refusal1 S s) (refused 1, s)
     (refuse (Refusal3 c) (refused 3, s)
     (checked S h s (λ o. (o, s))
-    (removeAccepted S h s c)))
+    (removeAccepted S h s (fold c))))
 
 -- ---- row at place n, inspection: answer and output
 

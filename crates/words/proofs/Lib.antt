@@ -1,4 +1,5 @@
 pub mod Bytes
 pub mod Orders
+pub mod Folds
 pub mod Zeros
 pub mod Settled

@@ -1,4 +1,5 @@
 pub mod Le
 pub mod Moves
 pub mod Codes
+pub mod Folds
 pub mod Zeros

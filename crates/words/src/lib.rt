@@ -1,10 +1,12 @@
-// Bytes of a slice: little-endian numbers, copies and shifts, zeros, and the byte order of codes.
+// Bytes of a slice: little-endian numbers, copies and shifts, zeros, the byte order of codes, and their folding.
 ghost use mathlib.Core.Path.{_≡_};
+ghost use mathlib.Core.Logic.{_↔_};
 ghost use Prim.Native.Nat.{_+_, _*_, _^_, _≤_, _<_, min};
 ghost use lib.ListN.{length};
 ghost use Rattle.ground.specs.Says.{Says};
 ghost use Rattle.words.specs.Le.{le16, le32};
 ghost use Rattle.words.specs.Codes.{Ordered};
+ghost use Rattle.words.specs.Folds.{foldByte, fold, Folded};
 ghost use Rattle.words.specs.Moves.{Put16, Put32, Copied, MovedDown, Cleared, MovedUp};
 ghost use Rattle.words.specs.Zeros.{Zero, ZeroFrom};
 
@@ -187,4 +189,72 @@ pub fn compare(a: &[u8], b: &[u8]) -> Order
         return Order::Greater;
     }
     Order::Equal
+}
+
+// 1 for a byte from 0x41 to 0x5A, else 0.
+fn capital(x: u8) -> u8
+    ensures { λ r. ⌜ (r ≡ 0) ↔ (foldByte x ≡ x) ⌝ }
+{
+    if x < 0x41 {
+        return 0;
+    }
+    if 0x5A < x {
+        return 0;
+    }
+    1
+}
+
+// A byte from 0x41 to 0x5A becomes one from 0x61 to 0x7A.
+fn fold_byte(x: u8) -> u8
+    ensures { λ r. ⌜ r ≡ foldByte x ⌝ }
+{
+    if capital(x) == 0 {
+        return x;
+    }
+    x + 0x20
+}
+
+// The code src, folded, goes to the start of dst.
+pub fn fold_code(dst: &mut [u8], src: &[u8])
+    requires { ⌜ length (now src) ≤ length (now dst) ⌝ }
+    ensures { λ _. ⌜ Copied (now (dst .entry)) 0 (fold (now (src .entry))) (now (dst .exit)) ⌝ }
+{
+    let mut i = 0;
+    while i < src.len() {
+        dst[i] = fold_byte(src[i]);
+        i += 1;
+    }
+}
+
+// Whether a code of n to 2n bytes has no capital: its first n bytes and its last n. No way out before the end, so that it vectorises.
+fn ends_folded(s: &[u8], n: usize) -> bool
+    requires { ⌜ (n ≤ length (now s)) × (length (now s) ≤ n + n) ⌝ }
+    ensures { λ r. ⌜ Says r (Folded (now (s .entry))) ⌝ }
+{
+    let rest = s.len() - n;
+    let mut acc: u8 = 0;
+    let mut i = 0;
+    while i < n {
+        acc = acc | (capital(s[i]) | capital(s[rest + i]));
+        i += 1;
+    }
+    acc == 0
+}
+
+// Whether a code has no capital. By a fixed number of turns where it has 8 bytes or more, so that these become one or two looks.
+pub fn folded(s: &[u8]) -> bool
+    requires { ⌜ length (now s) ≤ 64 ⌝ }
+    ensures { λ r. ⌜ Says r (Folded (now (s .entry))) ⌝ }
+{
+    let n = s.len();
+    if n < 8 {
+        return ends_folded(s, n);
+    }
+    if n <= 16 {
+        return ends_folded(s, 8);
+    }
+    if n <= 32 {
+        return ends_folded(s, 16);
+    }
+    ends_folded(s, 32)
 }

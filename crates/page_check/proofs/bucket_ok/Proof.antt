@@ -28,17 +28,31 @@ same-length-2 c = search needs
 returns-2 : tie.Need-returns-2
 returns-2 c = search needs
 
-share-ok-requires : tie.Need-share-ok-requires
-share-ok-requires c κs = (rules (c .before .before), omega arith)
+spelled-ok-requires : tie.Need-spelled-ok-requires
+spelled-ok-requires c κs = rules (c .before .before)
 
 same-length-3 : tie.Need-same-length-3
 same-length-3 c = search needs
 
 returns-3 : tie.Need-returns-3
 returns-3 c =
-    let d = c .before .before .before in (
+    let d = c .before .before .before .before in (
+      (λ k. says-false (c .before .spelled-ok .result) (not-true _ (c .if3 .taken)) (c .before .spelled-ok .ensures) (k .folded)),
+      d .before .before .before .page-ok .ensures .1,
+    )
+
+share-ok-requires : tie.Need-share-ok-requires
+share-ok-requires c κs = (rules (c .before .before .before .before), omega arith)
+
+same-length-4 : tie.Need-same-length-4
+same-length-4 c = search needs
+
+returns-4 : tie.Need-returns-4
+returns-4 c =
+    let d = c .before .before .before .before .before in
+    let t = c .before .before .spelled-ok in (
       says-same (c .share-ok .result) (c .share-ok .ensures)
-          (λ s. record { rules = rules d; deep = c .before .if2 .left; share = s })
+          (λ s. record { rules = rules d; folded = says-true (t .result) (not-false _ (c .before .if3 .left)) (t .ensures); deep = c .before .before .before .if2 .left; share = s })
           (λ k. k .share),
       d .before .before .before .page-ok .ensures .1,
     )
@@ -53,6 +67,9 @@ bucket-ok-spec =
     shared-slice-read-if2
     same-length-2
     returns-2
-    share-ok-requires
+    spelled-ok-requires
     same-length-3
-    returns-3)
+    returns-3
+    share-ok-requires
+    same-length-4
+    returns-4)

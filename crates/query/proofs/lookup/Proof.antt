@@ -93,8 +93,8 @@ returns-3 c =
     subst (λ S. Answers (lookupTable S fnv (store k) (key k)) (refusedAt 2 (f .first-bad .result))) (said k .0)
     (inr ((λ _ n. n (said k .1)), inr ((λ _ r. no-three _ (good d) r), inl (f .first-bad .result, (f .first-bad .ensures .bad (c .if2 .taken), refl)))))
 
-place-of-requires : tie.Need-place-of-requires
-place-of-requires c κs = let f = c .before .before in (sized (first (f .before)), f .first-bad .ensures .sound (c .if2 .left))
+place-given-requires : tie.Need-place-given-requires
+place-given-requires c κs = let f = c .before .before in record { sized = sized (first (f .before)); accepted = f .first-bad .ensures .sound (c .if2 .left); good = good (f .before) }
 
 returns-4 : tie.Need-returns-4
 unfolding lookupTable
@@ -103,8 +103,8 @@ returns-4 c =
     let d = f .before in
     let k = first d in
     let a = f .first-bad .ensures .sound (c .before .if2 .left) in
-    subst (λ S. Answers (lookupTable S fnv (store k) (key k)) (meaning (c .place-of .result))) (said k .0)
-    (inr ((λ _ n. n (said k .1)), inr ((λ _ r. no-three _ (good d) r), inr (accepted-whole _ fnv _ a, (a, c .place-of .ensures)))))
+    subst (λ S. Answers (lookupTable S fnv (store k) (key k)) (meaning (c .place-given .result))) (said k .0)
+    (inr ((λ _ n. n (said k .1)), inr ((λ _ r. no-three _ (good d) r), inr (accepted-whole _ fnv _ a, (a, c .place-given .ensures)))))
 
 pub lookup-spec : {M : Type 1} → statement M
 lookup-spec =
@@ -120,5 +120,5 @@ lookup-spec =
     add-if2
     div-if2
     returns-3
-    place-of-requires
+    place-given-requires
     returns-4)

@@ -1,6 +1,6 @@
 -- The way back: bytes laid out for pages that show rows are an accepted store. What format, put and remove have to promise of their bytes. Assumes nothing.
 use mathlib.Core.Path.{_≡_, refl, sym, ap, subst, subst₂, _∙_}
-use mathlib.Core.List.{List}
+use mathlib.Core.List.{List, List·Memᴰ}
 use mathlib.Core.Logic.{_⊎_, inl, inr, _↔_}
 use Prim.Native.Nat.{ℕ, _+_, _-_, _*_, _/_, _^_, _≤_, _<_}
 use native.Mathlib.Omega.{arith}
@@ -23,6 +23,7 @@ use Rattle.store.specs.Accepted.{GoodLength, Zero, Calls, Stands, unused
 use Rattle.store.specs.Tables.{Becomes}
 use Rattle.store.specs.Demands.{Sized, Hash}
 use Rattle.store.proofs.Accepted.Rules.{Opened, opened, closed}
+use Rattle.store.proofs.Accepted.Spelled.{AllFolded}
 use Rattle.store.proofs.Showing.Shows.{prefixOn, Holding, Shows}
 use Rattle.store.proofs.Showing.Shown.{free-not, page-row}
 use Rattle.store.proofs.Accepted.Unique.{read-zero, read-used, held, within}
@@ -84,7 +85,8 @@ module _ (S : Shape) (s t : List ℕ) (l : length t ≡ length s) (same : (k : �
   pub each-kept : ((p : ℕ) → 2 ≤ p → p < pages S s → Whole (page S s p)) → (p : ℕ) → 2 ≤ p → p < pages S t → Whole (page S t p)
   each-kept f p a b = subst Whole (sym (page-kept p a b)) (f p a (subst (λ n. p < n / size S) l b))
 
-module _ (S : Shape) (h : List ℕ → ℕ) (sized : Sized S) (hash : Hash h) (t : List ℕ) (rs : List Row) (gs : List Page) (L : Laid S h t gs) (w : Shows S h rs gs) where
+module _ (S : Shape) (h : List ℕ → ℕ) (sized : Sized S) (hash : Hash h) (t : List ℕ) (rs : List Row) (gs : List Page) (L : Laid S h t gs) (w : Shows S h rs gs)
+    (spelled : AllFolded rs) where
   abbrev pg : ℕ → List ℕ
   pg p = page S t p
 
@@ -103,12 +105,16 @@ module _ (S : Shape) (h : List ℕ → ℕ) (sized : Sized S) (hash : Hash h) (t
   low : (i k : ℕ) (qs : List Record) → Holding gs i k qs → k ≤ d
   low i k qs g = subst (λ n. k ≤ n) (sym (L .deep)) (deepest-bound gs i k qs g)
 
+  -- the row of a slot is one of the rows, and its hash has the page's prefix
+  shown : (p : ℕ) → 2 ≤ p → p < pages S t → BucketPage (pg p) → (i : ℕ) → i < count (pg p)
+      → List·Memᴰ (asRow (rowAt (pg p) i)) rs × (top (depth (pg p)) (h (code (pg p) i)) ≡ prefixOn h (depth (pg p)) (rows (pg p)))
+  shown p a b u i l =
+      let g = on p a b u in
+      page-row S h rs (depth (pg p)) (rows (pg p)) (w .page (p - 2) (depth (pg p)) (rows (pg p)) g) (asRow (rowAt (pg p) i)) .0 (row-in (pg p) i l)
+
   -- every hash of a page has the page's prefix
   begins : (p : ℕ) → 2 ≤ p → p < pages S t → BucketPage (pg p) → (i : ℕ) → i < count (pg p) → top (depth (pg p)) (h (code (pg p) i)) ≡ prefixOn h (depth (pg p)) (rows (pg p))
-  begins p a b u i l =
-      let g = on p a b u in
-      page-row S h rs (depth (pg p)) (rows (pg p)) (w .page (p - 2) (depth (pg p)) (rows (pg p)) g) (asRow (rowAt (pg p) i)) .0
-      (row-in (pg p) i l) .1
+  begins p a b u i l = shown p a b u i l .1
 
   -- the entries that name a page are those that it calls for
   exactly : (p : ℕ) → 2 ≤ p → p < pages S t → BucketPage (pg p) → (e : ℕ) → e < S .entries
@@ -145,7 +151,7 @@ module _ (S : Shape) (h : List ℕ → ℕ) (sized : Sized S) (hash : Hash h) (t
       go : Whole (pg p) → Stands S h t p
       go (inl z) = unused z (λ e l. none z e (L .entry e l))
       go (inr u) = used
-          (record { rules = u; share = λ i j x y. begins p a b u i x ∙ sym (begins p a b u j y) })
+          (record { rules = u; folded = λ i x. spelled (asRow (rowAt (pg p) i)) (shown p a b u i x .0); share = λ i j x y. begins p a b u i x ∙ sym (begins p a b u j y) })
           (low (p - 2) (depth (pg p)) (rows (pg p)) (on p a b u))
           (λ e l. subst (λ v. (entryAt S t e ≡ p) ↔ Calls d (depth (pg p)) v e) (first-code h (pg p) u) (exactly p a b u e l))
 

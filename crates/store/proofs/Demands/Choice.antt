@@ -9,6 +9,7 @@ use lib.ListN.{length, getD}
 use Rattle.ground.proofs.Ladders.{each}
 use Rattle.ground.proofs.Tests.{none-some}
 use Rattle.page.specs.Page.{Record}
+use Rattle.words.specs.Folds.{fold}
 use Rattle.page.specs.Places.{stored}
 use Rattle.partition.specs.declared.Shape.{Shape}
 use Rattle.partition.specs.Partition.{Prefix}
@@ -114,23 +115,23 @@ refused-not x o o′ t e f g k = true≢false (sym k ∙ ap ok (sym g ∙ ap (λ
 
 module _ (S : Shape) (h : List ℕ → ℕ) (sized : Sized S) (hash : Hash h) where
   pub put-chooses : PutChooses S h
-  put-chooses s c p m t a made = put-each S h s (λ x. x .0 ≡ new → PutPages S h s c (x .1)) c p record {
+  put-chooses s c p m t a made = put-each S h s (λ x. x .0 ≡ new → PutPages S h s (fold c) (x .1)) c p record {
     kept = λ o f e. absurd (true≢false (sym (ap ok e) ∙ f));
     over = λ old k t b e. absurd (let z : _≡_ {A = ℕ} 0 1 = cc e in omega arith);
-    fresh = λ un n6 n7 t b e. put-pages S h sized hash s a t _ b c
-        (chosen S h hash (rowsHeld S s) (record { code = c; place = stored p }) (contents S s) (before S h sized hash s a) un (omega arith) (omega (arith, pages-held S s)));
+    fresh = λ un n6 n7 t b e. put-pages S h sized hash s a t _ b (fold c)
+        (chosen S h hash (rowsHeld S s) (record { code = fold c; place = stored p }) (contents S s) (before S h sized hash s a) un (omega arith) (omega (arith, pages-held S s)));
   } m (new, t) made refl
 
   pub remove-chooses : RemoveChooses S h
   unfolding removeTable
-  remove-chooses s c p t a m = each (λ x. x .0 ≡ found p → RemovePages S h s c (x .1)) (removeTable S h s c) (
+  remove-chooses s c p t a m = each (λ x. x .0 ≡ found p → RemovePages S h s (fold c) (x .1)) (removeTable S h s c) (
     (λ _ _ x e f. absurd (refused-not x _ (found p) _ e refl f refl)),
     (λ _. (
       (λ _ _ x e f. absurd (refused-not x _ (found p) _ e refl f refl)),
       (λ _. (
         (λ _ _ x e f. absurd (refused-not x _ (found p) _ e refl f refl)),
         (λ _ _. (
-          (λ old k x e f. remove-pages S h sized hash s a (x .1) _ (e .1) c (rejoined S h hash (rowsHeld S s) (contents S s) c old (before S h sized hash s a) k)),
+          (λ old k x e f. remove-pages S h sized hash s a (x .1) _ (e .1) (fold c) (rejoined S h hash (rowsHeld S s) (contents S s) (fold c) old (before S h sized hash s a) k)),
           (λ _ x e f.
               absurd (refused-not x _ (found p) _ e refl f refl)),
         )),

@@ -9,6 +9,7 @@ use native.Mathlib.Omega.{arith}
 use lib.ListN.{length}
 use Rattle.ground.proofs.Tests.{none-some}
 use Rattle.partition.specs.declared.Shape.{Shape}
+use Rattle.words.specs.Folds.{fold}
 use Rattle.page.specs.declared.Place.{Place}
 use Rattle.ground.specs.Ladder.{Answers}
 use Rattle.store.specs.Pages.{Page, rowsHeld}
@@ -118,20 +119,20 @@ module _ (S : Shape) (h : List ℕ → ℕ) where
 
   pub lookup-is-map : LookupIsMap S h
   unfolding lookupTable
-  lookup-is-map s c o t a m g = each (λ o. o ≡ answerOf (map-of S s c)) (lookupTable S h s c) (
+  lookup-is-map s c o t a m g = each (λ o. o ≡ answerOf (map-of S s (fold c))) (lookupTable S h s c) (
     (λ _ r. absurd (r (a .long))),
     (λ _. (
       (λ _ r. absurd (no-three c g r)),
       (λ _. (
         (λ p b. absurd (accepted-whole S h s a p b)),
-        (λ _ _. ((λ b e o f. f ∙ ap answerOf (sym e)), (λ n o f. f ∙ ap answerOf (sym (nothing-there (map-of S s c) n))))),
+        (λ _ _. ((λ b e o f. f ∙ ap answerOf (sym e)), (λ n o f. f ∙ ap answerOf (sym (nothing-there (map-of S s (fold c)) n))))),
       )),
     )),
   ) o (m .0)
 
   -- none of the ways to refuse a put: for a known code only the mode counts, for a new one the mode, 6 and 7
-  pub unrefused : (s c : List ℕ) (p : Place) (m : ℕ) → GoodCode c → (Negative p → ⊥) → Mode m → (m ≡ 1 → (old : List ℕ) → map-of S s c ≡ some old → ⊥)
-      → (map-of S s c ≡ none → (m ≡ 2 → ⊥) × (Refusal6 S h (rowsHeld S s) (record { code = c; place = stored p }) → ⊥) × (Refusal7 S h s (rowsHeld S s) (record { code = c; place = stored p }) → ⊥))
+  pub unrefused : (s c : List ℕ) (p : Place) (m : ℕ) → GoodCode c → (Negative p → ⊥) → Mode m → (m ≡ 1 → (old : List ℕ) → map-of S s (fold c) ≡ some old → ⊥)
+      → (map-of S s (fold c) ≡ none → (m ≡ 2 → ⊥) × (Refusal6 S h (rowsHeld S s) (record { code = fold c; place = stored p }) → ⊥) × (Refusal7 S h s (rowsHeld S s) (record { code = fold c; place = stored p }) → ⊥))
       → Refuses S h s c p m → ⊥
   unrefused s c p m g n q k u (no-code x) = x g
   unrefused s c p m g n q k u (negative x) = n x

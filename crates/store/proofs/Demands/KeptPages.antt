@@ -8,6 +8,7 @@ use Rattle.ground.specs.Ladder.{Answers}
 use Rattle.ground.proofs.Ladders.{each}
 use Rattle.page.specs.Page.{Record}
 use Rattle.page.specs.Places.{place, stored}
+use Rattle.words.specs.Folds.{fold}
 use Rattle.page.specs.declared.Place.{Place}
 use Rattle.page.proofs.Unique.{unique}
 use Rattle.partition.specs.declared.Shape.{Shape}
@@ -67,7 +68,7 @@ module _ (S : Shape) (h : List ℕ → ℕ) (sized : Sized S) (hash : Hash h) wh
   } m
     where
       r : Row
-      r = record { code = c; place = stored p }
+      r = record { code = fold c; place = stored p }
 
   remove-keeps : (s c : List ℕ) → Accepted S h s → (x : Out × List ℕ) → Answers (removeTable S h s c) x → Keeps s x
   unfolding removeTable
@@ -78,7 +79,7 @@ module _ (S : Shape) (h : List ℕ → ℕ) (sized : Sized S) (hash : Hash h) wh
       (λ _. (
         (λ _ _ x e. unchanged s a x _ e),
         (λ _ _. (
-          (λ old k x e. written s x _ (e .1) (remove-kept S h hash (rowsHeld S s) (contents S s) c old (shown s a) k)),
+          (λ old k x e. written s x _ (e .1) (remove-kept S h hash (rowsHeld S s) (contents S s) (fold c) old (shown s a) k)),
           (λ _ x e. unchanged s a x _ e),
         )),
       )),

@@ -9,6 +9,7 @@ use native.Mathlib.Omega.{arith}
 use Rattle.ground.specs.Ladder.{Answers}
 use Rattle.ground.proofs.Ladders.{Each, each}
 use Rattle.ground.proofs.Tests.{none-some}
+use Rattle.words.specs.Folds.{fold}
 use Rattle.page.specs.declared.Place.{Place}
 use Rattle.page.specs.Places.{place, stored}
 use Rattle.partition.specs.declared.Shape.{Shape}
@@ -85,7 +86,7 @@ module _ (S : Shape) (h : List ℕ → ℕ) (s : List ℕ) (Q : Out × List ℕ 
   mode-each r w m = each Q (putByMode S h s m r) (ways r w m)
 
   -- of a put on any bytes
-  pub put-each : (c : List ℕ) (p : Place) → PutWays S h s (record { code = c; place = stored p }) Q
+  pub put-each : (c : List ℕ) (p : Place) → PutWays S h s (record { code = fold c; place = stored p }) Q
       → (m : ℕ) (x : Out × List ℕ) → Answers (putTable S h s c p m) x → Q x
   unfolding putTable
   put-each c p w m = each Q (putTable S h s c p m) (
@@ -98,7 +99,7 @@ module _ (S : Shape) (h : List ℕ → ℕ) (s : List ℕ) (Q : Out × List ℕ 
           (λ _ _. keep w _ refl),
           (λ _. (
             (λ _ _. keep w _ refl),
-            (λ _ _. ways (record { code = c; place = stored p }) w m),
+            (λ _ _. ways (record { code = fold c; place = stored p }) w m),
           )),
         )),
       )),

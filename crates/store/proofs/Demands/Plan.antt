@@ -7,6 +7,7 @@ use Prim.Native.Nat.{ℕ}
 use Rattle.partition.specs.declared.Shape.{Shape}
 use Rattle.partition.specs.Partition.{Row, Reordered, empty, front, chain, buckets, depthOf}
 use Rattle.partition.proofs.Laws.{reordered}
+use Rattle.words.specs.Folds.{fold}
 use Rattle.page.specs.declared.Place.{Place}
 use Rattle.ground.specs.Ladder.{Answers}
 use Rattle.partition.specs.Listing.{without, placeOf}
@@ -54,8 +55,8 @@ after-same format p = empty
 after-same check p = p
 after-same count p = p
 after-same (lookup c) p = p
-after-same (remove c) p = cut-same c p
-after-same (put c pl m) p = front _ (cut-same c p)
+after-same (remove c) p = cut-same (fold c) p
+after-same (put c pl m) p = front _ (cut-same (fold c) p)
 after-same (rowAt n out) p = p
 after-same (inspect g n out) p = p
 
@@ -89,11 +90,11 @@ module _ (S : Shape) (h : List ℕ → ℕ) where
     put-left s c p m a = put-each S h s (Left (put c p m) s) c p record {
       kept = λ o f. kept (put c p m) s (o, s) o refl f;
       over = λ old k t b. moved (put c p m) s (replaced (place old), t) _ _ refl refl b (over s r old a k);
-      fresh = λ un n6 n7 t b. moved (put c p m) s (new, t) _ _ refl refl b (to-cut c (rowsHeld S s) _ _ un (puts s r a un n6 n7));
+      fresh = λ un n6 n7 t b. moved (put c p m) s (new, t) _ _ refl refl b (to-cut (fold c) (rowsHeld S s) _ _ un (puts s r a un n6 n7));
     } m
       where
         r : Row
-        r = record { code = c; place = stored p }
+        r = record { code = fold c; place = stored p }
 
     remove-left : (s c : List ℕ) → Accepted S h s → (x : Out × List ℕ) → Answers (removeTable S h s c) x → Left (remove c) s x
     unfolding removeTable
@@ -104,7 +105,7 @@ module _ (S : Shape) (h : List ℕ → ℕ) where
         (λ _. (
           (λ _ _ x e. kept (remove c) s x _ e refl),
           (λ _ _. (
-            (λ old k x e. moved (remove c) s x _ _ (e .0) refl (e .1) (removes s c old a k)),
+            (λ old k x e. moved (remove c) s x _ _ (e .0) refl (e .1) (removes s (fold c) old a k)),
             (λ _ x e.
                 kept (remove c) s x _ e refl),
           )),
@@ -165,14 +166,14 @@ unfolding update
 update-put r x rs = map-put r x rs
 
 module _ (S : Shape) (h : List ℕ → ℕ) (sized : Sized S) (fresh : AcceptedIsAfresh S h) (puts : PutRows S h) (over : OverRows S h) (removes : RemoveRows S h) where
-  put-answer : (s c : List ℕ) (p : Place) (m : ℕ) (x : Out × List ℕ) → Answers (putTable S h s c p m) x → ok (x .0) ≡ true → x .0 ≡ putAnswer (map-of S s c)
-  put-answer s c p m = put-each S h s (λ x. ok (x .0) ≡ true → x .0 ≡ putAnswer (map-of S s c)) c p
+  put-answer : (s c : List ℕ) (p : Place) (m : ℕ) (x : Out × List ℕ) → Answers (putTable S h s c p m) x → ok (x .0) ≡ true → x .0 ≡ putAnswer (map-of S s (fold c))
+  put-answer s c p m = put-each S h s (λ x. ok (x .0) ≡ true → x .0 ≡ putAnswer (map-of S s (fold c))) c p
       (record { kept = λ o f g. absurd (true≢false (sym g ∙ f)); over = λ old k t b f. ap putAnswer (sym k); fresh = λ un n6 n7 t b f. ap putAnswer (sym un) }) m
 
   remove-answer : (s c : List ℕ) → Accepted S h s → (x : Out × List ℕ) → Answers (removeTable S h s c) x
-      → GoodCode c → x .0 ≡ answerOf (map-of S s c)
+      → GoodCode c → x .0 ≡ answerOf (map-of S s (fold c))
   unfolding removeTable
-  remove-answer s c a = each (λ x. GoodCode c → x .0 ≡ answerOf (map-of S s c)) (removeTable S h s c) (
+  remove-answer s c a = each (λ x. GoodCode c → x .0 ≡ answerOf (map-of S s (fold c))) (removeTable S h s c) (
     (λ _ r. absurd (r (a .long))),
     (λ _. (
       (λ _ r x e g. absurd (no-three c g r)),
@@ -191,16 +192,16 @@ module _ (S : Shape) (h : List ℕ → ℕ) (sized : Sized S) (fresh : AcceptedI
 
   pub put-is-map : PutIsMap S h
   put-is-map s c p m o t a made = (
-    (λ f. (put-answer s c p m (o, t) made f, (λ x. map-after (put c p m) s o t a made f x ∙ update-put (record { code = c; place = stored p }) x (rowsHeld S s)))),
+    (λ f. (put-answer s c p m (o, t) made f, (λ x. map-after (put c p m) s o t a made f x ∙ update-put (record { code = fold c; place = stored p }) x (rowsHeld S s)))),
     refusal-keeps S h (put c p m) s o t made,
   )
 
   remove-map : (s c : List ℕ) (o : Out) (t : List ℕ) → Accepted S h s → Made S h (remove c) s o t
-      → (b : Option (List ℕ)) → map-of S s c ≡ b → o ≡ answerOf b → (x : List ℕ) → map-of S t x ≡ update (map-of S s) c none x
+      → (b : Option (List ℕ)) → map-of S s (fold c) ≡ b → o ≡ answerOf b → (x : List ℕ) → map-of S t x ≡ update (map-of S s) (fold c) none x
   remove-map s c o t a m none e f x =
       ap (λ y. map-of S y x) (refusal-keeps S h (remove c) s o t m (ap ok f))
-      ∙ sym (ap (λ l. placeOf l x) (cut-none c (rowsHeld S s) e)) ∙ update-cut c x (rowsHeld S s)
-  remove-map s c o t a m (some b) e f x = map-after (remove c) s o t a m (ap ok f) x ∙ update-cut c x (rowsHeld S s)
+      ∙ sym (ap (λ l. placeOf l x) (cut-none (fold c) (rowsHeld S s) e)) ∙ update-cut (fold c) x (rowsHeld S s)
+  remove-map s c o t a m (some b) e f x = map-after (remove c) s o t a m (ap ok f) x ∙ update-cut (fold c) x (rowsHeld S s)
 
   pub remove-is-map : RemoveIsMap S h
-  remove-is-map s c o t a m g = let w = remove-answer s c a (o, t) m g in (w, remove-map s c o t a m (map-of S s c) refl w)
+  remove-is-map s c o t a m g = let w = remove-answer s c a (o, t) m g in (w, remove-map s c o t a m (map-of S s (fold c)) refl w)

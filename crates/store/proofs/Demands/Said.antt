@@ -14,6 +14,7 @@ use Rattle.ground.proofs.Sides.{side}
 use Rattle.ground.proofs.Tables.{length-tab}
 use Rattle.page.specs.Page.{Record, rows, rowAt, count}
 use Rattle.page.specs.Places.{place, InRange}
+use Rattle.words.specs.Folds.{fold}
 use Rattle.page.specs.declared.Place.{Place}
 use Rattle.partition.specs.declared.Shape.{Shape}
 use Rattle.partition.specs.Partition.{Row}
@@ -139,7 +140,7 @@ module _ (S : Shape) (h : List ℕ → ℕ) where
         (λ _ _. no (Placed found) 3 (omega arith) (λ z. omega arith)),
         (λ _. (
           (λ p b o e. inl (inr (p, (paged s p g b, e)))),
-          (λ _ a. ((λ b m o e. inr (b, (mapped s c b a m, e))), (λ _. no (Placed found) 5 (omega arith) (λ z. omega arith)))),
+          (λ _ a. ((λ b m o e. inr (b, (mapped s (fold c) b a m, e))), (λ _. no (Placed found) 5 (omega arith) (λ z. omega arith)))),
         )),
       )),
     )
@@ -152,7 +153,7 @@ module _ (S : Shape) (h : List ℕ → ℕ) where
         (λ _ _. left (Placed found) 3 (omega arith) (λ z. omega arith)),
         (λ _. (
           (λ p b x e. inl (inr (p, (paged s p g b, ap (λ y. y .0) e)))),
-          (λ _ a. ((λ b m x e. inr (b, (mapped s c b a m, e .0))), (λ _. left (Placed found) 5 (omega arith) (λ z. omega arith)))),
+          (λ _ a. ((λ b m x e. inr (b, (mapped s (fold c) b a m, e .0))), (λ _. left (Placed found) 5 (omega arith) (λ z. omega arith)))),
         )),
       )),
     )
@@ -174,7 +175,7 @@ module _ (S : Shape) (h : List ℕ → ℕ) where
                 (λ _. (
                   (λ _ _. left Kept 5 (omega arith) (λ z. omega arith)),
                   (λ _. (
-                    (λ b k x e. inr (inr (b, (mapped s c b a k, e .0)))),
+                    (λ b k x e. inr (inr (b, (mapped s (fold c) b a k, e .0)))),
                     (λ _. (
                       (λ _ _. left Kept 6 (omega arith) (λ z. omega arith)),
                       (λ _. ((λ _ _. left Kept 7 (omega arith) (λ z. omega arith)), (λ _ x e. inr (inl (e .0))))),

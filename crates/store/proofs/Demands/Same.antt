@@ -11,6 +11,7 @@ use Rattle.partition.specs.Partition.{Row, Reordered, front, chain, needs, rows
 use Rattle.partition.proofs.Pages.{turned as back}
 use Rattle.partition.proofs.Sorted.{same-map}
 use Rattle.partition.proofs.Laws.{load-reordered, reordered}
+use Rattle.words.specs.Folds.{fold}
 use Rattle.page.specs.declared.Place.{Place}
 use Rattle.ground.specs.Ladder.{Ladder, rung, answer, refuse, Answers}
 use Rattle.partition.specs.Listing.{placeOf}
@@ -50,14 +51,14 @@ answers-one S c p m q a b n = one (putAnswers S c p m q a b n)
 
 module _ (S : Shape) (h : List ℕ → ℕ) (c : List ℕ) (p : Place) (m : ℕ) where
   r : Row
-  r = record { code = c; place = stored p }
+  r = record { code = fold c; place = stored p }
 
   deep : List Row → ℕ
-  deep rs = needs (rowsOf h (r ∷ rs) (S .deepest) (top (S .deepest) (h c)))
+  deep rs = needs (rowsOf h (r ∷ rs) (S .deepest) (top (S .deepest) (h (fold c))))
 
   -- the answers that the put table gives on an accepted store
   to-answers : (s : List ℕ) → Accepted S h s → (x : Out × List ℕ) → Answers (putTable S h s c p m) x
-      → Answers (putAnswers S c p m (placeOf (rowsHeld S s) c) (deep (rowsHeld S s)) (length (buckets S h (r ∷ rowsHeld S s))) (pages S s)) (x .0)
+      → Answers (putAnswers S c p m (placeOf (rowsHeld S s) (fold c)) (deep (rowsHeld S s)) (length (buckets S h (r ∷ rowsHeld S s))) (pages S s)) (x .0)
   unfolding putTable putAnswers deep r
   to-answers s a = each _ (putTable S h s c p m) (
     (λ _ r. absurd (r (a .long))),
@@ -96,17 +97,17 @@ module _ (S : Shape) (h : List ℕ → ℕ) (c : List ℕ) (p : Place) (m : ℕ)
       → (o o′ : Out) (s′ t′ : List ℕ) → Made S h (put c p m) s o s′ → Made S h (put c p m) t o′ t′ → o ≡ o′
   unfolding deep r
   same-put s t a b once q l o o′ s′ t′ made made′ =
-      let e₁ : placeOf (rowsHeld S s) c ≡ placeOf (rowsHeld S t) c = same-map q once .1 c in
-      let e₂ : deep (rowsHeld S s) ≡ deep (rowsHeld S t) = load-reordered S h (front r q) (S .deepest) (top (S .deepest) (h c)) in
+      let e₁ : placeOf (rowsHeld S s) (fold c) ≡ placeOf (rowsHeld S t) (fold c) = same-map q once .1 (fold c) in
+      let e₂ : deep (rowsHeld S s) ≡ deep (rowsHeld S t) = load-reordered S h (front r q) (S .deepest) (top (S .deepest) (h (fold c))) in
       let e₃ : length (buckets S h (r ∷ rowsHeld S s)) ≡ length (buckets S h (r ∷ rowsHeld S t)) = ap length (reordered S h (front r q)) in
       let e₄ : pages S s ≡ pages S t = ap (λ k. k / size S) l in
-      let x : Answers (putAnswers S c p m (placeOf (rowsHeld S t) c) (deep (rowsHeld S t)) (length (buckets S h (r ∷ rowsHeld S t))) (pages S t)) o
-      = subst (λ k. Answers (putAnswers S c p m (placeOf (rowsHeld S t) c) (deep (rowsHeld S t)) (length (buckets S h (r ∷ rowsHeld S t))) k) o) e₄
-      (subst (λ k. Answers (putAnswers S c p m (placeOf (rowsHeld S t) c) (deep (rowsHeld S t)) k (pages S s)) o) e₃
-      (subst (λ k. Answers (putAnswers S c p m (placeOf (rowsHeld S t) c) k (length (buckets S h (r ∷ rowsHeld S s))) (pages S s)) o) e₂
+      let x : Answers (putAnswers S c p m (placeOf (rowsHeld S t) (fold c)) (deep (rowsHeld S t)) (length (buckets S h (r ∷ rowsHeld S t))) (pages S t)) o
+      = subst (λ k. Answers (putAnswers S c p m (placeOf (rowsHeld S t) (fold c)) (deep (rowsHeld S t)) (length (buckets S h (r ∷ rowsHeld S t))) k) o) e₄
+      (subst (λ k. Answers (putAnswers S c p m (placeOf (rowsHeld S t) (fold c)) (deep (rowsHeld S t)) k (pages S s)) o) e₃
+      (subst (λ k. Answers (putAnswers S c p m (placeOf (rowsHeld S t) (fold c)) k (length (buckets S h (r ∷ rowsHeld S s))) (pages S s)) o) e₂
       (subst (λ k. Answers (putAnswers S c p m k (deep (rowsHeld S s)) (length (buckets S h (r ∷ rowsHeld S s))) (pages S s)) o) e₁
       (to-answers s a (o, s′) made)))) in
-      answers-one S c p m (placeOf (rowsHeld S t) c) (deep (rowsHeld S t)) (length (buckets S h (r ∷ rowsHeld S t))) (pages S t) o o′ x (to-answers t b (o′, t′) made′)
+      answers-one S c p m (placeOf (rowsHeld S t) (fold c)) (deep (rowsHeld S t)) (length (buckets S h (r ∷ rowsHeld S t))) (pages S t) o o′ x (to-answers t b (o′, t′) made′)
 
 -- of demand 3 the second part follows from the first
 pub same-refusals : (S : Shape) (h : List ℕ → ℕ) → AfreshAlways S h → SameRefusals S h

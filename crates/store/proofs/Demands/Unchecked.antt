@@ -7,6 +7,7 @@ use native.Mathlib.Omega.{arith}
 use lib.ListN.{length}
 use Rattle.ground.specs.Ladder.{Answers}
 use Rattle.ground.specs.Says.{Says}
+use Rattle.words.specs.Folds.{fold}
 use Rattle.page.specs.declared.Place.{Place}
 use Rattle.page.specs.Places.{Negative, stored}
 use Rattle.partition.specs.declared.Shape.{Shape}
@@ -50,7 +51,7 @@ module _ (S : Shape) (h : List ℕ → ℕ) (s : List ℕ) (a : Accepted S h s) 
     unfolding lookupTable
     finds-3 n = inr (long, inl (tt, (three c n, refl)))
 
-    pub finds : (o : Out) → GoodCode c → Answers (lookedUp S s c) o → Answers (lookupTable S h s c) o
+    pub finds : (o : Out) → GoodCode c → Answers (lookedUp S s (fold c)) o → Answers (lookupTable S h s c) o
     unfolding lookupTable
     finds o g y = inr (long, inr ((λ _ t. no-three c g t), inr (whole, (a, y))))
 
@@ -58,7 +59,7 @@ module _ (S : Shape) (h : List ℕ → ℕ) (s : List ℕ) (a : Accepted S h s) 
     unfolding removeTable
     removes-3 n = inr (long, inl (tt, (three c n, refl)))
 
-    pub removes : (r : Out × List ℕ) → GoodCode c → Answers (removeAccepted S h s c) r → Answers (removeTable S h s c) r
+    pub removes : (r : Out × List ℕ) → GoodCode c → Answers (removeAccepted S h s (fold c)) r → Answers (removeTable S h s c) r
     unfolding removeTable
     removes r g y = inr (long, inr ((λ _ t. no-three c g t), inr (whole, (a, y))))
 
@@ -71,6 +72,6 @@ module _ (S : Shape) (h : List ℕ → ℕ) (s : List ℕ) (a : Accepted S h s) 
       unfolding putTable
       puts-4 g n = inr (long, inr ((λ _ t. no-three c g t), inl (tt, (n, refl))))
 
-      pub puts : (r : Out × List ℕ) → GoodCode c → (Negative p → ⊥) → Mode m → Answers (putByMode S h s m (record { code = c; place = stored p })) r → Answers (putTable S h s c p m) r
+      pub puts : (r : Out × List ℕ) → GoodCode c → (Negative p → ⊥) → Mode m → Answers (putByMode S h s m (record { code = fold c; place = stored p })) r → Answers (putTable S h s c p m) r
       unfolding putTable
       puts r g n o y = inr (long, inr ((λ _ t. no-three c g t), inr ((λ _ t. n t), inr ((λ _ t. no-fourteen m o t), inr (whole, (a, y))))))

@@ -13,6 +13,7 @@ use Rattle.ground.proofs.Tests.{none-some}
 use Rattle.partition.specs.declared.Shape.{Shape}
 use Rattle.partition.specs.Partition.{Row}
 use Rattle.partition.specs.Listing.{placeOf, listing}
+use Rattle.words.specs.Folds.{fold}
 use Rattle.page.specs.declared.Place.{Place}
 use Rattle.page.specs.Places.{Negative}
 use Rattle.page.proofs.Signs.{positive}
@@ -82,7 +83,7 @@ module _ (S : Shape) (h : List ℕ → ℕ) (s : List ℕ) where
   pub lookup-answered : (c : List ℕ) → Result (lookupTable S h s c)
   unfolding lookupTable
   lookup-answered c =
-      unless (good-or-not S s) (λ g. refused-or (three-or-not c) (λ n. checked-or S h s (λ o. o) g (λ a. found-or (placeOf (rowsHeld S s) c) (λ b e. answered _) (λ e. answered _))))
+      unless (good-or-not S s) (λ g. refused-or (three-or-not c) (λ n. checked-or S h s (λ o. o) g (λ a. found-or (placeOf (rowsHeld S s) (fold c)) (λ b e. answered _) (λ e. answered _))))
 
   row-of-answered : (rs : List Row) (n : ℕ) (out : List ℕ) → Result (rowOf rs n out)
   row-of-answered rs n out = found-or (getElem? rs n) (λ r e. answered _) (λ e. answered _)

@@ -23,6 +23,7 @@ use Rattle.store.specs.Accepted.{GoodLength, Calls}
 use Rattle.store.specs.Tables.{Becomes}
 use Rattle.store.specs.Demands.{Sized, Hash}
 use Rattle.store.proofs.Accepted.Accepting.{Whole, Laid, laid-becomes}
+use Rattle.store.proofs.Accepted.Spelled.{AllFolded}
 use Rattle.store.proofs.Result.Decided.{calls}
 use Rattle.store.proofs.Result.Decisions.{some}
 use Rattle.store.proofs.Result.Encoded.{le32-of}
@@ -100,7 +101,7 @@ module _ (z n : ℕ) (f : ℕ → List ℕ) (some : 0 < z) (long : (p : ℕ) →
 -- ---- the store
 
 module _ (S : Shape) (h : List ℕ → ℕ) (sized : Sized S) (hash : Hash h) (s : List ℕ) (good : GoodLength S s) (shown : List Row) (gs : List Page) (w : Shows S h shown gs)
-    (fits : Fits (size S) (pages S s - 2) gs) where
+    (fits : Fits (size S) (pages S s - 2) gs) (spelled : AllFolded shown) where
   abbrev n : ℕ
   n = pages S s
 
@@ -292,4 +293,4 @@ module _ (S : Shape) (h : List ℕ → ℕ) (sized : Sized S) (hash : Hash h) (s
 
   -- A STORE THAT HOLDS THEM
   pub store-of : (t : List ℕ) × Becomes S h s gs t
-  store-of = (t, laid-becomes S h sized hash t shown gs laid w s t-long (stacked-small z n numbered positive numbered-long numbered-small .at))
+  store-of = (t, laid-becomes S h sized hash t shown gs laid w spelled s t-long (stacked-small z n numbered positive numbered-long numbered-small .at))

@@ -10,6 +10,8 @@ use Rattle.ground.specs.Lists.{byte, tab, total}
 use Rattle.ground.proofs.Sides.{side}
 use Rattle.words.specs.Le.{le32}
 use Rattle.words.specs.Codes.{order, Before}
+use Rattle.words.specs.Folds.{Folded}
+use Rattle.words.proofs.Folds.{folded-or-not}
 use Rattle.partition.specs.Bits.{top}
 use Rattle.partition.specs.declared.Shape.{Shape}
 use Rattle.partition.specs.Sizes.{sizeNumber}
@@ -101,10 +103,10 @@ module _ (p : List ℕ) where
   module _ (h : List ℕ → ℕ) where
     pub bucket-or-not : Dec (Bucket h p)
     bucket-or-not = map-dec
-        (λ t. record { rules = record { rules = t .0; some = t .1 .0 }; share = λ i j a b. t .1 .1 i a j b })
-        (λ b. (b .rules .rules, (b .rules .some, λ i a j c. b .share i j a c)))
-        (both slotted (both (decLe 1 n) (each (λ i. Each (λ j. top (depth p) (h (code p i)) ≡ top (depth p) (h (code p j))))
-        (λ i. each (λ j. top (depth p) (h (code p i)) ≡ top (depth p) (h (code p j))) (λ j. ℕ-discrete (top (depth p) (h (code p i))) (top (depth p) (h (code p j))))))))
+        (λ t. record { rules = record { rules = t .0; some = t .1 .0 }; folded = t .1 .1 .0; share = λ i j a b. t .1 .1 .1 i a j b })
+        (λ b. (b .rules .rules, (b .rules .some, (b .folded, λ i a j c. b .share i j a c))))
+        (both slotted (both (decLe 1 n) (both (each (λ i. Folded (code p i)) (λ i. folded-or-not (code p i))) (each (λ i. Each (λ j. top (depth p) (h (code p i)) ≡ top (depth p) (h (code p j))))
+        (λ i. each (λ j. top (depth p) (h (code p i)) ≡ top (depth p) (h (code p j))) (λ j. ℕ-discrete (top (depth p) (h (code p i))) (top (depth p) (h (code p j)))))))))
 
     pub keeps-or-not : (S : Shape) → Dec (PageKeeps S h p)
     keeps-or-not S = either (zero-or-not p) (both bucket-or-not (decLe (depth p) (S .deepest)))

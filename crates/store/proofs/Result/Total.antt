@@ -10,7 +10,9 @@ use lib.ListN.{length}
 use lib.Signed.{mag}
 use Rattle.ground.specs.Lists.{byte}
 use Rattle.ground.proofs.Tests.{none-some}
+use Rattle.words.specs.Folds.{fold, Folded}
 use Rattle.words.proofs.Bytes.{small-append, small-bytes}
+use Rattle.words.proofs.Folds.{fold-twice, fold-small, fold-good}
 use Rattle.partition.specs.Bits.{top}
 use Rattle.partition.specs.declared.Shape.{Shape}
 use Rattle.partition.specs.Partition.{Row, needs, rowsOf, buckets}
@@ -24,6 +26,7 @@ use Rattle.store.specs.Moves.{overwritten, putNew, removed}
 use Rattle.store.specs.Tables.{Out, new, replaced, found, Refusal3, Becomes, writes, putAccepted, putByMode, putTable, removeTable}
 use Rattle.store.specs.Demands.{Sized, Hash, format, check, count, lookup, remove, put, rowAt, inspect, Answered}
 use Rattle.store.proofs.Result.Answered.{Result, answered, refused-or, unless, checked-or, found-or, three-or-not, negative-or-not, format-answered, check-answered, count-answered, lookup-answered, row-answered, inspect-answered}
+use Rattle.store.proofs.Accepted.Spelled.{held-folded, one-more, one-less}
 use Rattle.store.proofs.Result.Assembled.{store-of}
 use Rattle.store.proofs.Result.Decided.{good-or-not}
 use Rattle.store.proofs.Result.Decisions.{both}
@@ -34,15 +37,15 @@ use Rattle.store.proofs.Remove.MoveRows.{over-shown, remove-shown}
 use Rattle.store.proofs.Put.PutRows.{put-shown}
 
 -- a code of bytes and a place in its ranges may be stored
-stores : (c : List ℕ) (p : Place) → ((k : ℕ) → byte c k < 256) → InRange p → (Refusal3 c → ⊥) → (Negative p → ⊥) → Stores (record { code = c; place = stored p })
+stores : (c : List ℕ) (p : Place) → ((k : ℕ) → byte c k < 256) → InRange p → (Refusal3 c → ⊥) → (Negative p → ⊥) → Stores (record { code = fold c; place = stored p })
 stores c p small range three natural =
-    let g = good-code c three in
+    let g = fold-good c (good-code c three) in
     record {
       natural = stored-natural p natural range;
       some = g .least;
       most = g .most;
       placed = small-append (small-append (small-bytes 4 (mag (p .page))) (small-bytes 2 (mag (p .slot)))) (small-bytes 2 (mag (p .volume)));
-      coded = record { at = small };
+      coded = record { at = fold-small c small };
     }
 
 -- whether a code is there
@@ -59,32 +62,34 @@ module _ (S : Shape) (h : List ℕ → ℕ) (sized : Sized S) (hash : Hash h) (s
   written o gs w = record { is = (o, w .0); allowed = (refl, w .1) }
 
   module _ (a : Accepted S h s) where
-    put-accepted : (r : Row) → Stores r → Result (putAccepted S h s r)
-    put-accepted r st = found-or (placeOf (rowsHeld S s) (r .code))
+    put-accepted : (r : Row) → Stores r → Folded (r .code) → Result (putAccepted S h s r)
+    put-accepted r st f = found-or (placeOf (rowsHeld S s) (r .code))
         (λ old e. written (replaced (place old)) (overwritten (contents S s) r)
-        (store-of S h sized hash s (a .long) _ (overwritten (contents S s) r) (over-shown S h sized hash s r old a e) (over-fits S h hash (pages S s - 2) (contents S s) (accepted-fits S h s a) r st)))
+        (store-of S h sized hash s (a .long) _ (overwritten (contents S s) r) (over-shown S h sized hash s r old a e) (over-fits S h hash (pages S s - 2) (contents S s) (accepted-fits S h s a) r st)
+        (one-more r _ f (one-less (r .code) (rowsHeld S s) (held-folded S h sized hash s a)))))
         (λ e. refused-or (decLt (S .capacity) (needs (rowsOf h (r ∷ rowsHeld S s) (S .deepest) (top (S .deepest) (h (r .code)))))) (λ six.
         refused-or (decLt (pages S s - 2) (length (buckets S h (r ∷ rowsHeld S s)))) (λ seven. written new (putNew S h (contents S s) r)
         (store-of S h sized hash s (a .long) _ (putNew S h (contents S s) r) (put-shown S h sized hash s r a e six seven)
-        (put-fits S h hash (pages S s - 2) (contents S s) (accepted-fits S h s a) r st sized)))))
+        (put-fits S h hash (pages S s - 2) (contents S s) (accepted-fits S h s a) r st sized) (one-more r _ f (held-folded S h sized hash s a))))))
 
-    pub mode-answered : (m : ℕ) (r : Row) → Stores r → Result (putByMode S h s m r)
-    mode-answered m r st =
+    pub mode-answered : (m : ℕ) (r : Row) → Stores r → Folded (r .code) → Result (putByMode S h s m r)
+    mode-answered m r st f =
         refused-or (both (ℕ-discrete m 1) (there-or-not (placeOf (rowsHeld S s) (r .code)))) (λ _.
-        refused-or (both (ℕ-discrete m 2) (absent-or-not (placeOf (rowsHeld S s) (r .code)))) (λ _. put-accepted r st))
+        refused-or (both (ℕ-discrete m 2) (absent-or-not (placeOf (rowsHeld S s) (r .code)))) (λ _. put-accepted r st f))
 
   pub put-answered : (c : List ℕ) (p : Place) (m : ℕ) → ((k : ℕ) → byte c k < 256) → InRange p → Result (putTable S h s c p m)
   unfolding putTable
   put-answered c p m small range =
       unless (good-or-not S s) (λ g. refused-or (three-or-not c) (λ three. refused-or (negative-or-not p) (λ natural. refused-or (decLt 2 m) (λ _.
-      checked-or S h s (λ o. (o, s)) g (λ a. mode-answered a m (record { code = c; place = stored p }) (stores c p small range three natural))))))
+      checked-or S h s (λ o. (o, s)) g (λ a. mode-answered a m (record { code = fold c; place = stored p }) (stores c p small range three natural) (fold-twice c))))))
 
   pub remove-answered : (c : List ℕ) → Result (removeTable S h s c)
   unfolding removeTable
   remove-answered c =
-      unless (good-or-not S s) (λ g. refused-or (three-or-not c) (λ three. checked-or S h s (λ o. (o, s)) g (λ a. found-or (placeOf (rowsHeld S s) c)
-      (λ old e. written (found (place old)) (removed S h (contents S s) c)
-      (store-of S h sized hash s (a .long) _ (removed S h (contents S s) c) (remove-shown S h sized hash s c old a e) (remove-fits S h hash (pages S s - 2) (contents S s) (accepted-fits S h s a) c)))
+      unless (good-or-not S s) (λ g. refused-or (three-or-not c) (λ three. checked-or S h s (λ o. (o, s)) g (λ a. found-or (placeOf (rowsHeld S s) (fold c))
+      (λ old e. written (found (place old)) (removed S h (contents S s) (fold c))
+      (store-of S h sized hash s (a .long) _ (removed S h (contents S s) (fold c)) (remove-shown S h sized hash s (fold c) old a e) (remove-fits S h hash (pages S s - 2) (contents S s) (accepted-fits S h s a) (fold c))
+      (one-less (fold c) (rowsHeld S s) (held-folded S h sized hash s a))))
       (λ e. answered _))))
 
 pub answered-always : (S : Shape) (h : List ℕ → ℕ) → Sized S → Hash h → Answered S h

@@ -5,7 +5,7 @@ use Rattle.cases.proofs.history.number_of.Statement.{statement}
 use Rattle.cases.proofs.history.number_of.Tie as tie
 
 abbrev Inv-loop : tie.InvT-loop
-Inv-loop kind n i₀ left₀ i left = i ≤ 1048576
+Inv-loop kind n i₀ left₀ i left = i ≤ 2097152
 
 abbrev μ-loop : tie.MeasureT-loop
 μ-loop kind n i₀ left₀ i left = left

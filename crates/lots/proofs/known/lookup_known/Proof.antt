@@ -46,17 +46,17 @@ shape-of-requires c κs = numbered _ (sound (c .before .before))
 at-own : (c : tie.After-shape-of) → Accepted (c .shape-of .result) fnv (now (c .before .before .before .before .before .before .args .s))
 at-own c = subst (λ S. Accepted S fnv (now (c .before .before .before .before .before .before .args .s))) (sym (c .shape-of .ensures .0)) (sound (c .before .before .before))
 
-place-of-requires : tie.Need-place-of-requires
-place-of-requires c κs = (c .shape-of .ensures .1, at-own c)
+place-given-requires : tie.Need-place-given-requires
+place-given-requires c κs = record { sized = c .shape-of .ensures .1; accepted = at-own c; good = coded (c .before) }
 
 returns-3 : tie.Need-returns-3
 returns-3 c =
     let b = c .before in
     let start = b .before .before .before .before .before .before in
-    subst (λ S. Answers (lookupTable S fnv (now (start .args .s)) (now (start .args .key))) (meaning (c .place-of .result))) (b .shape-of .ensures .0)
-    (finds (b .shape-of .result) fnv (now (start .args .s)) (at-own b) (now (start .args .key)) _ (coded (b .before)) (c .place-of .ensures))
+    subst (λ S. Answers (lookupTable S fnv (now (start .args .s)) (now (start .args .key))) (meaning (c .place-given .result))) (b .shape-of .ensures .0)
+    (finds (b .shape-of .result) fnv (now (start .args .s)) (at-own b) (now (start .args .key)) _ (coded (b .before)) (c .place-given .ensures))
 
 pub lookup-known-spec : {M : Type 1} → statement M
 lookup-known-spec =
     tie.close
-    (tie.spec lookup-requires returns good-code-requires returns-2 shape-of-requires place-of-requires returns-3)
+    (tie.spec lookup-requires returns good-code-requires returns-2 shape-of-requires place-given-requires returns-3)

@@ -49,15 +49,15 @@ shape-of-requires c κs = numbered _ (sound (c .before .before .before))
 at-own : (c : tie.After-shape-of) → Accepted (c .shape-of .result) fnv (now (c .before .before .before .before .before .before .before .args .s))
 at-own c = subst (λ S. Accepted S fnv (now (c .before .before .before .before .before .before .before .args .s))) (sym (c .shape-of .ensures .0)) (sound (c .before .before .before .before))
 
-remove-row-requires : tie.Need-remove-row-requires
-remove-row-requires c κs = let b = c .before in (b .shape-of .ensures .1, at-own b)
+remove-given-requires : tie.Need-remove-given-requires
+remove-given-requires c κs = let b = c .before in record { sized = b .shape-of .ensures .1; accepted = at-own b; good = coded (b .before .before) }
 
 same-length-2 : tie.Need-same-length-2
 same-length-2 c = search needs
 
 returns-3 : tie.Need-returns-3
 returns-3 c =
-    let w = c .before .before .remove-row in
+    let w = c .before .before .remove-given in
     let b = c .before .before .before .before in
     let start = b .before .before .before .before .before .before .before in
     subst (λ S. Answers (removeTable S fnv (now (start .args .s)) (now (start .args .key))) (meaning (w .result), w .last .0)) (b .shape-of .ensures .0)
@@ -73,6 +73,6 @@ remove-known-spec =
     good-code-requires
     returns-2
     shape-of-requires
-    remove-row-requires
+    remove-given-requires
     same-length-2
     returns-3)

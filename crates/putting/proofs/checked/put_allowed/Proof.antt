@@ -3,6 +3,7 @@ use Rattle.store.specs.Tables.{putByMode, meaning}
 use Rattle.page.proofs.Stored.{stored-natural}
 use Rattle.page.specs.Places.{InRange}
 use Rattle.page.specs.Page.{Natural}
+use Rattle.words.specs.Folds.{fold}
 use Rattle.hash.specs.Fnv.{fnv}
 use Rattle.ground.specs.Ladder.{Answers}
 use denote.Ref.{now}
@@ -22,11 +23,11 @@ slice-aggregate-store-place c = search needs
 store-place-requires : tie.Need-store-place-requires
 store-place-requires c κs = (refl, c .before .before .before .pre .natural)
 
-slice-aggregate-put-row : tie.Need-slice-aggregate-put-row
-slice-aggregate-put-row c = search needs
+slice-aggregate-put-given : tie.Need-slice-aggregate-put-given
+slice-aggregate-put-given c = search needs
 
-put-row-requires : tie.Need-put-row-requires
-put-row-requires c κs =
+put-given-requires : tie.Need-put-given-requires
+put-given-requires c κs =
     let w = c .before .before .before in
     let z = w .before .before .before .before in
     record {
@@ -41,10 +42,10 @@ same-length c = search needs
 
 returns : tie.Need-returns
 returns c =
-    let w = c .before .before .put-row in
+    let w = c .before .before .put-given in
     let y = c .before .before .before .before .before .before in
     let z = y .before .before .before .before in
-    subst (λ x. Answers (putByMode (z .args .z) fnv (now (z .args .s)) (z .args .mode) (newRow (now (z .args .key)) x)) (meaning (w .result), w .last .0)) (y .store-place .ensures) (w .ensures)
+    subst (λ x. Answers (putByMode (z .args .z) fnv (now (z .args .s)) (z .args .mode) (newRow (fold (now (z .args .key))) x)) (meaning (w .result), w .last .0)) (y .store-place .ensures) (w .ensures)
 
 pub put-allowed-spec : {M : Type 1} → statement M
 put-allowed-spec =
@@ -52,7 +53,7 @@ put-allowed-spec =
     (tie.spec
     slice-aggregate-store-place
     store-place-requires
-    slice-aggregate-put-row
-    put-row-requires
+    slice-aggregate-put-given
+    put-given-requires
     same-length
     returns)

@@ -142,7 +142,7 @@ returns c =
       tight = λ h. absurd (omega (arith, roomy w));
     } in
     subst (λ t. Answers (putAccepted (S z) fnv (s z) (newRow (key z) (place z))) (new, t)) (sym back)
-    (put-fitted (S z) fnv (row .sized) fnv-lt (s z) (row .accepted) (key z) (p z) (home z) (z .args .i) (place z) (g z) q (g z) (fits z) D
+    (put-fitted (S z) fnv (row .sized) fnv-lt (s z) (row .accepted) (key z) (p z) (home z) (z .args .i) (place z) (g z) q (g z) (fits z) D (row .folded)
     (λ k. subst (λ t. byte t k < 256) back ((c .slice-known2 .given k) .fits)))
 
 insert-lent-requires : tie.Need-insert-lent-requires

@@ -75,7 +75,7 @@ returns c =
     let back = given-back (S z) (s z) (p z) q in
     let row = z .pre .0 .row .row in
     subst (λ t. Answers (putAccepted (S z) fnv (s z) (newRow (now (z .args .key)) (now (z .args .place)))) (new, t)) (sym back)
-    (put-fitted (S z) fnv (row .sized) fnv-lt (s z) (row .accepted) (now (z .args .key)) (p z) (home z) (z .args .i) (now (z .args .place)) _ q _ (z .pre .0 .fits) (rw (page-lent (S z) (s z) (p z)) at (w .ensures))
+    (put-fitted (S z) fnv (row .sized) fnv-lt (s z) (row .accepted) (now (z .args .key)) (p z) (home z) (z .args .i) (now (z .args .place)) _ q _ (z .pre .0 .fits) (rw (page-lent (S z) (s z) (p z)) at (w .ensures)) (row .folded)
     (λ k. subst (λ t. byte t k < 256) back ((c .before .before .slice-known3 .given k) .fits)))
 
 pub insert-new-spec : {M : Type 1} → statement M

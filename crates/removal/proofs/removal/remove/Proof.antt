@@ -101,8 +101,8 @@ returns-3 c =
     subst (λ S. Answers (removeTable S fnv (store k) (key k)) (refusedAt 2 (f .first-bad .result), store k)) (said k .0)
     (inr ((λ _ n. n (said k .1)), inr ((λ _ r. no-three _ (good d) r), inl (f .first-bad .result, (f .first-bad .ensures .bad (c .if2 .taken), refl)))))
 
-remove-row-requires : tie.Need-remove-row-requires
-remove-row-requires c κs = let f = c .before .before .before in (sized (first (f .before .before)), f .first-bad .ensures .sound (c .before .if2 .left))
+remove-given-requires : tie.Need-remove-given-requires
+remove-given-requires c κs = let f = c .before .before .before in record { sized = sized (first (f .before .before)); accepted = f .first-bad .ensures .sound (c .before .if2 .left); good = good (f .before .before) }
 
 same-length-4 : tie.Need-same-length-4
 same-length-4 c = search needs
@@ -110,7 +110,7 @@ same-length-4 c = search needs
 returns-4 : tie.Need-returns-4
 unfolding removeTable
 returns-4 c =
-    let w = c .before .before .remove-row in
+    let w = c .before .before .remove-given in
     let b = c .before .before .before .before in
     let f = b .before .before in
     let d = f .before .before in
@@ -136,6 +136,6 @@ remove-spec =
     div-if2
     same-length-3
     returns-3
-    remove-row-requires
+    remove-given-requires
     same-length-4
     returns-4)

@@ -2,8 +2,7 @@
 use borrow.Author.Tests.{not-true, not-false}
 use borrow.Author.Needs.{needs}
 use native.Mathlib.Omega.{arith}
-use Rattle.ground.specs.Lists.{byte}
-use Rattle.ground.proofs.Tests.{says-true, says-false, says-leb}
+use Rattle.ground.proofs.Tests.{says-true, says-false, says-same}
 use Rattle.page.specs.Page.{BucketPage}
 use Rattle.store_check.proofs.pages.own_ok.Statement.{statement}
 use Rattle.store_check.proofs.pages.own_ok.Tie as tie
@@ -25,19 +24,28 @@ returns c =
     let p = c .before .before .before .page-ok in
     ((λ e. says-false {P = BucketPage (c .before .before .before .before .before .before .before .args .pg .now)} (p .result) (not-true _ (c .if1 .taken)) (p .ensures .0) (e .rules)), p .ensures .1)
 
-shared-slice-read-result : tie.Need-shared-slice-read-result
-shared-slice-read-result c = omega (arith, fine c .rules .least)
+shared-slice-read-if2 : tie.Need-shared-slice-read-if2
+shared-slice-read-if2 c = omega (arith, fine c .rules .least)
 
-cast-result : tie.Need-cast-result
-cast-result c = record { fits = omega (arith, c .shared-slice-known2 .given 1) }
+cast-if2 : tie.Need-cast-if2
+cast-if2 c = record { fits = omega (arith, c .shared-slice-known2 .given 1) }
 
 same-length-2 : tie.Need-same-length-2
 same-length-2 c = search needs
 
 returns-2 : tie.Need-returns-2
-returns-2 c =
-    let x = c .before .before .before .before .before .before .before .before .args in
-    (says-leb (byte (x .pg .now) 1) (x .d) (λ l. record { rules = fine c; deep = l }) (λ e. e .deep), c .before .before .before .before .page-ok .ensures .1)
+returns-2 c = ((λ e. omega (arith, e .deep, c .if2 .taken)), c .before .before .before .before .before .page-ok .ensures .1)
+
+slot-folded-requires : tie.Need-slot-folded-requires
+slot-folded-requires c κs = (fine (c .before), fine (c .before) .some)
+
+same-length-3 : tie.Need-same-length-3
+same-length-3 c = search needs
+
+returns-3 : tie.Need-returns-3
+returns-3 c =
+    let d = c .before .before in
+    (says-same (c .slot-folded .result) (c .slot-folded .ensures) (λ s. record { rules = fine d; folded = s; deep = c .before .if2 .left }) (λ e. e .folded), d .before .before .before .before .page-ok .ensures .1)
 
 pub own-ok-spec : {M : Type 1} → statement M
 own-ok-spec =
@@ -46,7 +54,10 @@ own-ok-spec =
     page-ok-requires
     same-length
     returns
-    shared-slice-read-result
-    cast-result
+    shared-slice-read-if2
+    cast-if2
     same-length-2
-    returns-2)
+    returns-2
+    slot-folded-requires
+    same-length-3
+    returns-3)

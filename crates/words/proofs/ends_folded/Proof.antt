@@ -1,0 +1,69 @@
+-- `words::ends_folded` meets its contract. Assumes nothing.
+use Prim.Native.Nat.{_-_, _≤_}
+use native.Mathlib.Omega.{arith}
+use Rattle.ground.proofs.Tests.{says-eqb}
+use Rattle.words.proofs.Folds.{EndsFolded, ends-none, ends-more, ends-all}
+use Rattle.words.proofs.ends_folded.Statement.{statement}
+use Rattle.words.proofs.ends_folded.Tie as tie
+
+abbrev Inv-loop : tie.InvT-loop
+Inv-loop s n rest acc₀ i₀ acc i = (i ≤ n) × EndsFolded s rest i acc
+
+abbrev μ-loop : tie.MeasureT-loop
+μ-loop s n rest acc₀ i₀ acc i = n - i
+
+sub-rest : tie.Need-sub-rest Inv-loop μ-loop
+sub-rest c = omega (arith, c .before .pre .0)
+
+loop-holds : tie.Need-loop-holds Inv-loop μ-loop
+loop-holds c = (omega arith, ends-none _ _)
+
+shared-slice-read-capital : tie.Need-shared-slice-read-capital Inv-loop μ-loop
+shared-slice-read-capital c = omega (arith, c .before .before .before .before .pre .0)
+
+capital-requires : tie.Need-capital-requires Inv-loop μ-loop
+capital-requires c κs = tt
+
+add-capital : tie.Need-add-capital Inv-loop μ-loop
+add-capital c = omega (arith, c .before .before .before .before .before .pre .0)
+
+shared-slice-read-capital-2 : tie.Need-shared-slice-read-capital-2 Inv-loop μ-loop
+shared-slice-read-capital-2 c = omega (arith, c .before .before .before .before .before .before .pre .0)
+
+capital-requires-2 : tie.Need-capital-requires-2 Inv-loop μ-loop
+capital-requires-2 c κs = tt
+
+add-i : tie.Need-add-i Inv-loop μ-loop
+add-i c = omega arith
+
+loop-less : tie.Need-loop-less Inv-loop μ-loop
+loop-less c = omega arith
+
+loop-again : tie.Need-loop-again Inv-loop μ-loop
+loop-again c =
+    let x = c .before .before .capital in
+    (omega arith, ends-more (x .result) (c .capital2 .result) (c .before .before .before .before .before .loop .inv .1) (x .ensures) (c .capital2 .ensures))
+
+returns : tie.Need-returns Inv-loop μ-loop
+returns c =
+    let l = c .before .loop in
+    let z = c .before .before .before in
+    says-eqb (l .acc) 0 (λ e. ends-all (z .args .s .now) _ (z .args .n) (omega (arith, z .pre .0)) (z .pre .1) (λ k m. l .inv .1 .so e k (omega arith))) (l .inv .1 .back)
+
+pub ends-folded-spec : {M : Type 1} → statement M
+ends-folded-spec =
+    tie.close
+    (tie.spec
+    Inv-loop
+    μ-loop
+    sub-rest
+    loop-holds
+    shared-slice-read-capital
+    capital-requires
+    add-capital
+    shared-slice-read-capital-2
+    capital-requires-2
+    add-i
+    loop-less
+    loop-again
+    returns)
