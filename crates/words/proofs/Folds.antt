@@ -46,14 +46,11 @@ byte-kept b = (λ e. to (foldByte b) (folds b) e, λ n. from (foldByte b) (folds
     from c (capital l m) n = absurd (⊎-elim (λ x. omega arith) (λ x. omega arith) n)
     from c (other n) m = refl
 
--- and changed where it is one
-pub byte-changed : (b : ℕ) → (foldByte b ≡ b → ⊥) → (0x41 ≤ b) × (b ≤ 0x5A)
-byte-changed b n = go (foldByte b) (folds b) n
-  where
-    go : (c : ℕ) → FoldsTo b c → (c ≡ b → ⊥) → (0x41 ≤ b) × (b ≤ 0x5A)
-    go c (capital l m) n = (l, m)
-    go c (other m) n = absurd (n refl)
+-- nothing is added exactly where a byte is folded
+pub shift-zero : (b r : ℕ) → b + r ≡ foldByte b → (r ≡ 0) ↔ (foldByte b ≡ b)
+shift-zero b r e = ((λ z. omega (arith, e, z)), (λ z. omega (arith, e, z)))
 
+-- and a capital is changed
 pub byte-capital : (b : ℕ) → 0x41 ≤ b → b ≤ 0x5A → foldByte b ≡ b + 0x20
 byte-capital b l m = go (foldByte b) (folds b)
   where

@@ -1,13 +1,13 @@
 // Bytes of a slice: little-endian numbers, copies and shifts, zeros, the byte order of codes, and their folding.
 ghost use mathlib.Core.Path.{_≡_};
-ghost use mathlib.Core.Logic.{_↔_};
 ghost use Prim.Native.Nat.{_+_, _*_, _^_, _≤_, _<_, min};
 ghost use lib.ListN.{length};
 ghost use Rattle.ground.specs.Says.{Says};
+ghost use Rattle.ground.specs.Lists.{byte};
 ghost use Rattle.words.specs.Le.{le16, le32};
 ghost use Rattle.words.specs.Codes.{Ordered};
 ghost use Rattle.words.specs.Folds.{foldByte, fold, Folded};
-ghost use Rattle.words.specs.Moves.{Put16, Put32, Copied, MovedDown, Cleared, MovedUp};
+ghost use Rattle.words.specs.Moves.{Put16, Put32, Wrote, Copied, MovedDown, Cleared, MovedUp};
 ghost use Rattle.words.specs.Zeros.{Zero, ZeroFrom};
 
 // A byte as a number of the width that the others have.
@@ -191,9 +191,9 @@ pub fn compare(a: &[u8], b: &[u8]) -> Order
     Order::Equal
 }
 
-// 1 for a byte from 0x41 to 0x5A, else 0.
-fn capital(x: u8) -> u8
-    ensures { λ r. ⌜ (r ≡ 0) ↔ (foldByte x ≡ x) ⌝ }
+// What is added to a byte where it is folded: 0x20 to one from 0x41 to 0x5A.
+fn shift(x: u8) -> u8
+    ensures { λ r. ⌜ (x + r ≡ foldByte x) × (x + r < 256) ⌝ }
 {
     if x < 0x41 {
         return 0;
@@ -201,21 +201,32 @@ fn capital(x: u8) -> u8
     if 0x5A < x {
         return 0;
     }
-    1
+    0x20
 }
 
 // A byte from 0x41 to 0x5A becomes one from 0x61 to 0x7A.
 fn fold_byte(x: u8) -> u8
     ensures { λ r. ⌜ r ≡ foldByte x ⌝ }
 {
-    if capital(x) == 0 {
-        return x;
-    }
-    x + 0x20
+    x + shift(x)
 }
 
-// The code src, folded, goes to the start of dst.
-pub fn fold_code(dst: &mut [u8], src: &[u8])
+// The eight bytes of src from a on, folded, go to dst at the same index. A fixed number of turns, so that it is a few steps.
+fn fold_eight(dst: &mut [u8], src: &[u8], a: usize)
+    requires { ⌜ (a + 8 ≤ length (now src)) × (length (now src) ≤ length (now dst)) ⌝ }
+    ensures { λ _. ⌜ Wrote (now (dst .entry)) a 8 (λ j. byte (fold (now (src .entry))) (a + j)) (now (dst .exit)) ⌝ }
+{
+    let mut e = [0u8; 8];
+    let mut i = 0;
+    while i < 8 {
+        e[i] = fold_byte(src[a + i]);
+        i += 1;
+    }
+    copy_at(dst, a, &e);
+}
+
+// The same of all bytes, one by one.
+fn fold_each(dst: &mut [u8], src: &[u8])
     requires { ⌜ length (now src) ≤ length (now dst) ⌝ }
     ensures { λ _. ⌜ Copied (now (dst .entry)) 0 (fold (now (src .entry))) (now (dst .exit)) ⌝ }
 {
@@ -224,6 +235,25 @@ pub fn fold_code(dst: &mut [u8], src: &[u8])
         dst[i] = fold_byte(src[i]);
         i += 1;
     }
+}
+
+// The code src, folded, goes to the start of dst, eight bytes at a time; the last eight may begin among those before.
+pub fn fold_code(dst: &mut [u8], src: &[u8])
+    requires { ⌜ length (now src) ≤ length (now dst) ⌝ }
+    ensures { λ _. ⌜ Copied (now (dst .entry)) 0 (fold (now (src .entry))) (now (dst .exit)) ⌝ }
+{
+    if src.len() < 8 {
+        fold_each(dst, src);
+        return;
+    }
+    fold_eight(dst, src, 0);
+    let last = src.len() - 8;
+    let mut i = 8;
+    while i < last {
+        fold_eight(dst, src, i);
+        i += 8;
+    }
+    fold_eight(dst, src, last);
 }
 
 // Whether a code of n to 2n bytes has no capital: its first n bytes and its last n. No way out before the end, so that it vectorises.
@@ -235,7 +265,7 @@ fn ends_folded(s: &[u8], n: usize) -> bool
     let mut acc: u8 = 0;
     let mut i = 0;
     while i < n {
-        acc = acc | (capital(s[i]) | capital(s[rest + i]));
+        acc = acc | (shift(s[i]) | shift(s[rest + i]));
         i += 1;
     }
     acc == 0

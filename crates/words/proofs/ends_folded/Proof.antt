@@ -2,7 +2,7 @@
 use Prim.Native.Nat.{_-_, _≤_}
 use native.Mathlib.Omega.{arith}
 use Rattle.ground.proofs.Tests.{says-eqb}
-use Rattle.words.proofs.Folds.{EndsFolded, ends-none, ends-more, ends-all}
+use Rattle.words.proofs.Folds.{EndsFolded, ends-none, ends-more, ends-all, shift-zero}
 use Rattle.words.proofs.ends_folded.Statement.{statement}
 use Rattle.words.proofs.ends_folded.Tie as tie
 
@@ -18,20 +18,20 @@ sub-rest c = omega (arith, c .before .pre .0)
 loop-holds : tie.Need-loop-holds Inv-loop μ-loop
 loop-holds c = (omega arith, ends-none _ _)
 
-shared-slice-read-capital : tie.Need-shared-slice-read-capital Inv-loop μ-loop
-shared-slice-read-capital c = omega (arith, c .before .before .before .before .pre .0)
+shared-slice-read-shift : tie.Need-shared-slice-read-shift Inv-loop μ-loop
+shared-slice-read-shift c = omega (arith, c .before .before .before .before .pre .0)
 
-capital-requires : tie.Need-capital-requires Inv-loop μ-loop
-capital-requires c κs = tt
+shift-requires : tie.Need-shift-requires Inv-loop μ-loop
+shift-requires c κs = tt
 
-add-capital : tie.Need-add-capital Inv-loop μ-loop
-add-capital c = omega (arith, c .before .before .before .before .before .pre .0)
+add-shift : tie.Need-add-shift Inv-loop μ-loop
+add-shift c = omega (arith, c .before .before .before .before .before .pre .0)
 
-shared-slice-read-capital-2 : tie.Need-shared-slice-read-capital-2 Inv-loop μ-loop
-shared-slice-read-capital-2 c = omega (arith, c .before .before .before .before .before .before .pre .0)
+shared-slice-read-shift-2 : tie.Need-shared-slice-read-shift-2 Inv-loop μ-loop
+shared-slice-read-shift-2 c = omega (arith, c .before .before .before .before .before .before .pre .0)
 
-capital-requires-2 : tie.Need-capital-requires-2 Inv-loop μ-loop
-capital-requires-2 c κs = tt
+shift-requires-2 : tie.Need-shift-requires-2 Inv-loop μ-loop
+shift-requires-2 c κs = tt
 
 add-i : tie.Need-add-i Inv-loop μ-loop
 add-i c = omega arith
@@ -41,8 +41,8 @@ loop-less c = omega arith
 
 loop-again : tie.Need-loop-again Inv-loop μ-loop
 loop-again c =
-    let x = c .before .before .capital in
-    (omega arith, ends-more (x .result) (c .capital2 .result) (c .before .before .before .before .before .loop .inv .1) (x .ensures) (c .capital2 .ensures))
+    let x = c .before .before .shift in
+    (omega arith, ends-more (x .result) (c .shift2 .result) (c .before .before .before .before .before .loop .inv .1) (shift-zero _ _ (x .ensures .0)) (shift-zero _ _ (c .shift2 .ensures .0)))
 
 returns : tie.Need-returns Inv-loop μ-loop
 returns c =
@@ -58,11 +58,11 @@ ends-folded-spec =
     μ-loop
     sub-rest
     loop-holds
-    shared-slice-read-capital
-    capital-requires
-    add-capital
-    shared-slice-read-capital-2
-    capital-requires-2
+    shared-slice-read-shift
+    shift-requires
+    add-shift
+    shared-slice-read-shift-2
+    shift-requires-2
     add-i
     loop-less
     loop-again
