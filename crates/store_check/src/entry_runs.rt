@@ -1,18 +1,14 @@
 // The directory, read once, and runs of its entries.
-ghost use mathlib.Core.Path.{_≡_};
-ghost use Prim.Native.Nat.{_*_, _^_, _≤_, _<_};
+ghost use Prim.Native.Nat.{_≤_};
 ghost use lib.ListN.{length};
 ghost use Rattle.ground.specs.Says.{Says};
-ghost use Rattle.words.specs.Zeros.{Zero};
-ghost use Rattle.store_check.specs.Directory.{Entries, AllAre, NoneIs, AllBelow, Counted, Ranges, Named};
+ghost use Rattle.store_check.specs.Directory.{Roomy, Entries, AllAre, NoneIs, AllBelow, Uncounted, Counted, Ranges, Tallied, Named};
 ghost use Rattle.partition.specs.Bits.{top};
-ghost use Rattle.store.specs.Pages.{size};
-ghost use Rattle.store.specs.Demands.{Sized};
 use partition::Shape;
 
 // The directory's entries.
 pub fn entries(s: &[u8], z: Shape, dir: &mut [u32])
-    requires { ⌜ Sized z × (2 * size z ≤ length (now s)) × (length (now dir) ≡ z .entries) ⌝ }
+    requires { ⌜ Roomy z (now s) (now dir) ⌝ }
     ensures { λ _. ⌜ Entries z (now (s .entry)) (now (dir .exit)) ⌝ }
 {
     let m = z.entries;
@@ -87,7 +83,7 @@ pub fn ranges(dir: &[u32], n: u32, m: usize) -> bool
 
 // How many of the entries up to m name each page.
 pub fn tally(dir: &[u32], m: usize, counts: &mut [u32])
-    requires { ⌜ (m ≤ length (now dir)) × (m ≤ 4096) × AllBelow (now dir) 0 m (length (now counts)) × Zero (now counts) ⌝ }
+    requires { ⌜ Uncounted (now dir) (now counts) m ⌝ }
     ensures { λ _. ⌜ Counted (now (dir .entry)) m (length (now (counts .entry))) (now (counts .exit)) ⌝ }
 {
     let mut i = 0;
@@ -100,7 +96,7 @@ pub fn tally(dir: &[u32], m: usize, counts: &mut [u32])
 
 // Whether page p is named by exactly the entries that the first k bits of the hash x call for, in a directory of depth d: all of them, and as many as name p.
 pub fn named(dir: &[u32], counts: &[u32], d: u32, k: u32, x: u32, p: u32) -> bool
-    requires { ⌜ (2 ^ d ≤ length (now dir)) × (d ≤ 12) × (k ≤ d) × (2 ≤ p) × (p < length (now counts)) × AllAre (now dir) (2 ^ d) (length (now dir)) 0 × Counted (now dir) (2 ^ d) (length (now counts)) (now counts) ⌝ }
+    requires { ⌜ Tallied (now dir) (now counts) d k p ⌝ }
     ensures { λ r. ⌜ Says r (Named (now (dir .entry)) d k (top k x) p) ⌝ }
 {
     let run = partition::run_of(x, k, d);

@@ -8,7 +8,7 @@ ghost use Rattle.words.specs.Le.{le16, le32};
 ghost use Rattle.words.specs.Codes.{Ordered};
 ghost use Rattle.words.specs.Folds.{foldByte, fold, Folded};
 ghost use Rattle.words.specs.Moves.{Put16, Put32, Wrote, Copied, MovedDown, Cleared, MovedUp};
-ghost use Rattle.words.specs.Zeros.{Zero, ZeroFrom};
+ghost use Rattle.words.specs.Zeros.{Zero, ZeroFrom, ZeroRun};
 
 // A byte as a number of the width that the others have.
 pub fn wide(x: u8) -> usize
@@ -135,18 +135,26 @@ fn zero_rest(s: &[u8], a: usize) -> bool
     acc == 0
 }
 
+// Where the blocks of 1,024 zeros from a on end.
+pub fn zeros_end(s: &[u8], a: usize) -> usize
+    requires { ⌜ a ≤ length (now s) ⌝ }
+    ensures { λ r. ⌜ ZeroRun (now (s .entry)) a r ⌝ }
+{
+    let mut b = a;
+    while 1024 <= s.len() - b {
+        if !zero_block(s, b) {
+            return b;
+        }
+        b += 1024;
+    }
+    b
+}
+
 // Whether every byte is zero: block by block, then the rest.
 pub fn all_zero(s: &[u8]) -> bool
     ensures { λ r. ⌜ Says r (Zero (now (s .entry))) ⌝ }
 {
-    let mut a = 0;
-    while 1024 <= s.len() - a {
-        if !zero_block(s, a) {
-            return false;
-        }
-        a += 1024;
-    }
-    zero_rest(s, a)
+    zero_rest(s, zeros_end(s, 0))
 }
 
 pub enum Order {

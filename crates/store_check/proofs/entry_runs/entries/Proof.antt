@@ -2,8 +2,8 @@
 use mathlib.Core.Path.{_≡_, sym, _∙_}
 use Prim.Native.Nat.{_≤_, _-_}
 use native.Mathlib.Omega.{arith}
-use Rattle.store.specs.Demands.{Sized}
 use Rattle.store.specs.Pages.{entryAt}
+use Rattle.store_check.specs.Directory.{Roomy}
 use Rattle.store_check.proofs.Fills.{Filled, filled-none, filled-more}
 use Rattle.store_check.proofs.entry_runs.entries.Statement.{statement}
 use Rattle.store_check.proofs.entry_runs.entries.Tie as tie
@@ -15,35 +15,35 @@ abbrev μ-loop : tie.MeasureT-loop
 μ-loop s z dir₀ m i₀ dir i = z .entries - i
 
 loop-holds : tie.Need-loop-holds Inv-loop μ-loop
-loop-holds c = (omega arith, filled-none _ _ 0 _ (c .before .before .pre .2))
+loop-holds c = (omega arith, filled-none _ _ 0 _ (c .before .before .pre .room))
 
--- what the shape says
-given : (c : tie.After-struct-known Inv-loop μ-loop) → Sized (c .before .before .before .before .before .args .z)
-given c = c .before .before .before .before .before .pre .0
+-- what is given
+given : (c : tie.After-struct-known Inv-loop μ-loop) → let a = c .before .before .before .before .before .args in Roomy (a .z) (a .s .now) (a .dir .now)
+given c = c .before .before .before .before .before .pre
 
 add-get32 : tie.Need-add-get32 Inv-loop μ-loop
-add-get32 c = omega (arith, given c)
+add-get32 c = omega (arith, given c .sized, given c .long)
 
 mul-get32 : tie.Need-mul-get32 Inv-loop μ-loop
-mul-get32 c = omega (arith, given c)
+mul-get32 c = omega (arith, given c .sized, given c .long)
 
 add-get32-2 : tie.Need-add-get32-2 Inv-loop μ-loop
-add-get32-2 c = omega (arith, given c)
+add-get32-2 c = omega (arith, given c .sized, given c .long)
 
 get32-requires : tie.Need-get32-requires Inv-loop μ-loop
-get32-requires c κs = omega (arith, given c)
+get32-requires c κs = omega (arith, given c .sized, given c .long)
 
 cast-dir : tie.Need-cast-dir Inv-loop μ-loop
 cast-dir c = record { fits = omega (arith, c .get32 .ensures .1) }
 
 mul-dir : tie.Need-mul-dir Inv-loop μ-loop
-mul-dir c = omega (arith, given (c .before))
+mul-dir c = omega (arith, given (c .before) .sized)
 
 slice-write-dir : tie.Need-slice-write-dir Inv-loop μ-loop
 slice-write-dir c = omega (arith, c .before .before .before .loop .inv .1 .long)
 
 add-i : tie.Need-add-i Inv-loop μ-loop
-add-i c = omega (arith, given (c .before))
+add-i c = omega (arith, given (c .before) .sized)
 
 loop-less : tie.Need-loop-less Inv-loop μ-loop
 loop-less c = omega arith
@@ -52,7 +52,7 @@ loop-again : tie.Need-loop-again Inv-loop μ-loop
 loop-again c = (omega arith, filled-more _ (c .before .before .before .loop .inv .1) (c .before .before .loop-test .taken) (c .get32 .ensures .0))
 
 same-length : tie.Need-same-length Inv-loop μ-loop
-same-length c = c .before .loop .inv .1 .long ∙ sym (c .before .before .before .before .pre .2)
+same-length c = c .before .loop .inv .1 .long ∙ sym (c .before .before .before .before .pre .room)
 
 returns : tie.Need-returns Inv-loop μ-loop
 returns c = record { long = c .before .loop .inv .1 .long; entry = λ i l. c .before .loop .inv .1 .each i (omega arith) (omega arith) }
