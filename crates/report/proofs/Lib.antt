@@ -8,6 +8,7 @@ pub mod Runs
 pub mod Rises
 pub mod Few
 pub mod Tells
+pub mod Joined
 pub mod Laid
 pub mod Marks
 pub mod Orders

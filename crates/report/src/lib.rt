@@ -91,7 +91,8 @@ pub fn spread(sheet: &[SheetRow], flat: &mut [u64]) -> usize
 pub fn report(store: &[u8], sheet: &[SheetRow]) -> Outcome
     ensures { λ r. ⌜ Answers (reportTable (shapeOf (now (store .entry))) fnv (now (store .entry)) (now (sheet .entry))) (reported r) ⌝ }
 {
-    let mut flat = [0u64; 2 * LIMIT];
+    // filled with what no row has: 16 bytes an instruction, where zeros are set byte by byte
+    let mut flat = [9223372036854775808u64; 2 * LIMIT];
     let n = spread(sheet, &mut flat);
     answer::judge(store, &flat, n)
 }
