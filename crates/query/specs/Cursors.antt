@@ -10,6 +10,8 @@ use Rattle.partition.specs.Partition.{Row, Prefix, rowsOf, buckets, first, afte
 use Rattle.partition.specs.Listing.{inOrder, listing}
 use Rattle.store.specs.Moves.{pick}
 use Rattle.store.specs.Pages.{rowsHeld, dirDepth}
+use Rattle.store.specs.Accepted.{Accepted}
+use Rattle.store.specs.Demands.{Sized}
 use Rattle.query.specs.Spots.{Listed}
 use Rattle.query.specs.declared.Cursor.{Cursor}
 use Rattle.query.specs.declared.Spot.the-variants.{Here, Nowhere}
@@ -32,6 +34,13 @@ pub record At (S : Shape) (s : List ℕ) (n : ℕ) (c : Cursor) : Type 0 where
   pub rest : (j : ℕ) → getElem? (listing S fnv (rowsHeld S s)) (n + j) ≡ getElem? (listedFrom S s (c .entry)) (c .slot + j)
   pub whole : (p : Prefix) → List·Memᴰ p (buckets S fnv (rowsHeld S s)) → first (dirDepth s) p < c .entry → after (dirDepth s) p ≤ c .entry
   pub most : c .entry ≤ 2 ^ dirDepth s
+
+-- the cursor stands before some place of an accepted store's listing
+pub record Steppable (S : Shape) (s : List ℕ) (c : Cursor) : Type 0 where
+  pub sized : Sized S
+  pub accepted : Accepted S fnv s
+  pub place : ℕ
+  pub at : At S s place c
 
 -- a step from before place n: the row at place n and a cursor before the next, or there is no such row
 abbrev pub Stepped : Shape → List ℕ → ℕ → Step → Type 0

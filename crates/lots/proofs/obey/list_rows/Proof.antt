@@ -27,7 +27,7 @@ loop-holds : tie.Need-loop-holds Inv-loop μ-loop
 loop-holds c = (c .cursor-at .ensures, omega arith)
 
 next-row-requires : tie.Need-next-row-requires Inv-loop μ-loop
-next-row-requires c κs = (c .before .before .before .before .pre .sized, c .before .before .before .before .pre .accepted, (c .before .loop .i, c .before .loop .inv .0))
+next-row-requires c κs = let P = c .before .before .before .before .pre in record { sized = P .sized; accepted = P .accepted; place = c .before .loop .i; at = c .before .loop .inv .0 }
 
 -- a step from the place at which the cursor stands
 stepped : (c : tie.After-next-row Inv-loop μ-loop) → Stepped (c .before .before .before .before .before .args .z) (now (c .before .before .before .before .before .args .s)) (c .before .before .loop .i) (c .next-row .result)

@@ -43,7 +43,7 @@ module _ (b : tie.After-p) where
   here = stepped (start .pre .2 .0) (start .pre .2 .1)
 
 next-row-requires : tie.Need-next-row-requires
-next-row-requires c κs = search needs
+next-row-requires c κs = let P = c .before .pre in record { sized = P .0; accepted = P .1; place = P .2 .0; at = P .2 .1 }
 
 enum-known-p : tie.Need-enum-known-p
 enum-known-p c = search needs
