@@ -26,7 +26,7 @@ shared-slice-read-if1 c = omega arith
 returns : tie.Need-returns Inv-loop μ-loop
 returns c =
     let l = c .before .before .before .loop in
-    record { within = l .inv .1; start = l .inv .0; before = l .inv .2; bad = λ _. c .if1 .taken }
+    record { within = l .inv .1; start = l .inv .0; before = l .inv .2; bad = λ _ e. omega (arith, c .if1 .taken, e) }
 
 add-i : tie.Need-add-i Inv-loop μ-loop
 add-i c = omega arith
@@ -38,7 +38,7 @@ loop-again : tie.Need-loop-again Inv-loop μ-loop
 loop-again c =
     let l = c .before .before .before .loop in
     let a = c .before .before .before .before .args in
-    (omega arith, omega arith, below-more (λ k. a .p ≤ k → getD (a .counts .now) k 0 ≡ 0) _ (l .inv .2) (λ _. c .if1 .left))
+    (omega arith, omega arith, below-more (λ k. a .p ≤ k → getD (a .counts .now) k 0 ≡ 0) _ (l .inv .2) (λ _. omega (arith, c .if1 .left)))
 
 returns-2 : tie.Need-returns-2 Inv-loop μ-loop
 returns-2 c =
