@@ -3,7 +3,7 @@ use mathlib.Core.Path.{_≡_}
 use mathlib.Core.Bool.{Bool, cond, _&&_}
 use mathlib.Core.List.{List, [], _∷_, map}
 use mathlib.Core.Option.{none}
-use Prim.Native.Nat.{ℕ, suc, _+_, _*_, _-_, _≤_, _<_}
+use Prim.Native.Nat.{ℕ, suc, _+_, _*_, _-_, _≤_, _<_, _^_}
 use lib.Dec.{leb, ltb, eqb}
 use lib.ListN.{length, getD, set, take, drop, replicate, getElem?}
 use lib.IntN.{ℤ, pos, negsuc, _+ℤ_}
@@ -14,9 +14,12 @@ use Rattle.page.specs.Places.{place}
 use Rattle.partition.specs.declared.Shape.{Shape}
 use Rattle.partition.specs.Partition.{Row}
 use Rattle.partition.specs.Listing.{listing}
+use Rattle.store.specs.Accepted.{Accepted}
+use Rattle.store.specs.Demands.{Sized}
 use Rattle.store.specs.Pages.{rowsHeld}
 use Rattle.store.specs.Tables.{refused, Refusal1, checked}
 use Rattle.query.specs.Cursors.{At}
+use Rattle.query.specs.declared.Cursor.{Cursor}
 use Rattle.report.specs.declared.Next.{Next}
 use Rattle.report.specs.declared.Next.the-variants.{Placed, End}
 use Rattle.report.specs.declared.SheetRow.{SheetRow}
@@ -85,6 +88,19 @@ pub record SoundSheet (ps ls : List ℕ) : Type 0 where
 
 -- ---- the tally
 
+-- an accepted store beside a sheet's numbers that keep the rules
+pub record Ready (S : Shape) (s ps ls : List ℕ) : Type 0 where
+  pub sized : Sized S
+  pub accepted : Accepted S fnv s
+  pub sheet : SoundSheet ps ls
+
+-- a cursor before some row of an accepted store's listing
+pub record Standing (S : Shape) (s : List ℕ) (c : Cursor) : Type 0 where
+  pub sized : Sized S
+  pub accepted : Accepted S fnv s
+  pub row : ℕ
+  pub stands : At S s row c
+
 -- where w is, or how many there are
 abbrev pub indexOf : ℕ → List ℕ → ℕ
 indexOf w [] = 0
@@ -132,6 +148,18 @@ unmarkedSum (l ∷ ls) [] = 0
 abbrev pub remarked : List ℕ → ℕ
 remarked [] = 0
 remarked (c ∷ cs) = ifSo (leb 2 c) 1 + remarked cs
+
+-- one sheet row more leaves each sum a word
+pub record RoomFor (a : Left) (l : ℕ) : Type 0 where
+  pub hidden : a .hidden + 1 < 2 ^ 64
+  pub sum : a .sum + l < 2 ^ 64
+  pub doubled : a .doubled + 1 < 2 ^ 64
+
+-- a mark for each amount, and all the sums are words
+pub record Closable (ls cs : List ℕ) : Type 0 where
+  pub paired : length cs ≡ length ls
+  pub amounts : AtMost 2000000000000 ls
+  pub few : length ls ≤ 4000000
 
 pub record ClosedWith (ls cs : List ℕ) (l : Left) : Type 0 where
   pub rows : l .hidden ≡ unmarked cs

@@ -6,11 +6,9 @@ ghost use Rattle.ground.specs.Ladder.{Answers};
 ghost use Rattle.hash.specs.Fnv.{fnv};
 ghost use Rattle.partition.specs.Listing.{listing};
 ghost use Rattle.partition.specs.Sizes.{shapeOf};
-ghost use Rattle.store.specs.Accepted.{Accepted};
-ghost use Rattle.store.specs.Demands.{Sized};
 ghost use Rattle.store.specs.Pages.{rowsHeld};
 ghost use Rattle.report.specs.Report.{limit, reported};
-ghost use Rattle.report.specs.Numbers.{SoundSheet, Lowered, ToldBy, numbersTable};
+ghost use Rattle.report.specs.Numbers.{Lowered, Ready, ToldBy, numbersTable};
 use super::tally::close;
 use super::tally::sound;
 use super::tally::tally;
@@ -36,7 +34,7 @@ pub fn lower(sum: u64, k: usize) -> i64
 
 // Over a sound sheet, with room for a mark for each row.
 fn told(s: &[u8], z: Shape, ranks: &[u64], raised: &[u64], counts: &mut [u8]) -> Outcome
-    requires { ⌜ Sized z × Accepted z fnv (now s) × SoundSheet (now ranks) (now raised) × (length (now counts) ≡ length (now ranks)) ⌝ }
+    requires { ⌜ Ready z (now s) (now ranks) (now raised) × (length (now counts) ≡ length (now ranks)) ⌝ }
     ensures { λ r. ⌜ ToldBy (now (ranks .entry)) (now (raised .entry)) (listing z fnv (rowsHeld z (now (s .entry)))) (now (counts .entry)) (reported r) ⌝ }
 {
     match tally(s, z, ranks, raised, counts) {
@@ -58,7 +56,7 @@ fn told(s: &[u8], z: Shape, ranks: &[u64], raised: &[u64], counts: &mut [u8]) ->
 
 // The same, with marks of its own.
 fn told_fresh(s: &[u8], z: Shape, ranks: &[u64], raised: &[u64]) -> Outcome
-    requires { ⌜ Sized z × Accepted z fnv (now s) × SoundSheet (now ranks) (now raised) ⌝ }
+    requires { ⌜ Ready z (now s) (now ranks) (now raised) ⌝ }
     ensures { λ r. ⌜ ToldBy (now (ranks .entry)) (now (raised .entry)) (listing z fnv (rowsHeld z (now (s .entry)))) (replicate (length (now (ranks .entry))) 0) (reported r) ⌝ }
 {
     let n = ranks.len();

@@ -1,16 +1,14 @@
 // The tally of a store's listing over a sheet's numbers, and the closing pass over its marks.
 ghost use mathlib.Core.Path.{_≡_};
-ghost use Prim.Native.Nat.{ℕ, _+_, _*_, _<_, _≤_, _^_};
+ghost use Prim.Native.Nat.{ℕ, _+_, _<_};
 ghost use lib.ListN.{length};
 ghost use lib.Dec.{eqb, leb};
 ghost use Rattle.ground.specs.Says.{Says};
 ghost use Rattle.hash.specs.Fnv.{fnv};
 ghost use Rattle.partition.specs.Listing.{listing};
-ghost use Rattle.store.specs.Accepted.{Accepted};
-ghost use Rattle.store.specs.Demands.{Sized};
 ghost use Rattle.store.specs.Pages.{rowsHeld};
 ghost use Rattle.query.specs.Cursors.{At};
-ghost use Rattle.report.specs.Numbers.{RisingNumbers, AtMost, Sound, SoundSheet, indexOf, markAt, Follows, Ends, ifSo, unmarked, unmarkedSum, remarked, ClosedWith};
+ghost use Rattle.report.specs.Numbers.{RisingNumbers, Sound, indexOf, markAt, Ready, Standing, Follows, Ends, ifSo, RoomFor, Closable, ClosedWith};
 use super::rows::rank_of;
 use crate::Ending;
 use crate::Left;
@@ -19,26 +17,32 @@ use partition::Shape;
 use query::Cursor;
 use query::Step;
 
-// The sheet's rules over its numbers: `low` is one more than the last place.
+// The sheet's rules over its numbers. `last` is the rank before, and the greatest so far, so only the very last is held to the places' bound.
 pub fn sound(ranks: &[u64], raised: &[u64]) -> bool
     requires { ⌜ length (now raised) ≡ length (now ranks) ⌝ }
     ensures { λ r. ⌜ Says r (Sound (now (ranks .entry)) (now (raised .entry))) ⌝ }
 {
-    let mut i = 0;
-    let mut low = 0;
+    if ranks.len() == 0 {
+        return true;
+    }
+    if 2000000000000 < raised[0] {
+        return false;
+    }
+    let mut last = ranks[0];
+    let mut i = 1;
     while i < ranks.len() {
         let p = ranks[i];
-        if 9223372036854775808 <= p {
+        if p <= last {
             return false;
         }
         if 2000000000000 < raised[i] {
             return false;
         }
-        if p < low {
-            return false;
-        }
-        low = p + 1;
+        last = p;
         i = i + 1;
+    }
+    if 9223372036854775808 <= last {
+        return false;
     }
     true
 }
@@ -80,7 +84,7 @@ fn mark(counts: &mut [u8], i: usize)
 
 // The place of the next row of the listing, from any place before which the cursor stands.
 fn next_place(s: &[u8], z: Shape, c: Cursor) -> Next
-    requires { ⌜ Sized z × Accepted z fnv (now s) × ((n : ℕ) × At z (now s) n c) ⌝ }
+    requires { ⌜ Standing z (now s) c ⌝ }
     ensures { λ r. ⌜ ((n : ℕ) → At z (now (s .entry)) n c → Follows z (now (s .entry)) n r) ⌝ }
 {
     match query::next_row(s, z, c) {
@@ -96,7 +100,7 @@ fn next_place(s: &[u8], z: Shape, c: Cursor) -> Next
 
 // Each row of the listing once: its place found in the sheet, its amount added and its sheet row marked.
 pub fn tally(s: &[u8], z: Shape, ranks: &[u64], raised: &[u64], counts: &mut [u8]) -> Ending
-    requires { ⌜ Sized z × Accepted z fnv (now s) × SoundSheet (now ranks) (now raised) × (length (now counts) ≡ length (now ranks)) ⌝ }
+    requires { ⌜ Ready z (now s) (now ranks) (now raised) × (length (now counts) ≡ length (now ranks)) ⌝ }
     ensures { λ r. ⌜ Ends (now (ranks .entry)) (now (raised .entry)) (listing z fnv (rowsHeld z (now (s .entry)))) (now (counts .entry)) r (now (counts .exit)) ⌝ }
 {
     let mut c = query::cursor_at(s, z, 0);
@@ -123,12 +127,13 @@ pub fn tally(s: &[u8], z: Shape, ranks: &[u64], raised: &[u64], counts: &mut [u8
 
 // One sheet row more.
 fn close_step(a: Left, l: u64, c: u8) -> Left
-    requires { ⌜ (a .hidden + 1 < 2 ^ 64) × (a .sum + l < 2 ^ 64) × (a .doubled + 1 < 2 ^ 64) ⌝ }
+    requires { ⌜ RoomFor a l ⌝ }
     ensures { λ r. ⌜ (r .hidden ≡ a .hidden + ifSo (eqb c 0) 1) × (r .sum ≡ a .sum + ifSo (eqb c 0) l) × (r .doubled ≡ a .doubled + ifSo (leb 2 c) 1) ⌝ }
 {
     let h = a.hidden;
     let s = a.sum;
     let d = a.doubled;
+    let more = (2 <= c) as usize;
     if c == 0 {
         return Left {
             hidden: h + 1,
@@ -136,23 +141,16 @@ fn close_step(a: Left, l: u64, c: u8) -> Left
             doubled: d,
         };
     }
-    if 2 <= c {
-        return Left {
-            hidden: h,
-            sum: s,
-            doubled: d + 1,
-        };
-    }
     Left {
         hidden: h,
         sum: s,
-        doubled: d,
+        doubled: d + more,
     }
 }
 
 // The closing pass: what no code names, and what more than one does.
 pub fn close(raised: &[u64], counts: &[u8]) -> Left
-    requires { ⌜ (length (now counts) ≡ length (now raised)) × AtMost 2000000000000 (now raised) × (length (now raised) ≤ 4000000) ⌝ }
+    requires { ⌜ Closable (now raised) (now counts) ⌝ }
     ensures { λ r. ⌜ ClosedWith (now (raised .entry)) (now (counts .entry)) r ⌝ }
 {
     let mut i = 0;

@@ -50,7 +50,7 @@ module _ (t : tie.After-tally) where
   marks = t .tally .last .1 .1 .1 .1 .0
 
   marked : length marks ≡ length ls
-  marked = t .tally .kept .1 .1 .1 .1 .0 ∙ start .pre .3 ∙ sym (start .pre .2 .paired)
+  marked = t .tally .kept .1 .1 .1 .1 .0 ∙ start .pre .1 ∙ sym (start .pre .0 .sheet .paired)
 
 -- a whole tally
 module _ (b : tie.After-k) where
@@ -68,10 +68,10 @@ module _ (b : tie.After-k) where
 
   sum-le : sum ≤ k * 2000000000000
   sum-le = subst (λ (r : ℕ × (ℕ × List ℕ)). r .1 .0 ≤ r .0 * 2000000000000) (sym (whole .1))
-      (tallied-le (ps t) (ls t) (start t .pre .2 .sound .amounts) (start t .pre .2 .paired) (map rankOn (rows t)) 0 0 (now (start t .args .counts)) (omega arith))
+      (tallied-le (ps t) (ls t) (start t .pre .0 .sheet .sound .amounts) (start t .pre .0 .sheet .paired) (map rankOn (rows t)) 0 0 (now (start t .args .counts)) (omega arith))
 
   k-le : k ≤ 5200000
-  k-le = omega (arith, whole .0, few (S t) (start t .pre .0) (store t) (start t .pre .1))
+  k-le = omega (arith, whole .0, few (S t) (start t .pre .0 .sized) (store t) (start t .pre .0 .accepted))
 
 tally-requires : tie.Need-tally-requires
 tally-requires c κs = search needs
@@ -84,7 +84,7 @@ enum-known-k c = search needs
 
 close-requires : tie.Need-close-requires
 close-requires c κs = let u = t (c .before .before) in
-    (marked u, start u .pre .2 .sound .amounts, omega (arith, start u .pre .2 .paired, start u .pre .2 .most))
+    record { paired = marked u; amounts = start u .pre .0 .sheet .sound .amounts; few = omega (arith, start u .pre .0 .sheet .paired, start u .pre .0 .sheet .most) }
 
 lower-requires : tie.Need-lower-requires
 lower-requires c κs = let b = c .before .before .before in (sum-le b, k-le b)
@@ -92,8 +92,8 @@ lower-requires c κs = let b = c .before .before .before in (sum-le b, k-le b)
 lower-requires-2 : tie.Need-lower-requires-2
 lower-requires-2 c κs = let u = t (c .before .before .before .before) in
     let e = c .before .close .ensures in
-    let l = unmarked-le (ls u) (marks u) (start u .pre .2 .sound .amounts) in
-    (omega (arith, e .sum, e .rows, l), omega (arith, e .rows, unmarked-most (marks u), marked u, start u .pre .2 .paired, start u .pre .2 .most))
+    let l = unmarked-le (ls u) (marks u) (start u .pre .0 .sheet .sound .amounts) in
+    (omega (arith, e .sum, e .rows, l), omega (arith, e .rows, unmarked-most (marks u), marked u, start u .pre .0 .sheet .paired, start u .pre .0 .sheet .most))
 
 same-length : tie.Need-same-length
 same-length c = search needs

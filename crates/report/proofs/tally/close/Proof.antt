@@ -33,10 +33,10 @@ loop-holds : tie.Need-loop-holds Inv-loop μ-loop
 loop-holds c = passed-start (L (c .before .before)) (K (c .before .before))
 
 mul-close-step : tie.Need-mul-close-step Inv-loop μ-loop
-mul-close-step c = record { fits = omega (arith, c .loop-test .taken, S c .pre .0, S c .pre .2) }
+mul-close-step c = record { fits = omega (arith, c .loop-test .taken, S c .pre .paired, S c .pre .few) }
 
 shared-slice-read-close-step : tie.Need-shared-slice-read-close-step Inv-loop μ-loop
-shared-slice-read-close-step c = omega (arith, c .before .loop-test .taken, S (c .before) .pre .0)
+shared-slice-read-close-step c = omega (arith, c .before .loop-test .taken, S (c .before) .pre .paired)
 
 shared-slice-read-close-step-2 : tie.Need-shared-slice-read-close-step-2 Inv-loop μ-loop
 shared-slice-read-close-step-2 c = c .before .before .loop-test .taken
@@ -46,13 +46,13 @@ close-step-requires c κs =
     let i = c .before .before in
     let p = i .before .loop .inv in
     let l : i .before .loop .i < length (K (S i)) = i .loop-test .taken in
-    let n : length (K (S i)) ≡ length (L (S i)) = S i .pre .0 in
-    let m : length (L (S i)) ≤ 4000000 = S i .pre .2 in
-    let b : getD {A = ℕ} (L (S i)) (i .before .loop .i) 0 ≤ 2000000000000 = S i .pre .1 .le (i .before .loop .i) (omega (arith, l, n)) in
-    (omega (arith, p .h-le, l, n, m), omega (arith, p .s-le, l, n, m, b), omega (arith, p .d-le, l, n, m))
+    let n : length (K (S i)) ≡ length (L (S i)) = S i .pre .paired in
+    let m : length (L (S i)) ≤ 4000000 = S i .pre .few in
+    let b : getD {A = ℕ} (L (S i)) (i .before .loop .i) 0 ≤ 2000000000000 = S i .pre .amounts .le (i .before .loop .i) (omega (arith, l, n)) in
+    record { hidden = omega (arith, p .h-le, l, n, m); sum = omega (arith, p .s-le, l, n, m, b); doubled = omega (arith, p .d-le, l, n, m) }
 
 add-i : tie.Need-add-i Inv-loop μ-loop
-add-i c = let i = c .before .before .before in record { fits = omega (arith, i .loop-test .taken, S i .pre .0, S i .pre .2) }
+add-i c = let i = c .before .before .before in record { fits = omega (arith, i .loop-test .taken, S i .pre .paired, S i .pre .few) }
 
 loop-less : tie.Need-loop-less Inv-loop μ-loop
 loop-less c = omega (arith, c .before .before .before .loop-test .taken)
@@ -62,7 +62,7 @@ loop-again c =
     let i = c .before .before .before in
     let r = c .close-step .result in
     let e = c .close-step .ensures in
-    passed-next (i .before .loop .inv) (i .loop-test .taken) (S i .pre .0) (S i .pre .1) (r .hidden) (r .sum) (r .doubled) (e .0) (e .1) (e .2)
+    passed-next (i .before .loop .inv) (i .loop-test .taken) (S i .pre .paired) (S i .pre .amounts) (r .hidden) (r .sum) (r .doubled) (e .0) (e .1) (e .2)
 
 returns : tie.Need-returns Inv-loop μ-loop
 returns c = passed-end (c .before .loop .inv) (c .loop-test .left)

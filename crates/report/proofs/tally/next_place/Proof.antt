@@ -39,11 +39,11 @@ module _ (b : tie.After-p) where
   stepped : (n : ℕ) → At S store n (start .args .c) → Stepped S store n (Given page-no slot-no behind)
   stepped n a = subst (Stepped S store n) (b .p .given .1) (b .before .before .next-row .ensures n a)
 
-  here : Stepped S store (start .pre .2 .0) (Given page-no slot-no behind)
-  here = stepped (start .pre .2 .0) (start .pre .2 .1)
+  here : Stepped S store (start .pre .row) (Given page-no slot-no behind)
+  here = stepped (start .pre .row) (start .pre .stands)
 
 next-row-requires : tie.Need-next-row-requires
-next-row-requires c κs = let P = c .before .pre in record { sized = P .0; accepted = P .1; place = P .2 .0; at = P .2 .1 }
+next-row-requires c κs = let p = c .before .pre in record { sized = p .sized; accepted = p .accepted; place = p .row; at = p .stands }
 
 enum-known-p : tie.Need-enum-known-p
 enum-known-p c = search needs

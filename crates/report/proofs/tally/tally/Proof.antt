@@ -52,7 +52,7 @@ module _ (b : tie.At-loop Inv-loop μ-loop) where
   ls = now (start .args .raised)
 
   rows-few : length rows ≤ 5200000
-  rows-few = few S (start .pre .0) store (start .pre .1)
+  rows-few = few S (start .pre .0 .sized) store (start .pre .0 .accepted)
 
   as-many : length (map rankOn rows) ≡ length rows
   as-many = length-map rows rankOn
@@ -89,16 +89,16 @@ module _ (f : tie.After-find Inv-loop μ-loop) where
   index = f .find .ensures ∙ ap (λ w. indexOf w (ps (b g))) (f .before .rank-of .ensures ∙ its-rank g)
 
 index-lt : (c : tie.Else1 Inv-loop μ-loop) → c .before .find .result < length (ls (b (g (c .before))))
-index-lt c = omega (arith, c .if1 .left, start (b (g (c .before))) .pre .2 .paired)
+index-lt c = omega (arith, c .if1 .left, start (b (g (c .before))) .pre .0 .sheet .paired)
 
 cursor-at-requires : tie.Need-cursor-at-requires Inv-loop μ-loop
-cursor-at-requires c κs = let q = c .before .before .before .before in (q .pre .0, q .pre .1)
+cursor-at-requires c κs = let q = c .before .before .before .before in (q .pre .0 .sized, q .pre .0 .accepted)
 
 loop-holds : tie.Need-loop-holds Inv-loop μ-loop
-loop-holds c = let q = c .before .before .before .before .before in (going-start (now (q .args .ranks)) (now (q .args .raised)) (ranksIn (q .args .z) (now (q .args .s))) (now (q .args .counts)) (q .pre .3), c .cursor-at .ensures)
+loop-holds c = let q = c .before .before .before .before .before in (going-start (now (q .args .ranks)) (now (q .args .raised)) (ranksIn (q .args .z) (now (q .args .s))) (now (q .args .counts)) (q .pre .1), c .cursor-at .ensures)
 
 next-place-requires : tie.Need-next-place-requires Inv-loop μ-loop
-next-place-requires c κs = let q = start c in (q .pre .0, q .pre .1, (c .loop .k, c .loop .inv .1))
+next-place-requires c κs = let q = start c in record { sized = q .pre .0 .sized; accepted = q .pre .0 .accepted; row = c .loop .k; stands = c .loop .inv .1 }
 
 enum-known-place : tie.Need-enum-known-place Inv-loop μ-loop
 enum-known-place c = search needs
@@ -107,10 +107,10 @@ rank-of-requires : tie.Need-rank-of-requires Inv-loop μ-loop
 rank-of-requires c κs = tt
 
 find-requires : tie.Need-find-requires Inv-loop μ-loop
-find-requires c κs = start (b (c .before .before)) .pre .2 .sound .ascending
+find-requires c κs = start (b (c .before .before)) .pre .0 .sheet .sound .ascending
 
 same-length : tie.Need-same-length Inv-loop μ-loop
-same-length c = let l = b (g (c .before)) in l .loop .inv .0 .len ∙ sym (start l .pre .3)
+same-length c = let l = b (g (c .before)) in l .loop .inv .0 .len ∙ sym (start l .pre .1)
 
 returns : tie.Need-returns Inv-loop μ-loop
 returns c = let f = c .before in
@@ -126,7 +126,7 @@ shared-slice-read-sum c = index-lt (c .before)
 add-sum : tie.Need-add-sum Inv-loop μ-loop
 add-sum c = let l = b (g (c .before .before)) in
     let v : ℕ = getD {A = ℕ} (ls l) (c .before .before .find .result) 0 in
-    let x : v ≤ 2000000000000 = start l .pre .2 .sound .amounts .le (c .before .before .find .result) (index-lt (c .before)) in
+    let x : v ≤ 2000000000000 = start l .pre .0 .sheet .sound .amounts .le (c .before .before .find .result) (index-lt (c .before)) in
     let h : l .loop .sum ≤ l .loop .k * 2000000000000 = l .loop .inv .0 .sum-le in
     let t : l .loop .sum + v < 2 ^ 64 = omega (arith, x, h, below (g (c .before .before)), as-many l, rows-few l) in
     record { fits = t }
@@ -143,14 +143,14 @@ loop-less c = let f = c .before .before .before .before .before .before in omega
 loop-again : tie.Need-loop-again Inv-loop μ-loop
 loop-again c = let f = c .before .before .before .before .before .before in
     let l = b (g f) in
-    let m = start l .pre .2 in
+    let m = start l .pre .0 .sheet in
     (going-next (l .loop .inv .0) (below (g f)) (m .sound .amounts) (m .paired) (f .find .result) (index f) (c .before .before .before .before .before .if1 .left) (c .before .before .mark .last .0) (c .before .before .mark .ensures), follows (g f) .1)
 
 enum-told : tie.Need-enum-told Inv-loop μ-loop
 enum-told c = search needs
 
 same-length-2 : tie.Need-same-length-2 Inv-loop μ-loop
-same-length-2 c = let l = c .before .before .before in l .loop .inv .0 .len ∙ sym (start l .pre .3)
+same-length-2 c = let l = c .before .before .before in l .loop .inv .0 .len ∙ sym (start l .pre .1)
 
 returns-2 : tie.Need-returns-2 Inv-loop μ-loop
 returns-2 c = let l = c .before .before .before in
