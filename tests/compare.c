@@ -1065,8 +1065,9 @@ int main(int argc, char **argv) {
         many = fill_pool(400, 1, 64, 0, 0), changing(12 * 1024, many, 40, 25), changing(48 * 1024, many, 60, 25), changing(256 * 1024, many, 20, 25);
     }
     every_entry(0, 10);
-    /* the longest ones, by turns: they take their time */
-    if (seed % 2 == 1) national(), every_entry(1, 40);
-    if (seed % 2 == 0) every_entry(2, 120);
+    /* the longest ones, one each: they take their time */
+    if (seed % 3 == 1) national();
+    if (seed % 3 == 2) every_entry(1, 40);
+    if (seed % 3 == 0) every_entry(2, 120);
     return sum_up(seed);
 }

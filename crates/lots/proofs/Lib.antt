@@ -1,3 +1,4 @@
 pub mod Fields
+pub mod Inspecting
 pub mod Leaving
 pub mod OneCommand
