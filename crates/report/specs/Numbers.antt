@@ -94,13 +94,6 @@ pub record Ready (S : Shape) (s ps ls : List ℕ) : Type 0 where
   pub accepted : Accepted S fnv s
   pub sheet : SoundSheet ps ls
 
--- a cursor before some row of an accepted store's listing
-pub record Standing (S : Shape) (s : List ℕ) (c : Cursor) : Type 0 where
-  pub sized : Sized S
-  pub accepted : Accepted S fnv s
-  pub row : ℕ
-  pub stands : At S s row c
-
 -- where w is, or how many there are
 abbrev pub indexOf : ℕ → List ℕ → ℕ
 indexOf w [] = 0

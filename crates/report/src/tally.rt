@@ -7,8 +7,8 @@ ghost use Rattle.ground.specs.Says.{Says};
 ghost use Rattle.hash.specs.Fnv.{fnv};
 ghost use Rattle.partition.specs.Listing.{listing};
 ghost use Rattle.store.specs.Pages.{rowsHeld};
-ghost use Rattle.query.specs.Cursors.{At};
-ghost use Rattle.report.specs.Numbers.{RisingNumbers, Sound, indexOf, markAt, Ready, Standing, Follows, Ends, ifSo, RoomFor, Closable, ClosedWith};
+ghost use Rattle.query.specs.Cursors.{At, Steppable};
+ghost use Rattle.report.specs.Numbers.{RisingNumbers, Sound, indexOf, markAt, Ready, Follows, Ends, ifSo, RoomFor, Closable, ClosedWith};
 use super::rows::rank_of;
 use crate::Ending;
 use crate::Left;
@@ -84,7 +84,7 @@ fn mark(counts: &mut [u8], i: usize)
 
 // The place of the next row of the listing, from any place before which the cursor stands.
 fn next_place(s: &[u8], z: Shape, c: Cursor) -> Next
-    requires { ⌜ Standing z (now s) c ⌝ }
+    requires { ⌜ Steppable z (now s) c ⌝ }
     ensures { λ r. ⌜ ((n : ℕ) → At z (now (s .entry)) n c → Follows z (now (s .entry)) n r) ⌝ }
 {
     match query::next_row(s, z, c) {

@@ -39,11 +39,11 @@ module _ (b : tie.After-p) where
   stepped : (n : ℕ) → At S store n (start .args .c) → Stepped S store n (Given page-no slot-no behind)
   stepped n a = subst (Stepped S store n) (b .p .given .1) (b .before .before .next-row .ensures n a)
 
-  here : Stepped S store (start .pre .row) (Given page-no slot-no behind)
-  here = stepped (start .pre .row) (start .pre .stands)
+  here : Stepped S store (start .pre .place) (Given page-no slot-no behind)
+  here = stepped (start .pre .place) (start .pre .at)
 
 next-row-requires : tie.Need-next-row-requires
-next-row-requires c κs = let p = c .before .pre in record { sized = p .sized; accepted = p .accepted; place = p .row; at = p .stands }
+next-row-requires c κs = c .before .pre
 
 enum-known-p : tie.Need-enum-known-p
 enum-known-p c = search needs

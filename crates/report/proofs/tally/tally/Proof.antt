@@ -98,7 +98,7 @@ loop-holds : tie.Need-loop-holds Inv-loop μ-loop
 loop-holds c = let q = c .before .before .before .before .before in (going-start (now (q .args .ranks)) (now (q .args .raised)) (ranksIn (q .args .z) (now (q .args .s))) (now (q .args .counts)) (q .pre .1), c .cursor-at .ensures)
 
 next-place-requires : tie.Need-next-place-requires Inv-loop μ-loop
-next-place-requires c κs = let q = start c in record { sized = q .pre .0 .sized; accepted = q .pre .0 .accepted; row = c .loop .k; stands = c .loop .inv .1 }
+next-place-requires c κs = let q = start c in record { sized = q .pre .0 .sized; accepted = q .pre .0 .accepted; place = c .loop .k; at = c .loop .inv .1 }
 
 enum-known-place : tie.Need-enum-known-place Inv-loop μ-loop
 enum-known-place c = search needs
