@@ -19,7 +19,6 @@ use Rattle.store.specs.Demands.{Sized}
 use Rattle.store.specs.Pages.{rowsHeld}
 use Rattle.store.specs.Tables.{refused, Refusal1, checked}
 use Rattle.query.specs.Cursors.{At}
-use Rattle.query.specs.declared.Cursor.{Cursor}
 use Rattle.report.specs.declared.Next.{Next}
 use Rattle.report.specs.declared.Next.the-variants.{Placed, End}
 use Rattle.report.specs.declared.SheetRow.{SheetRow}
