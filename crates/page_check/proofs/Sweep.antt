@@ -37,7 +37,7 @@ module _ (p t : List ℕ) (f j : ℕ) (s : Swept p j f t) where
   swept-more q h n e = record {
     words = below-more (λ i. WordOk p f (word p i)) j (s .words) (n .sound);
     ascending = below-more (λ i. Before (prior p i) (code p i)) j (s .ascending) (n .rises);
-    table = table-more p t j f (s .table) q (n .sound .after) (omega (arith, n .sound .short)) (n .sound .inside) h (n .vacant) e;
+    table = table-more p t j f (s .table) q (n .sound .after) (n .sound .short) (n .sound .inside) h (n .vacant) e;
   }
 
   -- where the slots keep their rules, so does the next

@@ -36,12 +36,6 @@ entries-less (suc x ∷ t) zero h = omega arith
 entries-less (zero ∷ t) (suc k) h = entries-less t k h
 entries-less (suc x ∷ t) (suc k) h = omega (arith, entries-less t k h)
 
--- a zero written over a zero
-pub set-zero : (t : List ℕ) (k : ℕ) → byte t k ≡ 0 → set t k 0 ≡ t
-set-zero [] k z = refl
-set-zero (x ∷ t) zero z = ap (λ y. y ∷ t) (sym z)
-set-zero (x ∷ t) (suc k) z = ap (λ u. x ∷ u) (set-zero t k z)
-
 -- no entry where all is zero
 pub entries-none : (t : List ℕ) → Zero t → entries t ≡ 0
 unfolding entries
@@ -80,7 +74,7 @@ module _ (p t : List ℕ) (n f : ℕ) (b : Table p n f t) where
   vacant-of c h s = ⊎-elim (λ z. z) (λ u. absurd (omega (arith, u .1, s (u .0) n (omega (arith, u .1)) h (u .2)))) (b .only (off p n))
 
   -- the next record's entry
-  pub table-more : (q : List ℕ) → 8 ≤ off p n → 1 ≤ len p n → off p n + len p n ≤ f → f ≤ length t → byte t (off p n) ≡ 0 → q ≡ set t (off p n) (len p n) → Table p (n + 1) f q
+  pub table-more : (q : List ℕ) → 8 ≤ off p n → 9 ≤ len p n → off p n + len p n ≤ f → f ≤ length t → byte t (off p n) ≡ 0 → q ≡ set t (off p n) (len p n) → Table p (n + 1) f q
   table-more q a s l g z e = record {
     after = λ i h. ⊎-elim (λ x. rw x a) (λ x. b .after i (omega (arith, x))) (same i n);
     short = λ i h. ⊎-elim (λ x. rw x s) (λ x. b .short i (omega (arith, x))) (same i n);
@@ -99,7 +93,7 @@ module _ (p t : List ℕ) (n f : ℕ) (b : Table p n f t) where
         (λ y. inl (rw e (getD-set-other t (off p n) k (len p n) 0 x ∙ y)))
         (λ u. inr (u .0, omega (arith, u .1), u .2)) (b .only k))
         (same k (off p n));
-    number = rw e (omega (arith, entries-more t (off p n) (len p n) (omega arith) z s, b .number));
+    number = rw e (omega (arith, entries-more t (off p n) (len p n) (omega arith) z (omega arith), b .number));
   }
     where
       new : byte q (off p n) ≡ len p n

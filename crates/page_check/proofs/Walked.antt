@@ -9,11 +9,13 @@ use lib.ListN.{length, set, List·getD-eq-default}
 use lib.Seq.{getD-set-same, getD-set-other}
 use Rattle.ground.specs.Lists.{byte}
 use Rattle.ground.proofs.Sides.{side, same}
+use Rattle.words.specs.Moves.{Span}
 use Rattle.words.specs.Zeros.{Zero}
 use Rattle.words.proofs.Zeros.{or-zero, zero-or}
 use Rattle.page.specs.Page.{In, off, len}
 use Rattle.page_check.specs.Table.{entries, Table, Inside, Laid}
-use Rattle.page_check.proofs.Table.{entries-less, entries-none, none-entries, inside-of, set-zero}
+use Rattle.page_check.specs.Marks.{OfPlace, Marked}
+use Rattle.page_check.proofs.Table.{entries-less, entries-none, none-entries, inside-of}
 
 abbrev Apart : List ℕ → ℕ → Type 0
 Apart p n = (i j k : ℕ) → i < n → j < n → In p i k → In p j k → i ≡ j
@@ -37,6 +39,12 @@ pub record Walked (p : List ℕ) (n f : ℕ) (t m : List ℕ) (x e met acc : ℕ
   pub spent : Apart p n → (k : ℕ) → k < x → byte m k ≡ 0
   pub clear : Laid p n f → acc ≡ 0
 
+-- u at byte x: the entries m that are left, and 255 on the places of the records met
+pub record Marking (p : List ℕ) (n : ℕ) (m : List ℕ) (x : ℕ) (u : List ℕ) : Type 0 where
+  pub ahead : (k : ℕ) → x ≤ k → byte u k ≡ byte m k
+  pub places : (i k : ℕ) → Met p n m i → OfPlace p i k → byte u k ≡ 255
+  pub only : (k : ℕ) → (byte u k ≡ byte m k) ⊎ ((i : ℕ) × (i < n) × OfPlace p i k)
+
 -- g, where the last bytes of no record end, is x only where the last record, ending at e, does not end there
 pub record Gap (g x e : ℕ) : Type 0 where
   pub to : g ≤ x
@@ -44,6 +52,12 @@ pub record Gap (g x e : ℕ) : Type 0 where
   pub none : 8 < x → g ≡ x → e < x
 
 module _ (p t : List ℕ) (n f : ℕ) (b : Table p n f t) where
+  fresh : (i : ℕ) → Met p n t i → ⊥
+  fresh i u = omega (arith, b .at i (u .0), b .short i (u .0), u .1)
+
+  pub marking-none : Marking p n t 8 t
+  marking-none = record { ahead = λ k _. refl; places = λ i k u. absurd (fresh i u); only = λ k. inl refl }
+
   pub walked-none : 8 ≤ f → Walked p n f t t 8 8 0 0
   walked-none h = record {
     from = omega arith;
@@ -59,14 +73,11 @@ module _ (p t : List ℕ) (n f : ℕ) (b : Table p n f t) where
     spent = λ _ k l. inside-of p t n f b .below k l;
     clear = λ _. refl;
   }
-    where
-      fresh : (i : ℕ) → Met p n t i → ⊥
-      fresh i u = omega (arith, b .at i (u .0), b .short i (u .0), u .1)
 
   module _ (m : List ℕ) (x e met acc : ℕ) (w : Walked p n f t m x e met acc) (l : x < f) where
     -- a byte at which no record starts
-    hole : byte m x ≡ 0 → Walked p n f t m (x + 1) e met (bitOr acc (byte p x))
-    hole z = record {
+    pub walked-hole : byte m x ≡ 0 → Walked p n f t m (x + 1) e met (bitOr acc (byte p x))
+    walked-hole z = record {
       from = omega (arith, w .from);
       to = omega arith;
       later = λ k h. w .later k (omega arith);
@@ -84,15 +95,41 @@ module _ (p t : List ℕ) (n f : ℕ) (b : Table p n f t) where
           (side (off p i) x)));
     }
 
-    pub walked-hole : (q : List ℕ) → byte m x ≡ 0 → q ≡ set m x 0 → Walked p n f t q (x + 1) e met (bitOr acc (byte p x))
-    walked-hole q z g = rw (g ∙ set-zero m x z) (hole z)
-
     -- the record that starts here
     pub here : 1 ≤ byte m x → (i : ℕ) × (i < n) × (off p i ≡ x) × (byte m x ≡ len p i)
     here s = ⊎-elim
         (λ z. absurd (omega (arith, w .later x (omega arith))))
         (λ u. (u .0, u .1, u .2, w .later x (omega arith) ∙ sym (ap (byte t) (u .2)) ∙ b .at (u .0) (u .1)))
         (b .only x)
+
+    pub marking-hole : (u : List ℕ) → Marking p n m x u → Marking p n m (x + 1) u
+    marking-hole u a = record { ahead = λ k h. a .ahead k (omega arith); places = a .places; only = a .only }
+
+    -- its entry is taken back, and its place marked
+    pub marking-record : (u v : List ℕ) → 1 ≤ byte m x → Marking p n m x u → Span u x (x + 8) (λ _. 255) v → Marking p n (set m x 0) (x + byte m x) v
+    marking-record u v s a c = record {
+      ahead = λ k h. c .above k (omega (arith, long)) ∙ a .ahead k (omega arith) ∙ sym (kept k (λ y. omega (arith, y, long)));
+      places = λ i k q y. ⊎-elim
+          (λ o. c .new k (omega (arith, y .from, o)) (omega (arith, y .to, o)))
+          (λ o. let old = a .places i k (q .0, sym (kept (off p i) o) ∙ q .1) y in ⊎-elim (λ h. c .below k h ∙ old) (λ h. ⊎-elim (λ g. c .new k h g) (λ g. c .above k g ∙ old) (side k (x + 8))) (side k x))
+          (same (off p i) x);
+      only = λ k. ⊎-elim
+          (λ h. ⊎-elim (λ y. inl (c .below k h ∙ y ∙ sym (kept k (λ z. omega (arith, z, h))))) (λ z. inr z) (a .only k))
+          (λ h. ⊎-elim
+          (λ g. inr (r .0, r .1, record { from = omega (arith, r .2); to = omega (arith, r .2) }))
+          (λ g. ⊎-elim (λ y. inl (c .above k g ∙ y ∙ sym (kept k (λ z. omega (arith, z, g))))) (λ z. inr z) (a .only k))
+          (side k (x + 8)))
+          (side k x);
+    }
+      where
+        r : (i : ℕ) × (i < n) × (off p i ≡ x) × (byte m x ≡ len p i)
+        r = here s
+
+        long : 9 ≤ byte m x
+        long = omega (arith, r .3, b .short (r .0) (r .1))
+
+        kept : (k : ℕ) → (k ≡ x → ⊥) → byte (set m x 0) k ≡ byte m k
+        kept k y = getD-set-other m x k 0 0 y
 
     pub walked-record : (q : List ℕ) → 1 ≤ byte m x → q ≡ set m x 0 → Walked p n f t q (x + byte m x) (x + byte m x) (met + 1) acc
     walked-record q s g = record {
@@ -142,12 +179,24 @@ module _ (p t : List ℕ) (n f : ℕ) (b : Table p n f t) where
         within k h c = record { from = omega (arith, r .2, r .3); to = omega (arith, r .2, r .3) }
 
   module _ (m : List ℕ) (e met acc : ℕ) (w : Walked p n f t m f e met acc) where
-    pub inside-still : Inside f m
+    inside-still : Inside f m
     inside-still = record { below = λ k h. w .never k (inside-of p t n f b .below k h); above = λ k h. w .never k (inside-of p t n f b .above k h) }
 
+    pub inside-marked : (u : List ℕ) → Marking p n m f u → Inside f u
+    inside-marked u a = record {
+      below = λ k h. ⊎-elim (λ y. y ∙ inside-still .below k h) (λ z. absurd (omega (arith, z .2 .from, b .after (z .0) (z .1)))) (a .only k);
+      above = λ k h. ⊎-elim (λ y. y ∙ inside-still .above k h) (λ z. absurd (omega (arith, z .2 .to, b .inside (z .0) (z .1), b .short (z .0) (z .1)))) (a .only k);
+    }
+
     -- all met
-    pub emptied : met ≡ n → Zero m
+    emptied : met ≡ n → Zero m
     emptied h = none-entries m (omega (arith, w .left))
+
+    pub marked-all : (u : List ℕ) → Marking p n m f u → met ≡ n → Marked p n u
+    marked-all u a h = record {
+      places = λ i k l y. a .places i k (l, emptied h (off p i)) y;
+      only = λ k. ⊎-elim (λ y. inl (y ∙ emptied h k)) (λ z. inr z) (a .only k);
+    }
 
     pub laid-of : 17 ≤ f → acc ≡ 0 → met ≡ n → e ≡ f → Laid p n f
     laid-of l z h s = record {

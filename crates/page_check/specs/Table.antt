@@ -6,8 +6,9 @@ use mathlib.Core.List.{List, [], _∷_}
 use lib.ListN.{length}
 use Rattle.ground.specs.Lists.{byte, part}
 use Rattle.words.specs.Codes.{Before}
-use Rattle.page.specs.Page.{In, off, len}
-use Rattle.page_check.specs.Rules.{WordOk, Preceded, offOf, lenOf, slotOf, prior}
+use Rattle.words.specs.Zeros.{Zero}
+use Rattle.page.specs.Page.{In, off, len, count, frontier}
+use Rattle.page_check.specs.Rules.{HeadOk, WordOk, Preceded, offOf, lenOf, slotOf, prior}
 use Rattle.page_check.specs.Big.{Stretch, Lead, Led}
 
 -- how many bytes are not zero
@@ -19,12 +20,27 @@ entries (suc x ∷ t) = suc (entries t)
 -- the first n records lie between 8 and f, no two start at one byte, and t has an entry for each and no other
 pub record Table (p : List ℕ) (n f : ℕ) (t : List ℕ) : Type 0 where
   pub after : (i : ℕ) → i < n → 8 ≤ off p i
-  pub short : (i : ℕ) → i < n → 1 ≤ len p i
+  pub short : (i : ℕ) → i < n → 9 ≤ len p i
   pub inside : (i : ℕ) → i < n → off p i + len p i ≤ f
   pub starts : (i j : ℕ) → i < n → j < n → off p i ≡ off p j → i ≡ j
   pub at : (i : ℕ) → i < n → byte t (off p i) ≡ len p i
   pub only : (k : ℕ) → (byte t k ≡ 0) ⊎ ((i : ℕ) × (i < n) × (off p i ≡ k))
   pub number : entries t ≡ n
+
+-- a page whose header keeps its rules, of n rows and frontier f, and a table as long as it, of zeros
+pub record HeadKnown (p t : List ℕ) (n f : ℕ) : Type 0 where
+  pub head : HeadOk p
+  pub rows : n ≡ count p
+  pub front : f ≡ frontier p
+  pub same : length t ≡ length p
+  pub zero : Zero t
+
+-- a page of frontier f, and a table as long as it, of its n records
+pub record Tabled (p t : List ℕ) (n f : ℕ) : Type 0 where
+  pub start : 17 ≤ f
+  pub within : f ≤ length p
+  pub same : length t ≡ length p
+  pub table : Table p n f t
 
 -- zeros before 8 and from f on
 pub record Inside (f : ℕ) (t : List ℕ) : Type 0 where

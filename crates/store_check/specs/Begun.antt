@@ -3,9 +3,9 @@ use mathlib.Core.Path.{_≡_}
 use mathlib.Core.List.{List}
 use Prim.Native.Nat.{ℕ, _+_, _*_, _%_, _^_, _≤_, _<_}
 use lib.ListN.{length, getD}
-use Rattle.words.specs.Folds.{Folded}
 use Rattle.words.specs.Zeros.{Zero}
-use Rattle.page.specs.Page.{BucketPage, depth, code}
+use Rattle.page.specs.Page.{BucketPage, depth}
+use Rattle.page_check.specs.Shared.{Spelled}
 use Rattle.hash.specs.Fnv.{fnv}
 use Rattle.partition.specs.declared.Shape.{Shape}
 use Rattle.store.specs.Demands.{Sized}
@@ -47,10 +47,10 @@ pub record FreeAndUnnamed (g counts : List ℕ) (p : ℕ) : Type 0 where
   pub zero : Zero g
   pub unnamed : getD counts p 0 ≡ 0
 
--- a bucket's own bytes but for its hashes and for capitals after its first code, and its depth
+-- a bucket's own bytes but for its hashes, and its depth
 pub record Own (g : List ℕ) (d : ℕ) : Type 0 where
   pub rules : BucketPage g
-  pub folded : Folded (code g 0)
+  pub folded : Spelled g
   pub deep : depth g ≤ d
 
 -- a store of n pages of a size, those from 2 on all standing

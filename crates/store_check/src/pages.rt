@@ -37,7 +37,7 @@ fn skip_free(s: &[u8], z: Shape, counts: &[u32], p: usize) -> usize
     first_named(counts, p, words::zeros_end(s, p * size) / size)
 }
 
-// Whether a page is a bucket of depth at most d, but for its hashes and the capitals of codes after the first. tab is as for page_check::page_ok.
+// Whether a page is a bucket of depth at most d, but for its hashes. tab is as for page_check::page_ok.
 fn own_ok(pg: &[u8], tab: &mut [u8], d: u32) -> bool
     requires { ⌜ (length (now tab) ≡ length (now pg)) × Zero (now tab) ⌝ }
     ensures says { λ r. ⌜ Says r (Own (now (pg .entry)) d) ⌝ }
@@ -46,10 +46,7 @@ fn own_ok(pg: &[u8], tab: &mut [u8], d: u32) -> bool
     if !page_check::page_ok(pg, tab) {
         return false;
     }
-    if d < pg[1] as u32 {
-        return false;
-    }
-    page_check::slot_folded(pg, 0)
+    (pg[1] as u32) <= d
 }
 
 // The first page that does not stand, or n; and the first hash of each page before it. tab is as for page_check::page_ok.
@@ -91,7 +88,7 @@ pub fn first_unsound(
         let count = words::get16(pg, 2);
         let mut i = 1;
         'slots: while i < count {
-            if !page_check::slot_ok(pg, i, first, m) {
+            if !page_check::differ_below(first, page_check::hash_slot(pg, i), m) {
                 break 'pages p;
             }
             i += 1;

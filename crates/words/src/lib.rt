@@ -1,5 +1,6 @@
 // Bytes of a slice: little-endian numbers, copies and shifts, zeros, the byte order of codes, and their folding.
 ghost use mathlib.Core.Path.{_≡_};
+ghost use mathlib.Core.Logic.{_↔_};
 ghost use Prim.Native.Nat.{_+_, _*_, _^_, _≤_, _<_, min};
 ghost use lib.ListN.{length};
 ghost use Rattle.ground.specs.Says.{Says};
@@ -7,7 +8,7 @@ ghost use Rattle.ground.specs.Lists.{byte};
 ghost use Rattle.words.specs.Le.{le16, le32};
 ghost use Rattle.words.specs.Codes.{Ordered};
 ghost use Rattle.words.specs.Folds.{foldByte, fold, Folded};
-ghost use Rattle.words.specs.Moves.{Put16, Put32, Wrote, Copied, MovedDown, Cleared, MovedUp};
+ghost use Rattle.words.specs.Moves.{Put16, Put32, Wrote, Copied, MovedDown, Span, Cleared, MovedUp};
 ghost use Rattle.words.specs.Zeros.{Zero, ZeroFrom, ZeroRun};
 
 // A byte as a number of the width that the others have.
@@ -83,16 +84,24 @@ pub fn move_down(s: &mut [u8], at: usize, n: usize)
     }
 }
 
+// x from a up to b.
+pub fn fill(s: &mut [u8], a: usize, b: usize, x: u8)
+    requires { ⌜ (a ≤ b) × (b ≤ length (now s)) ⌝ }
+    ensures { λ _. ⌜ Span (now (s .entry)) a b (λ _. x) (now (s .exit)) ⌝ }
+{
+    let mut i = a;
+    while i < b {
+        s[i] = x;
+        i += 1;
+    }
+}
+
 // Zeros from a up to b.
 pub fn clear(s: &mut [u8], a: usize, b: usize)
     requires { ⌜ (a ≤ b) × (b ≤ length (now s)) ⌝ }
     ensures { λ _. ⌜ Cleared (now (s .entry)) a b (now (s .exit)) ⌝ }
 {
-    let mut i = a;
-    while i < b {
-        s[i] = 0;
-        i += 1;
-    }
+    fill(s, a, b, 0);
 }
 
 // What stands four below goes to a up to b, from the end.
@@ -199,6 +208,26 @@ pub fn compare(a: &[u8], b: &[u8]) -> Order
     Order::Equal
 }
 
+// How far a byte lies above 0x41, round 256: below 26 for 0x41 to 0x5A, and for no other.
+pub fn letter(x: u8) -> u8
+    ensures { λ r. ⌜ (26 ≤ r) ↔ (foldByte x ≡ x) ⌝ }
+{
+    if 0x41 <= x {
+        return x - 0x41;
+    }
+    x + 0xBF
+}
+
+// The smaller of two bytes.
+pub fn lesser(x: u8, y: u8) -> u8
+    ensures { λ r. ⌜ r ≡ min x y ⌝ }
+{
+    if y < x {
+        return y;
+    }
+    x
+}
+
 // What is added to a byte where it is folded: 0x20 to one from 0x41 to 0x5A.
 fn shift(x: u8) -> u8
     ensures { λ r. ⌜ (x + r ≡ foldByte x) × (x + r < 256) ⌝ }
@@ -264,35 +293,16 @@ pub fn fold_code(dst: &mut [u8], src: &[u8])
     fold_eight(dst, src, last);
 }
 
-// Whether a code of n to 2n bytes has no capital: its first n bytes and its last n. No way out before the end, so that it vectorises.
-fn ends_folded(s: &[u8], n: usize) -> bool
-    requires { ⌜ (n ≤ length (now s)) × (length (now s) ≤ n + n) ⌝ }
+// Whether a code has no capital.
+pub fn folded(s: &[u8]) -> bool
     ensures { λ r. ⌜ Says r (Folded (now (s .entry))) ⌝ }
 {
-    let rest = s.len() - n;
-    let mut acc: u8 = 0;
     let mut i = 0;
-    while i < n {
-        acc = acc | (shift(s[i]) | shift(s[rest + i]));
+    while i < s.len() {
+        if letter(s[i]) < 26 {
+            return false;
+        }
         i += 1;
     }
-    acc == 0
-}
-
-// Whether a code has no capital. By a fixed number of turns where it has 8 bytes or more, so that these become one or two looks.
-pub fn folded(s: &[u8]) -> bool
-    requires { ⌜ length (now s) ≤ 64 ⌝ }
-    ensures { λ r. ⌜ Says r (Folded (now (s .entry))) ⌝ }
-{
-    let n = s.len();
-    if n < 8 {
-        return ends_folded(s, n);
-    }
-    if n <= 16 {
-        return ends_folded(s, 8);
-    }
-    if n <= 32 {
-        return ends_folded(s, 16);
-    }
-    ends_folded(s, 32)
+    true
 }

@@ -18,7 +18,6 @@ use Rattle.words.specs.Zeros.{Zero}
 use Rattle.hash.specs.Fnv.{fnv}
 use Rattle.partition.specs.Bits.{top}
 use Rattle.page.specs.Page.{depth, code, count}
-use Rattle.page_check.specs.Shared.{SlotOk}
 use Rattle.page_check.proofs.Prefixes.{near}
 use Rattle.store.specs.Accepted.{Stands}
 use Rattle.partition.specs.declared.Shape.{Shape}
@@ -143,18 +142,18 @@ own : (c : Past) → Own (pg-of (at c)) (deep (at c))
 own c = says-true {P = Own (pg-of (at c)) (deep (at c))} (c .before .before .before .own-ok .result) (not-false _ (c .if4 .left)) (c .before .before .before .own-ok .ensures .0)
 
 -- what the test of slot i says
-slot-said : (c : tie.After-slot-ok Inv-slots μ-slots Inv-pages μ-pages) → let g = pg-of (at (c .before .before .before .before .before .before .before)) in Says (c .slot-ok .result) (Like g (c .before .before .slots .i))
+slot-said : (c : tie.After-differ-below Inv-slots μ-slots Inv-pages μ-pages) → let g = pg-of (at (c .before .before .before .before .before .before .before .before)) in Says (c .differ-below .result) (Like g (c .before .before .before .slots .i))
 slot-said c =
-    let x = c .before .before .before .before .before .before .before in
+    let x = c .before .before .before .before .before .before .before .before in
     let g = pg-of (at x) in
     let k = depth g in
-    let i = c .before .before .slots .i in
-    let one = c .before .before .before .before .hash-slot in
-    let m = c .before .before .before .before .before .limit in
-    let n = near k (omega (arith, own x .deep, start (at x) .pre .begun .deep, few (at x))) (one .result) (fnv (code g i)) in
-    says-same {P = SlotOk g i (one .result) (m .result)} {Q = Like g i} (c .slot-ok .result) (c .slot-ok .ensures)
-    (λ o. record { folded = o .folded; share = ap (top k) (sym (one .ensures)) ∙ n .0 (subst (λ v. bitXor (one .result) (fnv (code g i)) < v) (m .ensures) (o .near)) })
-    (λ l. record { folded = l .folded; near = subst (λ v. bitXor (one .result) (fnv (code g i)) < v) (sym (m .ensures)) (n .1 (ap (top k) (one .ensures) ∙ l .share)) })
+    let one = c .before .before .before .before .before .hash-slot in
+    let two = c .before .hash-slot2 in
+    let m = c .before .before .before .before .before .before .limit in
+    let n = near k (omega (arith, own x .deep, start (at x) .pre .begun .deep, few (at x))) (one .result) (two .result) in
+    says-same {P = bitXor (one .result) (two .result) < m .result} {Q = Like g (c .before .before .before .slots .i)} (c .differ-below .result) (c .differ-below .ensures)
+    (λ h. ap (top k) (sym (one .ensures)) ∙ n .0 (subst (λ v. bitXor (one .result) (two .result) < v) (m .ensures) h) ∙ ap (top k) (two .ensures))
+    (λ h. subst (λ v. bitXor (one .result) (two .result) < v) (sym (m .ensures)) (n .1 (ap (top k) (one .ensures) ∙ h ∙ sym (ap (top k) (two .ensures)))))
 
 -- and what that of the entries says
 name-said : (c : tie.After-named Inv-slots μ-slots Inv-pages μ-pages) → let x = at (c .before .before .before .before .before .before .before) in Says (c .named .result) (Named (dir-of x) (deep x) (depth (pg-of x)) (prefixOf (pg-of x)) (p-of x))
@@ -226,10 +225,13 @@ get16-requires : tie.Need-get16-requires Inv-slots μ-slots Inv-pages μ-pages
 get16-requires c κs = omega (arith, long (at (c .before .before .before)))
 
 slots-holds : tie.Need-slots-holds Inv-slots μ-slots Inv-pages μ-pages
-slots-holds c = (omega arith, omega (arith, own (c .before .before .before .before) .rules .some, c .get16 .ensures .0), λ j h. let e : j ≡ 0 = omega arith in rw e (record { folded = own (c .before .before .before .before) .folded; share = refl }))
+slots-holds c = (omega arith, omega (arith, own (c .before .before .before .before) .rules .some, c .get16 .ensures .0), λ j h. let e : j ≡ 0 = omega arith in rw e refl)
 
-slot-ok-requires : tie.Need-slot-ok-requires Inv-slots μ-slots Inv-pages μ-pages
-slot-ok-requires c κs = (own (c .before .before .before .before .before .before) .rules, omega (arith, c .before .before .get16 .ensures .0))
+hash-slot-requires-2 : tie.Need-hash-slot-requires-2 Inv-slots μ-slots Inv-pages μ-pages
+hash-slot-requires-2 c κs = (own (c .before .before .before .before .before .before) .rules, omega (arith, c .before .before .get16 .ensures .0))
+
+differ-below-requires : tie.Need-differ-below-requires Inv-slots μ-slots Inv-pages μ-pages
+differ-below-requires c κs = search needs
 
 add-i : tie.Need-add-i Inv-slots μ-slots Inv-pages μ-pages
 add-i c = search needs
@@ -239,11 +241,11 @@ slots-less c = search needs
 
 slots-again : tie.Need-slots-again Inv-slots μ-slots Inv-pages μ-pages
 slots-again c =
-    let x = c .before .before .before .before .before .before .before .before in (
+    let x = c .before .before .before .before .before .before .before .before .before in (
       omega arith,
       omega arith,
-      below-more (Like (pg-of (at x))) _ (c .before .before .before .slots .inv .2)
-          (says-true {P = Like (pg-of (at x)) (c .before .before .before .slots .i)} (c .before .slot-ok .result) (not-false _ (c .if5 .left)) (slot-said (c .before))),
+      below-more (Like (pg-of (at x))) _ (c .before .before .before .before .slots .inv .2)
+          (says-true {P = Like (pg-of (at x)) (c .before .before .before .before .slots .i)} (c .before .differ-below .result) (not-false _ (c .if5 .left)) (slot-said (c .before))),
     )
 
 cast-named : tie.Need-cast-named Inv-slots μ-slots Inv-pages μ-pages
@@ -331,18 +333,18 @@ returns-3 c =
     (ends x (λ st. says-false {P = Own (pg-of x) (deep x)} (c .before .before .before .own-ok .result) (not-true _ (c .if4 .taken)) (c .before .before .before .own-ok .ensures .0) (own-of x (c .before .before .before .before .before .if2 .left) st)), turn x .pages .inv .5)
 
 same-length-7 : tie.Need-same-length-7 Inv-slots μ-slots Inv-pages μ-pages
-same-length-7 c = let t = turn (at (c .before .before .before .before .before .before .before .before)) in c .before .before .before .before .before .before .before .before .before .before .before .own-ok .kept .1 .0 ∙ t .pages .inv .0 ∙ sym (t .before .before .before .before .before .before .pre .tab-long)
+same-length-7 c = let t = turn (at (c .before .before .before .before .before .before .before .before .before)) in c .before .before .before .before .before .before .before .before .before .before .before .before .own-ok .kept .1 .0 ∙ t .pages .inv .0 ∙ sym (t .before .before .before .before .before .before .pre .tab-long)
 
 same-length-8 : tie.Need-same-length-8 Inv-slots μ-slots Inv-pages μ-pages
-same-length-8 c = let t = turn (at (c .before .before .before .before .before .before .before .before)) in t .pages .inv .5 .long ∙ sym (t .before .before .before .before .before .before .pre .hashes-long)
+same-length-8 c = let t = turn (at (c .before .before .before .before .before .before .before .before .before)) in t .pages .inv .5 .long ∙ sym (t .before .before .before .before .before .before .pre .hashes-long)
 
 returns-4 : tie.Need-returns-4 Inv-slots μ-slots Inv-pages μ-pages
 returns-4 c =
-    let y = c .before .before .before .before .before .before .before .before in
+    let y = c .before .before .before .before .before .before .before .before .before in
     let x = at y in
-    let i = c .before .before .before .slots .i in (
-      ends x (λ st. says-false {P = Like (pg-of x) i} (c .before .slot-ok .result) (not-true _ (c .if5 .taken)) (slot-said (c .before))
-          (like-of x (y .before .before .before .before .before .if2 .left) st i (omega (arith, c .before .before .before .before .get16 .ensures .0)))),
+    let i = c .before .before .before .before .slots .i in (
+      ends x (λ st. says-false {P = Like (pg-of x) i} (c .before .differ-below .result) (not-true _ (c .if5 .taken)) (slot-said (c .before))
+          (like-of x (y .before .before .before .before .before .if2 .left) st i (omega (arith, c .before .before .before .before .before .get16 .ensures .0)))),
       turn x .pages .inv .5,
     )
 
@@ -386,7 +388,8 @@ first-unsound-spec =
     hash-slot-requires
     get16-requires
     slots-holds
-    slot-ok-requires
+    hash-slot-requires-2
+    differ-below-requires
     add-i
     slots-less
     slots-again

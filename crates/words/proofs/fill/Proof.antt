@@ -1,21 +1,21 @@
--- `words::clear` meets its contract. Assumes nothing.
+-- `words::fill` meets its contract. Assumes nothing.
 use Prim.Native.Nat.{_-_, _≤_}
 use mathlib.Core.Path.{_≡_, refl}
 use native.Mathlib.Omega.{arith}
 use lib.ListN.{length, length-set}
 use Rattle.words.specs.Moves.{Span}
 use Rattle.words.proofs.Bytes.{span-none, span-up}
-use Rattle.words.proofs.clear.Statement.{statement}
-use Rattle.words.proofs.clear.Tie as tie
+use Rattle.words.proofs.fill.Statement.{statement}
+use Rattle.words.proofs.fill.Tie as tie
 
 abbrev Inv-loop : tie.InvT-loop
-Inv-loop s₀ a b i₀ s i = (a ≤ i) × (i ≤ b) × Span s₀ a i (λ x. 0) s × (b ≤ length s) × (length s ≡ length s₀)
+Inv-loop s₀ a b x i₀ s i = (a ≤ i) × (i ≤ b) × Span s₀ a i (λ _. x) s × (b ≤ length s) × (length s ≡ length s₀)
 
 abbrev μ-loop : tie.MeasureT-loop
-μ-loop s₀ a b i₀ s i = b - i
+μ-loop s₀ a b x i₀ s i = b - i
 
 loop-holds : tie.Need-loop-holds Inv-loop μ-loop
-loop-holds c = (omega arith, omega arith, span-none (c .args .s .now) (c .args .a) (λ x. 0), omega arith, refl)
+loop-holds c = (omega arith, omega arith, span-none (c .args .s .now) (c .args .a) (λ _. c .args .x), omega arith, refl)
 
 slice-write-s : tie.Need-slice-write-s Inv-loop μ-loop
 slice-write-s c = omega arith
@@ -29,7 +29,7 @@ loop-less c = omega arith
 loop-again : tie.Need-loop-again Inv-loop μ-loop
 loop-again c =
     let l = c .before .loop in
-    (omega arith, omega arith, span-up 0 (l .inv .2) (omega arith) (omega arith) refl, simp length-set (omega arith), simp length-set (omega arith))
+    (omega arith, omega arith, span-up _ (l .inv .2) (omega arith) (omega arith) refl, simp length-set (omega arith), simp length-set (omega arith))
 
 same-length : tie.Need-same-length Inv-loop μ-loop
 same-length c = omega arith
@@ -40,8 +40,8 @@ returns c =
     let e : l .i ≡ c .before .before .args .b = omega arith in
     rw (← e) (l .inv .2)
 
-pub clear-spec : {M : Type 1} → statement M
-clear-spec =
+pub fill-spec : {M : Type 1} → statement M
+fill-spec =
     tie.close
     (tie.spec
     Inv-loop
