@@ -51,6 +51,7 @@ blank S = record {
   hashes-long = length-replicate {A = ℕ} (S .entries + 2) 0;
   sums-long = length-replicate {A = ℕ} (S .entries + 1) 0;
   tab-long = length-replicate {A = ℕ} (size S) 0;
+  no-dir = zeros (S .entries);
   no-counts = zeros (S .entries + 2);
   no-hashes = zeros (S .entries + 2);
   no-sums = zeros (S .entries + 1);

@@ -70,6 +70,7 @@ pub record Tables (S : Shape) (dir counts hashes sums tab : List ℕ) : Type 0 w
   pub hashes-long : length hashes ≡ S .entries + 2
   pub sums-long : length sums ≡ S .entries + 1
   pub tab-long : length tab ≡ size S
+  pub no-dir : Zero dir
   pub no-counts : Zero counts
   pub no-hashes : Zero hashes
   pub no-sums : Zero sums

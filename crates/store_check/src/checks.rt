@@ -6,8 +6,7 @@ ghost use Rattle.partition.specs.Sizes.{S4096, S16384, shapeOf};
 ghost use Rattle.store.specs.Accepted.{GoodLength};
 ghost use Rattle.store_check.specs.First.{Judged};
 ghost use Rattle.store_check.specs.Begun.{Checkable};
-use super::entry_runs::entries;
-use super::entry_runs::ranges;
+use super::entry_runs::page1_ok;
 use super::entry_runs::tally;
 use super::head::page0_ok;
 use super::pages::first_unsound;
@@ -33,8 +32,7 @@ fn judge(
     }
     let d = words::get32(s, 16) as u32;
     let m = partition::two_to(d);
-    entries(s, z, dir);
-    if !ranges(dir, n as u32, m) {
+    if !page1_ok(s, z, n, m, dir) {
         return 1;
     }
     tally(dir, m, counts);

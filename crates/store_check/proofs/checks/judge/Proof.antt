@@ -15,8 +15,8 @@ use Rattle.store.specs.Pages.{size, pages, dirDepth}
 use Rattle.store.specs.Accepted.{GoodLength, Page0, Page1, Stands, Parted}
 use Rattle.store.proofs.Accepted.Unique.{within}
 use Rattle.store_check.specs.Begun.{AllStand}
-use Rattle.store_check.specs.Directory.{Ranges, Counted}
-use Rattle.store_check.proofs.Heads.{to-page1, of-page1, whole-long, begun, standing}
+use Rattle.store_check.specs.Directory.{Entries, Ranges, Counted}
+use Rattle.store_check.proofs.Heads.{of-page1, whole-long, begun, standing}
 use Rattle.store_check.proofs.Naming.{room}
 use Rattle.store_check.proofs.Parting.{hashed-all, undivided, level}
 use Rattle.store_check.proofs.Stops.{none-bad, bad-0, bad-1, bad-up, bad-again, bad-last, all-sound}
@@ -71,9 +71,9 @@ module _ (c : tie.After-two-to) where
   power = c .two-to .ensures ∙ ap (λ k. 2 ^ k) deep-is
 
 -- page 1's test, with what it was made of
-module _ (c : tie.After-ranges) where
+module _ (c : tie.After-page1-ok) where
   abbrev at : tie.After-two-to
-  at = c .before .before .before .before .before .before
+  at = c .before .before
 
   abbrev top : tie.After-struct-known
   top = top-of at
@@ -82,27 +82,24 @@ module _ (c : tie.After-ranges) where
   many = at .two-to .result
 
   abbrev dir : List ℕ
-  dir = c .before .before .before .before .entries .last .1 .1 .0
-
-  to-1 : Ranges dir (pages (S top) (store top)) many → Page1 (S top) (store top)
-  to-1 = to-page1 (S top) (store top) dir (pages (S top) (store top)) many (c .before .before .before .before .entries .ensures) refl (good top .least) (power at)
-
-  of-1 : Page1 (S top) (store top) → Ranges dir (pages (S top) (store top)) many
-  of-1 = of-page1 (S top) (store top) dir (pages (S top) (store top)) many (c .before .before .before .before .entries .ensures) refl (good top .least) (power at)
+  dir = c .page1-ok .last .1 .1 .1 .1 .0
 
   zero : Page0 (S top) (store top)
   zero = zeroth (at .before .before)
 
 -- past page 1
 module _ (c : tie.Else2) where
-  abbrev test : tie.After-ranges
-  test = c .before
-
-  ranged : Ranges (dir test) (pages (S (top test)) (store (top test))) (many test)
-  ranged = says-true {P = Ranges (dir test) (pages (S (top test)) (store (top test))) (many test)} (test .ranges .result) (not-false _ (c .if2 .left)) (test .ranges .ensures)
+  abbrev test : tie.After-page1-ok
+  test = c .before .before .before
 
   first : Page1 (S (top test)) (store (top test))
-  first = to-1 test ranged
+  first = says-true {P = Page1 (S (top test)) (store (top test))} (test .page1-ok .result) (not-false _ (c .if2 .left)) (test .page1-ok .ensures .0)
+
+  decoded : Entries (S (top test)) (store (top test)) (dir test)
+  decoded = test .page1-ok .ensures .1 (not-false _ (c .if2 .left))
+
+  ranged : Ranges (dir test) (pages (S (top test)) (store (top test))) (many test)
+  ranged = of-page1 (S (top test)) (store (top test)) (dir test) (pages (S (top test)) (store (top test))) (many test) decoded refl (good (top test) .least) (power (at test)) first
 
 abbrev past-1 : tie.After-first-unsound → tie.Else2
 past-1 c = c .before .before .before .before .before .before .before .before .before .before
@@ -154,32 +151,31 @@ cast-d c = search needs
 two-to-requires : tie.Need-two-to-requires
 two-to-requires c κs = let b = head (c .before) in omega (arith, c .get32 .ensures .0, zeroth (c .before) .depth, twelve (S b) (sized b))
 
-entries-requires : tie.Need-entries-requires
-entries-requires c κs = let b = top-of (c .before) in record { sized = sized b; long = omega (arith, within (S b) (store b) 1 (omega (arith, three b))); room = start b .pre .tables .dir-long }
-
-cast-ranges : tie.Need-cast-ranges
-cast-ranges c = let b = top-of (c .before .before .before .before .before) in record { fits = omega (arith, good b .most, few b) }
-
-ranges-requires : tie.Need-ranges-requires
-ranges-requires c κs =
-    let b = top-of (c .before .before .before .before .before) in
-    (omega (arith, fits (c .before .before .before .before .before), c .before .before .before .entries .ensures .long), omega (arith, good b .least))
+page1-ok-requires : tie.Need-page1-ok-requires
+page1-ok-requires c κs =
+    let b = top-of (c .before) in
+    record {
+      room = record { sized = sized b; long = omega (arith, within (S b) (store b) 1 (omega (arith, three b))); few = fits (c .before); room = start b .pre .tables .dir-long; none = start b .pre .tables .no-dir };
+      number = refl;
+      least = good b .least;
+      most = good b .most;
+      power = power (c .before);
+    }
 
 same-length : tie.Need-same-length
 same-length c = search needs
 
 returns-2 : tie.Need-returns-2
 returns-2 c =
-    let x = c .before in
-    bad-1 (S (top x)) fnv (store (top x)) (good (top x)) (zero x)
-    (λ r. says-false {P = Ranges (dir x) (pages (S (top x)) (store (top x))) (many x)} (x .ranges .result) (not-true _ (c .if2 .taken)) (x .ranges .ensures) (of-1 x r))
+    let x = c .before .before .before in
+    bad-1 (S (top x)) fnv (store (top x)) (good (top x)) (zero x) (says-false {P = Page1 (S (top x)) (store (top x))} (x .page1-ok .result) (not-true _ (c .if2 .taken)) (x .page1-ok .ensures .0))
 
 tally-requires : tie.Need-tally-requires
 tally-requires c κs =
     let e = c .before .before in
     let x = test e in
     let b = top x in
-    let l = x .before .before .before .before .entries .ensures .long in
+    let l = decoded e .long in
     let m = fits (at x) in
     record {
       inside = omega (arith, m, l);
@@ -198,7 +194,7 @@ first-unsound-requires c κs =
     let x = test e in
     let b = top x in
     record {
-      begun = begun (S b) (sized b) (store b) (good b) (zero x) (dir x) (deep (at x)) (deep-is (at x)) (x .before .before .before .before .entries .ensures) (ranged e .below) (λ i l. ranged e .beyond i (omega (arith, at x .two-to .ensures)));
+      begun = begun (S b) (sized b) (store b) (good b) (zero x) (dir x) (deep (at x)) (deep-is (at x)) (decoded e) (ranged e .below) (λ i l. ranged e .beyond i (omega (arith, at x .two-to .ensures)));
       counted = until (dir x) _ _ _ _ _ (at x .two-to .ensures) (start b .pre .tables .counts-long) (y .tally .ensures);
       blocks = start b .pre .blocks;
       tab-long = start b .pre .tables .tab-long;
@@ -343,9 +339,7 @@ judge-spec =
     get32-requires
     cast-d
     two-to-requires
-    entries-requires
-    cast-ranges
-    ranges-requires
+    page1-ok-requires
     same-length
     returns-2
     tally-requires
