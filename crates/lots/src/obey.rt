@@ -138,7 +138,7 @@ fn list_rows(s: &[u8], z: Shape, n: usize) -> Outcome
     let mut i = 0;
     while i < n {
         match query::next_row(s, z, c) {
-            Step::Given(p, slot, next) => {
+            Step::Handed(p, slot, next) => {
                 if !list_row(s, z, p, slot) {
                     return Outcome::Stopped;
                 }

@@ -181,7 +181,7 @@ pub record NewEntry (S : Shape) (h : List ℕ → ℕ) (d k v n : ℕ) (t : List
 pub record EntriesWritten (S : Shape) (h : List ℕ → ℕ) (s : List ℕ) (d k v at : ℕ) (t : List ℕ) (p : ℕ) : Type 0 where
   pub each : (q : ℕ) → 2 ≤ q → q < pages S s → (page S t q ≡ page S s q) ⊎ NewPage S h s d k v at t q
   pub entries : (i : ℕ) → i < S .entries → (entryAt S t i ≡ entryAt S s i) ⊎ NewEntry S h d k v (pages S s) t i
-  pub first : 0 < at → p ≡ 0 → NewPage S h s d k v at t at
+  pub at-page : 0 < at → p ≡ 0 → NewPage S h s d k v at t at
   pub left : 0 < p → (t ≡ s) × (p ≡ at)
 
 -- a bucket's prefix, a directory of depth d, and p can be an entry

@@ -16,7 +16,7 @@ use Rattle.query.specs.Spots.{Listed}
 use Rattle.query.specs.declared.Cursor.{Cursor}
 use Rattle.query.specs.declared.Spot.the-variants.{Here, Nowhere}
 use Rattle.query.specs.declared.Step.{Step}
-use Rattle.query.specs.declared.Step.the-variants.{Given, Done}
+use Rattle.query.specs.declared.Step.the-variants.{Handed, Done}
 
 -- the buckets that begin at entry i or later
 unfoldable pub later : ℕ → ℕ → List Prefix → List Prefix
@@ -44,5 +44,5 @@ pub record Steppable (S : Shape) (s : List ℕ) (c : Cursor) : Type 0 where
 
 -- a step from before place n: the row at place n and a cursor before the next, or there is no such row
 abbrev pub Stepped : Shape → List ℕ → ℕ → Step → Type 0
-Stepped S s n (Given p i c) = Listed S s n (Here p i) × At S s (n + 1) c
+Stepped S s n (Handed p i c) = Listed S s n (Here p i) × At S s (n + 1) c
 Stepped S s n Done = Listed S s n Nowhere

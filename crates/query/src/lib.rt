@@ -42,7 +42,7 @@ pub struct Cursor {
 
 // A row's page and slot with the cursor behind it, or no row is left.
 pub enum Step {
-    Given(usize, usize, Cursor),
+    Handed(usize, usize, Cursor),
     Done,
 }
 

@@ -106,7 +106,7 @@ pub fn next_row(s: &[u8], z: Shape, c: Cursor) -> Step
             let k = words::get16(s, a + 2);
             if left < k {
                 let next = left + 1;
-                return Step::Given(
+                return Step::Handed(
                     p,
                     left,
                     Cursor {
@@ -128,7 +128,7 @@ pub fn nth_row(s: &[u8], z: Shape, n: usize) -> Spot
     ensures { λ r. ⌜ Listed z (now (s .entry)) n r ⌝ }
 {
     match next_row(s, z, cursor_at(s, z, n)) {
-        Step::Given(p, i, _) => Spot::Here(p, i),
+        Step::Handed(p, i, _) => Spot::Here(p, i),
         Step::Done => Spot::Nowhere,
     }
 }

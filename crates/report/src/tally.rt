@@ -88,7 +88,7 @@ fn next_place(s: &[u8], z: Shape, c: Cursor) -> Next
     ensures { λ r. ⌜ ((n : ℕ) → At z (now (s .entry)) n c → Follows z (now (s .entry)) n r) ⌝ }
 {
     match query::next_row(s, z, c) {
-        Step::Given(p, i, next) => {
+        Step::Handed(p, i, next) => {
             let size = 8 + z.capacity;
             let a = p * size;
             let e = a + size;

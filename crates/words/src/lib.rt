@@ -5,10 +5,10 @@ ghost use Prim.Native.Nat.{_+_, _*_, _^_, _≤_, _<_, min};
 ghost use lib.ListN.{length};
 ghost use Rattle.ground.specs.Says.{Says};
 ghost use Rattle.ground.specs.Lists.{byte};
-ghost use Rattle.words.specs.Le.{le16, le32};
+ghost use Rattle.words.specs.Le.{le16, le32, Nests};
 ghost use Rattle.words.specs.Codes.{Ordered};
 ghost use Rattle.words.specs.Folds.{foldByte, fold, Folded};
-ghost use Rattle.words.specs.Moves.{Put16, Put32, Wrote, Copied, MovedDown, Span, Cleared, MovedUp};
+ghost use Rattle.words.specs.Moves.{Put16, Put32, Wrote, Copied, MovedDown, Span, Cleared, MovableUp, MovedUp};
 ghost use Rattle.words.specs.Zeros.{Zero, ZeroFrom, ZeroRun};
 
 // A byte as a number of the width that the others have.
@@ -20,7 +20,7 @@ pub fn wide(x: u8) -> usize
 
 // q above the k bits of low. Bytes so nested become one load.
 pub fn on(q: usize, k: u32, low: usize) -> usize
-    requires { ⌜ (q < 256) × (k ≤ 56) × (low < 2 ^ k) ⌝ }
+    requires { ⌜ Nests q k low ⌝ }
     ensures { λ r. ⌜ r ≡ q * 2 ^ k + low ⌝ }
 {
     q << k | low
@@ -106,7 +106,7 @@ pub fn clear(s: &mut [u8], a: usize, b: usize)
 
 // What stands four below goes to a up to b, from the end.
 pub fn move_up(s: &mut [u8], a: usize, b: usize)
-    requires { ⌜ (4 ≤ a) × (a ≤ b) × (b ≤ length (now s)) ⌝ }
+    requires { ⌜ MovableUp (now s) a b ⌝ }
     ensures { λ _. ⌜ MovedUp (now (s .entry)) a b (now (s .exit)) ⌝ }
 {
     let mut i = b;

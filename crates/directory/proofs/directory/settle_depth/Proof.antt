@@ -1,6 +1,6 @@
 -- `directory::settle_depth` meets its contract. Assumes nothing.
 use borrow.Author.Needs.{needs}
-use mathlib.Core.Path.{_≡_, sym, subst, _∙_}
+use mathlib.Core.Path.{_≡_, sym, subst}
 use native.Mathlib.Omega.{arith}
 use denote.Ref.{now}
 use Rattle.hash.specs.Fnv.{fnv}
