@@ -1,3 +1,4 @@
 pub mod Known
 pub mod Obeys
+pub mod Reports
 pub mod Sessions
