@@ -3,3 +3,4 @@ pub mod Inspecting
 pub mod Leaving
 pub mod OneCommand
 pub mod Reporting
+pub mod Running
