@@ -38,7 +38,7 @@ use Rattle.lots.specs.declared.Session.{Session}
 use Rattle.lots.specs.Known.{Known}
 use Rattle.lots.specs.Obeys.{Outcomes, Passes, Untouched, Does, Obeys}
 use Rattle.store.proofs.Demands.Unchecked.{check-says}
-use Rattle.lots.specs.Sessions.{Leaves, After, Alike, SessionHolds, Kept, Ran}
+use Rattle.lots.specs.Sessions.{Leaves, After, Alike, SessionHolds, Kept}
 
 -- a check that is no refusal accepts
 pub checked-accepted : (s : List ℕ) (o : Out) → Answers (checkTable (shapeOf s) fnv s) o → ok o ≡ true → Accepted (shapeOf s) fnv s
@@ -228,7 +228,3 @@ taken-in a f h = record {
   long = λ q. a .len;
   holds = holds-as (a .len) (a .known) h;
 }
-
--- the whole input, from a session that begins with len bytes
-pub ran : {z r : Session} {s t : List ℕ} {len : ℕ} → z .len ≡ len → Kept z s r t → Ran len s r t
-ran e k = record { same = k .same; long = λ q. k .long q ∙ e; holds = k .holds }

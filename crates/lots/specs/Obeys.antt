@@ -16,7 +16,10 @@ use Rattle.partition.specs.Sizes.{size, shapeFor, shapeOf}
 use Rattle.store.specs.Demands.{Call, check, count, lookup, put, remove, rowAt, Made, ok}
 use Rattle.store.specs.Pages.{pages, page, read, rowsOn, rowsHeld}
 use Rattle.store.specs.Tables.{Out, refusedAt, meaning, giving, PageKeeps, inspectTable}
+use Rattle.report.specs.declared.Sums.{Sums}
+use Rattle.report.specs.Report.{summed}
 use Rattle.lots.specs.declared.Outcome.{Outcome}
+use Rattle.lots.specs.Reports.{Reports}
 use Rattle.lots.specs.declared.Outcome.the-variants.{Silent, Unknown as NotKnown, Told, Changed, Listed, Format as Formats, Stopped}
 
 -- a line that only reads
@@ -136,6 +139,11 @@ pub record InspectAsked (p : ℕ) (s : List ℕ) (o : Outcome) : Type 0 where
   pub there : HasPage s p → PageAsked (page (shapeOf s) s p) o
   pub absent : (HasPage s p → ⊥) → Passes o
 
+-- a report: where n rows are told, they were laid out and summed over the store's listing
+pub record ReportAsked (s : List ℕ) (o : Outcome) : Type 0 where
+  pub reads : Untouched o
+  pub rows : (n : ℕ) → o ≡ Listed n → (fl : List ℕ) × ((x : Sums) × Reports s fl n (summed x))
+
 -- a command on the store s; its code begins the buffer k
 abbrev pub Does : List ℕ → Command → List ℕ → Outcome → List ℕ → Type 0
 Does k (Put n p m) s o t = Written (put (take n k) p m) s o t
@@ -149,7 +157,7 @@ Does k (Row n) s o t = RowAsked n s o × (t ≡ s)
 Does k Listing s o t = ListAsked s o × (t ≡ s)
 Does k Check s o t = Asked check s o × (t ≡ s)
 Does k (Inspect n) s o t = InspectAsked n s o × (t ≡ s)
-Does k Report s o t = Untouched o × (t ≡ s)
+Does k Report s o t = ReportAsked s o × (t ≡ s)
 
 -- the line is a command, and that is done
 pub record Obeys (line s : List ℕ) (o : Outcome) (t : List ℕ) : Type 0 where
