@@ -13,7 +13,7 @@ use Rattle.words.specs.Moves.{Span}
 use Rattle.words.specs.Zeros.{Zero}
 use Rattle.words.proofs.Zeros.{or-zero, zero-or}
 use Rattle.page.specs.Page.{In, off, len}
-use Rattle.page_check.specs.Table.{entries, Table, Inside, Laid}
+use Rattle.page_check.specs.Table.{entries, Distinct, Table, Inside, Laid}
 use Rattle.page_check.specs.Marks.{OfPlace, Marked}
 use Rattle.page_check.proofs.Table.{entries-less, entries-none, none-entries, inside-of}
 
@@ -51,9 +51,64 @@ pub record Gap (g x e : ℕ) : Type 0 where
   pub met : g < x → e ≡ x
   pub none : 8 < x → g ≡ x → e < x
 
+-- at byte x, whether or not two records start at one byte: of the table t the entries m are left, met records were met, and u is t from x on
+pub record Passed (t : List ℕ) (f : ℕ) (m : List ℕ) (x met : ℕ) (u : List ℕ) : Type 0 where
+  pub from : 8 ≤ x
+  pub to : x ≤ f
+  pub later : (k : ℕ) → x ≤ k → byte m k ≡ byte t k
+  pub left : entries m + met ≡ entries t
+  pub ahead : (k : ℕ) → x ≤ k → byte u k ≡ byte t k
+  pub inside : Inside f u
+
 module _ (p t : List ℕ) (n f : ℕ) (b : Table p n f t) where
+  pub passed-none : 8 ≤ f → Passed t f t 8 0 t
+  passed-none h = record { from = omega arith; to = h; later = λ k _. refl; left = omega arith; ahead = λ k _. refl; inside = inside-of p t n f b }
+
+  module _ (m u : List ℕ) (x met : ℕ) (w : Passed t f m x met u) (l : x < f) where
+    pub passed-hole : Passed t f m (x + 1) met u
+    passed-hole = record {
+      from = omega (arith, w .from);
+      to = omega arith;
+      later = λ k h. w .later k (omega arith);
+      left = w .left;
+      ahead = λ k h. w .ahead k (omega arith);
+      inside = w .inside;
+    }
+
+    -- the record that starts here is 9 bytes long or more, and ends before f
+    pub ends-within : 1 ≤ byte u x → (9 ≤ byte u x) × (x + byte u x ≤ f)
+    ends-within s = ⊎-elim
+        (λ z. absurd (omega (arith, w .ahead x (omega arith))))
+        (λ r. (omega (arith, w .ahead x (omega arith), r .3, b .short (r .0) (r .1)), omega (arith, w .ahead x (omega arith), r .2, r .3, b .inside (r .0) (r .1))))
+        (b .only x)
+
+    pub passed-record : (v : List ℕ) → 1 ≤ byte u x → Span u x (x + 8) (λ _. 255) v → Passed t f (set m x 0) (x + byte u x) (met + 1) v
+    passed-record v s c =
+        let r = ends-within s in
+        record {
+          from = omega (arith, w .from);
+          to = r .1;
+          later = λ k h. getD-set-other m x k 0 0 (λ y. omega (arith, y, r .0)) ∙ w .later k (omega arith);
+          left = omega (arith, w .left, entries-less m x (omega (arith, w .later x (omega arith), w .ahead x (omega arith))));
+          ahead = λ k h. c .above k (omega (arith, r .0)) ∙ w .ahead k (omega arith);
+          inside = record {
+            below = λ k h. c .below k (omega (arith, w .from)) ∙ w .inside .below k h;
+            above = λ k h. c .above k (omega (arith, r .0, r .1)) ∙ w .inside .above k h;
+          };
+        }
+
+-- a table where no two records start at one byte
+pub record Exact (p : List ℕ) (n f : ℕ) (t : List ℕ) : Type 0 where
+  pub table : Table p n f t
+  pub all : entries t ≡ n
+
+-- records that lie apart start at bytes of their own
+pub distinct-of : (p : List ℕ) (n f : ℕ) (t : List ℕ) → Table p n f t → Laid p n f → Distinct p n
+distinct-of p n f t b d i j h l e = d .apart i j (off p i) h l (record { from = omega arith; to = omega (arith, b .short i h) }) (record { from = omega (arith, e); to = omega (arith, e, b .short j l) })
+
+module _ (p t : List ℕ) (n f : ℕ) (b : Exact p n f t) where
   fresh : (i : ℕ) → Met p n t i → ⊥
-  fresh i u = omega (arith, b .at i (u .0), b .short i (u .0), u .1)
+  fresh i u = omega (arith, b .table .at (b .all) i (u .0), b .table .short i (u .0), u .1)
 
   pub marking-none : Marking p n t 8 t
   marking-none = record { ahead = λ k _. refl; places = λ i k u. absurd (fresh i u); only = λ k. inl refl }
@@ -64,13 +119,13 @@ module _ (p t : List ℕ) (n f : ℕ) (b : Table p n f t) where
     to = h;
     later = λ k _. refl;
     never = λ k z. z;
-    left = omega (arith, b .number);
+    left = omega (arith, b .all);
     apart = λ i j k u. absurd (fresh i u);
     done = λ i u. absurd (fresh i u);
     till = omega arith;
     ends = inl refl;
     zeros = λ _ k l g. absurd (omega arith);
-    spent = λ _ k l. inside-of p t n f b .below k l;
+    spent = λ _ k l. inside-of p t n f (b .table) .below k l;
     clear = λ _. refl;
   }
 
@@ -91,7 +146,7 @@ module _ (p t : List ℕ) (n f : ℕ) (b : Table p n f t) where
       spent = λ a k h. ⊎-elim (λ s. rw s z) (λ s. w .spent a k (omega (arith, s))) (same k x);
       clear = λ d. zero-or acc (byte p x) (w .clear d) (d .clear x (w .from) l (λ i h y. ⊎-elim
           (λ s. omega (arith, y .to, w .till, w .done i (h, w .spent (d .apart) (off p i) s)))
-          (λ s. let o : off p i ≡ x = omega (arith, y .from) in omega (arith, w .later x (omega arith), b .at i h, ap (byte t) o, b .short i h))
+          (λ s. let o : off p i ≡ x = omega (arith, y .from) in omega (arith, w .later x (omega arith), b .table .at (b .all) i h, ap (byte t) o, b .table .short i h))
           (side (off p i) x)));
     }
 
@@ -99,8 +154,8 @@ module _ (p t : List ℕ) (n f : ℕ) (b : Table p n f t) where
     pub here : 1 ≤ byte m x → (i : ℕ) × (i < n) × (off p i ≡ x) × (byte m x ≡ len p i)
     here s = ⊎-elim
         (λ z. absurd (omega (arith, w .later x (omega arith))))
-        (λ u. (u .0, u .1, u .2, w .later x (omega arith) ∙ sym (ap (byte t) (u .2)) ∙ b .at (u .0) (u .1)))
-        (b .only x)
+        (λ u. (u .0, u .1, u .2, w .later x (omega arith) ∙ u .3))
+        (b .table .only x)
 
     pub marking-hole : (u : List ℕ) → Marking p n m x u → Marking p n m (x + 1) u
     marking-hole u a = record { ahead = λ k h. a .ahead k (omega arith); places = a .places; only = a .only }
@@ -126,7 +181,7 @@ module _ (p t : List ℕ) (n f : ℕ) (b : Table p n f t) where
         r = here s
 
         long : 9 ≤ byte m x
-        long = omega (arith, r .3, b .short (r .0) (r .1))
+        long = omega (arith, r .3, b .table .short (r .0) (r .1))
 
         kept : (k : ℕ) → (k ≡ x → ⊥) → byte (set m x 0) k ≡ byte m k
         kept k y = getD-set-other m x k 0 0 y
@@ -134,7 +189,7 @@ module _ (p t : List ℕ) (n f : ℕ) (b : Table p n f t) where
     pub walked-record : (q : List ℕ) → 1 ≤ byte m x → q ≡ set m x 0 → Walked p n f t q (x + byte m x) (x + byte m x) (met + 1) acc
     walked-record q s g = record {
       from = omega (arith, w .from);
-      to = omega (arith, b .inside i₀ (r .1), r .2, r .3);
+      to = omega (arith, b .table .inside i₀ (r .1), r .2, r .3);
       later = λ k h. kept k (λ y. omega arith) ∙ w .later k (omega arith);
       never = λ k z. ⊎-elim (λ y. rw y gone) (λ y. kept k y ∙ w .never k z) (same k x);
       left = rw g (omega (arith, entries-less m x s, w .left));
@@ -150,8 +205,8 @@ module _ (p t : List ℕ) (n f : ℕ) (b : Table p n f t) where
           (λ y. rw y gone)
           (λ y. kept k y ∙ ⊎-elim (λ c. w .spent a k c) (λ c. w .later k c ∙ ⊎-elim
           (λ z. z)
-          (λ u. absurd (y (sym (u .2) ∙ ap (off p) (a (u .0) i₀ k (u .1) (r .1) (record { from = omega (arith, u .2); to = omega (arith, u .2, b .short (u .0) (u .1)) }) (within k c h)) ∙ r .2)))
-          (b .only k)) (side k x))
+          (λ u. absurd (y (sym (u .2) ∙ ap (off p) (a (u .0) i₀ k (u .1) (r .1) (record { from = omega (arith, u .2); to = omega (arith, u .2, b .table .short (u .0) (u .1)) }) (within k c h)) ∙ r .2)))
+          (b .table .only k)) (side k x))
           (same k x);
       clear = w .clear;
     }
@@ -170,7 +225,7 @@ module _ (p t : List ℕ) (n f : ℕ) (b : Table p n f t) where
 
         -- a record that is met is this one or was met before
         before : (i : ℕ) → Met p n q i → (i ≡ i₀) ⊎ Met p n m i
-        before i u = ⊎-elim (λ y. inl (b .starts i i₀ (u .0) (r .1) (y ∙ sym (r .2)))) (λ y. inr (u .0, sym (kept (off p i) y) ∙ u .1)) (same (off p i) x)
+        before i u = ⊎-elim (λ y. inl (b .table .starts (b .all) i i₀ (u .0) (r .1) (y ∙ sym (r .2)))) (λ y. inr (u .0, sym (kept (off p i) y) ∙ u .1)) (same (off p i) x)
 
         past : (i k : ℕ) → Met p n m i → In p i k → In p i₀ k → ⊥
         past i k u y z = omega (arith, w .done i u, w .till, y .to, z .from, r .2, r .3)
@@ -180,13 +235,7 @@ module _ (p t : List ℕ) (n f : ℕ) (b : Table p n f t) where
 
   module _ (m : List ℕ) (e met acc : ℕ) (w : Walked p n f t m f e met acc) where
     inside-still : Inside f m
-    inside-still = record { below = λ k h. w .never k (inside-of p t n f b .below k h); above = λ k h. w .never k (inside-of p t n f b .above k h) }
-
-    pub inside-marked : (u : List ℕ) → Marking p n m f u → Inside f u
-    inside-marked u a = record {
-      below = λ k h. ⊎-elim (λ y. y ∙ inside-still .below k h) (λ z. absurd (omega (arith, z .2 .from, b .after (z .0) (z .1)))) (a .only k);
-      above = λ k h. ⊎-elim (λ y. y ∙ inside-still .above k h) (λ z. absurd (omega (arith, z .2 .to, b .inside (z .0) (z .1), b .short (z .0) (z .1)))) (a .only k);
-    }
+    inside-still = record { below = λ k h. w .never k (inside-of p t n f (b .table) .below k h); above = λ k h. w .never k (inside-of p t n f (b .table) .above k h) }
 
     -- all met
     emptied : met ≡ n → Zero m

@@ -69,8 +69,8 @@ module _ (c : tie.After-get32 Inv-loop μ-loop) where
   word-of : c .get32 .result ≡ word p i-of
   word-of = word-is p i-of (c .get32 .result) (c .get32 .ensures .0 ∙ ap (le32 p) (omega (arith, here)))
 
-  follows : SlotsOk p → NextOk p (at .loop .tab) f-of i-of (c .get32 .result)
-  follows h = subst (λ w. NextOk p (at .loop .tab) f-of i-of w) (sym word-of) (next-of p (at .loop .tab) f-of i-of swept (start .pre .front) (omega (arith, some, start .pre .rows)) h)
+  follows : SlotsOk p → NextOk p f-of i-of (c .get32 .result)
+  follows h = subst (λ w. NextOk p f-of i-of w) (sym word-of) (next-of p (at .loop .tab) f-of i-of swept (start .pre .front) (omega (arith, some, start .pre .rows)) h)
 
 -- its own rules
 sound : (c : tie.Else1 Inv-loop μ-loop) → let g = c .before .before in WordOk (p g) (f-of g) (g .get32 .result)
@@ -145,11 +145,11 @@ returns-2 c =
     )
 
 -- the slot that was just taken
-next : (c : tie.Else2 Inv-loop μ-loop) → let g = c .before .before .before .before .before .before .before .before in NextOk (p g) (at g .loop .tab) (f-of g) (i-of g) (g .get32 .result)
+next : (c : tie.Else2 Inv-loop μ-loop) → let g = c .before .before .before .before .before .before .before .before in NextOk (p g) (f-of g) (i-of g) (g .get32 .result)
 next c =
     let g = c .before .before .before .before .before .before .before .before in
-    subst (λ i. NextOk (p g) (at g .loop .tab) (f-of g) i (g .get32 .result)) (number g)
-    (says-true {P = NextOk (p g) (at g .loop .tab) (f-of g) (slotOf (p g) (k-of g)) (g .get32 .result)} (c .before .before .before .next-ok .result) (not-false _ (c .if2 .left)) (c .before .before .before .next-ok .ensures .0))
+    subst (λ i. NextOk (p g) (f-of g) i (g .get32 .result)) (number g)
+    (says-true {P = NextOk (p g) (f-of g) (slotOf (p g) (k-of g)) (g .get32 .result)} (c .before .before .before .next-ok .result) (not-false _ (c .if2 .left)) (c .before .before .before .next-ok .ensures .0))
 
 add-lens : tie.Need-add-lens Inv-loop μ-loop
 add-lens c =
@@ -173,7 +173,7 @@ loop-again c =
       omega (arith, needs-more (p g) (i-of g) (g .get32 .result) w, l .inv .4),
       omega (arith, x .sound .long, l .inv .5),
       swept-more (p g) (l .tab) (f-of g) (i-of g) (swept g) _ (omega (arith, room g, l .inv .3, start g .pre .same))
-          (subst (λ v. NextOk (p g) (l .tab) (f-of g) (i-of g) v) w x) (n .ensures .1 .0 (not-false _ (c .if2 .left)) ∙ ap (λ v. set (l .tab) (offOf v) (lenOf v)) w),
+          (subst (λ v. NextOk (p g) (f-of g) (i-of g) v) w x) (n .ensures .1 .0 (not-false _ (c .if2 .left)) ∙ ap (λ v. set (l .tab) (offOf v) (lenOf v)) w),
       led-more (p g) (i-of g) (g .get32 .result) (f-of g) _ w (x .sound) (room g) (c .before .before .before .before .before .lead-of .ensures),
     )
 
