@@ -5,6 +5,7 @@ pub mod Upto
 pub mod Ranks
 pub mod Halves
 pub mod Runs
+pub mod Counts
 pub mod Rises
 pub mod Few
 pub mod Tells

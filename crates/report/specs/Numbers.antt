@@ -22,7 +22,7 @@ use Rattle.query.specs.Cursors.{At}
 use Rattle.report.specs.declared.Next.{Next}
 use Rattle.report.specs.declared.Next.the-variants.{Placed, End}
 use Rattle.report.specs.declared.SheetRow.{SheetRow}
-use Rattle.report.specs.declared.Left.{Left}
+use Rattle.report.specs.declared.Counted.{Counted}
 use Rattle.report.specs.declared.Sums.{Sums}
 use Rattle.report.specs.declared.Ending.{Ending}
 use Rattle.report.specs.declared.Ending.the-variants.{Missing, Whole}
@@ -116,12 +116,7 @@ Follows S s n End = getElem? (listing S fnv (rowsHeld S s)) n ≡ none
 abbrev pub rankOn : Row → ℕ
 rankOn r = rank (place (r .place))
 
--- the tally of the rows rs from the marks cs ends with the marks cs′: at the first place that is not there, or whole
-abbrev pub Ends : List ℕ → List ℕ → List Row → List ℕ → Ending → List ℕ → Type 0
-Ends ps ls rs cs (Missing p) cs′ = PlaceAt rs (tallied ps ls (map rankOn rs) 0 0 cs .0) p
-Ends ps ls rs cs (Whole k s) cs′ = (k ≡ length rs) × ((k, (s, cs′)) ≡ tallied ps ls (map rankOn rs) 0 0 cs)
-
--- ---- the closing pass
+-- ---- what a tally counts
 
 abbrev pub ifSo : Bool → ℕ → ℕ
 ifSo t l = cond t l 0
@@ -141,22 +136,43 @@ abbrev pub remarked : List ℕ → ℕ
 remarked [] = 0
 remarked (c ∷ cs) = ifSo (leb 2 c) 1 + remarked cs
 
--- one sheet row more leaves each sum a word
-pub record RoomFor (a : Left) (l : ℕ) : Type 0 where
-  pub hidden : a .hidden + 1 < 2 ^ 64
-  pub sum : a .sum + l < 2 ^ 64
-  pub doubled : a .doubled + 1 < 2 ^ 64
+-- the sum of all amounts
+abbrev pub sumOf : List ℕ → ℕ
+sumOf [] = 0
+sumOf (l ∷ ls) = l + sumOf ls
 
--- a mark for each amount, and all the sums are words
-pub record Closable (ls cs : List ℕ) : Type 0 where
-  pub paired : length cs ≡ length ls
-  pub amounts : AtMost 2000000000000 ls
-  pub few : length ls ≤ 4000000
+-- one code more leaves each number a word
+pub record RoomFor (t : Counted) (l : ℕ) : Type 0 where
+  pub codes : t .codes + 1 < 2 ^ 64
+  pub sum : t .sum + l < 2 ^ 64
+  pub named : t .named + 1 < 2 ^ 64
+  pub once : t .once + l < 2 ^ 64
+  pub doubled : t .doubled + 1 < 2 ^ 64
 
-pub record ClosedWith (ls cs : List ℕ) (l : Left) : Type 0 where
-  pub rows : l .hidden ≡ unmarked cs
-  pub sum : l .sum ≡ unmarkedSum ls cs
-  pub twice : l .doubled ≡ remarked cs
+-- t with one code more, of a row with the amount l and the mark m before
+pub record OneMore (t : Counted) (l m : ℕ) (r : Counted) : Type 0 where
+  pub codes : r .codes ≡ t .codes + 1
+  pub sum : r .sum ≡ t .sum + l
+  pub named : r .named ≡ t .named + ifSo (eqb m 0) 1
+  pub once : r .once ≡ t .once + ifSo (eqb m 0) l
+  pub doubled : r .doubled ≡ t .doubled + ifSo (eqb m 1) 1
+
+-- t has what is marked in cs′ and not in cs, and what is marked more than once
+pub record MarkedBy (ls cs cs′ : List ℕ) (t : Counted) : Type 0 where
+  pub named : unmarked cs′ + t .named ≡ unmarked cs
+  pub once : unmarkedSum ls cs′ + t .once ≡ unmarkedSum ls cs
+  pub doubled : remarked cs′ ≡ remarked cs + t .doubled
+
+-- the whole tally of the rows rs from the marks cs to the marks cs′
+pub record WholeTally (ps ls : List ℕ) (rs : List Row) (cs : List ℕ) (t : Counted) (cs′ : List ℕ) : Type 0 where
+  pub codes : t .codes ≡ length rs
+  pub all : (t .codes, (t .sum, cs′)) ≡ tallied ps ls (map rankOn rs) 0 0 cs
+  pub marks : MarkedBy ls cs cs′ t
+
+-- the tally of the rows rs from the marks cs ends with the marks cs′: at the first place that is not there, or whole
+abbrev pub Ends : List ℕ → List ℕ → List Row → List ℕ → Ending → List ℕ → Type 0
+Ends ps ls rs cs (Missing p) cs′ = PlaceAt rs (tallied ps ls (map rankOn rs) 0 0 cs .0) p
+Ends ps ls rs cs (Whole t) cs′ = WholeTally ps ls rs cs t cs′
 
 -- z is the sum of k amounts whose raised sum is s
 abbrev pub Lowered : ℕ → ℕ → ℤ → Type 0

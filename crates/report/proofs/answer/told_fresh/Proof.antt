@@ -20,7 +20,7 @@ slice-aggregate-told : tie.Need-slice-aggregate-told
 slice-aggregate-told c = let s = c .before .before .before .before in sym (prefix-length (length (now (s .args .ranks))) limit (s .pre .sheet .most))
 
 told-requires : tie.Need-told-requires
-told-requires c κs = let s = c .before .before .before .before in (s .pre, prefix-length (length (now (s .args .ranks))) limit (s .pre .sheet .most))
+told-requires c κs = let s = c .before .before .before .before in (s .pre, take-replicate (length (now (s .args .ranks))) limit 0 (s .pre .sheet .most))
 
 returns : tie.Need-returns
 returns c = let s = c .before .before .before .before .before .before in
