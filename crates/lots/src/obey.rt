@@ -1,17 +1,17 @@
 // One line obeyed on the store: which call it makes. What the call answers is decided in the libraries.
 ghost use mathlib.Core.Path.{_≡_};
-ghost use Prim.Native.Nat.{_≤_};
+ghost use Prim.Native.Nat.{_+_, _≤_, _<_};
 ghost use lib.ListN.{length};
 ghost use Rattle.hash.specs.Fnv.{fnv};
 ghost use Rattle.store.specs.Demands.{ok};
 ghost use Rattle.partition.specs.Listing.{listing};
-ghost use Rattle.partition.specs.Sizes.{size, shapeOf};
+ghost use Rattle.partition.specs.Sizes.{size, shapeFor};
 ghost use Rattle.store.specs.Pages.{page, rowsHeld};
 ghost use Rattle.store.specs.Tables.{meaning};
 ghost use Rattle.query.specs.Spots.{OnPage};
 ghost use Rattle.lots.specs.Known.{Known, Listable};
 ghost use Rattle.lots.specs.Rows.{Fillable, Filling, LinesFrom, RunFrom, RunTo};
-ghost use Rattle.lots.specs.Obeys.{ListAsked, Numbers, Obeys, Outcomes, Passes, TellsOnly, RowAsked, Untouched};
+ghost use Rattle.lots.specs.Obeys.{InspectAsked, ListAsked, Numbers, Obeys, Outcomes, PageAsked, PageLength, Passes, RowAsked, Shown, SlotAsked, SlotGiven, TellsOnly, Untouched};
 use super::bid;
 use super::faults;
 use super::known::check_known;
@@ -193,7 +193,7 @@ fn list_rows(s: &[u8], z: Shape, n: usize, lines: &mut [u8]) -> Outcome
     let mut i = 0;
     while i < n {
         match query::next_row(s, z, c) {
-            Step::Given(p, slot, next) => {
+            Step::Handed(p, slot, next) => {
                 let to = list_run(s, z, i, p, slot, lines);
                 if to == 0 {
                     return Outcome::Stopped;
@@ -224,69 +224,68 @@ fn list(s: &[u8], known: bool, number: usize) -> Outcome
     list_rows(s, z, n, &mut lines)
 }
 
-// After n rows: there is none more, or why the page is refused.
-fn ended(r: Refusal, n: usize) -> Answer {
-    if let Refusal::NoRow = r {
-        return Answer::Rows(n);
-    }
-    Answer::Refused(r)
-}
-
-// How many rows a page has, or why it is refused. No page has more rows than bytes.
-fn rows_on(page: &[u8]) -> Answer {
+// What inspection says of a page's first slot.
+fn first_slot(page: &[u8]) -> Answer
+    ensures { λ r. ⌜ SlotAsked (now (page .entry)) 0 (meaning r) ⌝ }
+{
     let mut code = [0u8; 64];
-    let mut n = 0;
-    while n < page.len() {
-        let a = page_reader::inspect(page, n, &mut code);
-        match a {
-            Answer::RowOf(_, _) => {
-                n += 1;
-            }
-            Answer::Refused(r) => {
-                return ended(r, n);
-            }
-            _ => {
-                return a;
-            }
-        }
-    }
-    Answer::Rows(n)
+    page_reader::inspect(page, 0, &mut code)
 }
 
-// Row n of a page on a line; whether it could be written.
-fn page_row(page: &[u8], n: usize) -> bool {
+// The row in slot i of a page on a line; whether it could be written.
+fn tell_slot(page: &[u8], i: usize, a: Answer, code: &[u8]) -> bool
+    requires { ⌜ SlotGiven (now page) i (meaning a) (now code) ⌝ }
+{
+    say::answer(a, code, 0)
+}
+
+// Of n rows the one after the first i, and how many are told then: no more where it could not be written.
+fn page_row(page: &[u8], n: usize, i: usize) -> usize
+    requires { ⌜ Shown (now page) n × (i < n) ⌝ }
+    ensures { λ r. ⌜ (i ≤ r) × (r ≤ i + 1) ⌝ }
+{
     let mut code = [0u8; 64];
-    let a = page_reader::inspect(page, n, &mut code);
-    say::answer(a, &code, 0)
+    let a = page_reader::inspect(page, i, &mut code);
+    if tell_slot(page, i, a, &code) {
+        return i + 1;
+    }
+    i
 }
 
-// The first n rows of a page, and how many they are.
+// The n rows of a page, slot by slot, and their number.
 fn page_rows(page: &[u8], n: usize) -> Outcome
+    requires { ⌜ Shown (now page) n ⌝ }
     ensures { λ r. ⌜ Numbers n r ⌝ }
 {
     let mut i = 0;
     while i < n {
-        if !page_row(page, i) {
+        let next = page_row(page, n, i);
+        if next == i {
             return Outcome::Stopped;
         }
-        i += 1;
+        i = next;
     }
-    listed(n)
+    listed(i)
 }
 
+// The rows of a page and their number, or why inspection refuses it. A free page has none.
 fn list_page(page: &[u8], number: usize) -> Outcome
-    ensures { λ r. ⌜ Untouched r ⌝ }
+    requires { ⌜ length (now page) ≡ size (shapeFor (length (now page))) ⌝ }
+    ensures { λ r. ⌜ PageAsked (now (page .entry)) r ⌝ }
 {
-    let a = rows_on(page);
-    if let Answer::Rows(n) = a {
-        return page_rows(page, n);
+    if words::all_zero(page) {
+        return listed(0);
     }
-    told(a, number)
+    let a = first_slot(page);
+    if !is_done(a) {
+        return told(a, number);
+    }
+    page_rows(page, words::get16(page, 2))
 }
 
 // The length of the store's pages, as it says itself; one too short to say it has no page.
 fn page_size(s: &[u8]) -> usize
-    ensures { λ r. ⌜ (1 ≤ r) × (24 ≤ length (now (s .entry)) → r ≡ size (shapeOf (now (s .entry)))) ⌝ }
+    ensures { λ r. ⌜ PageLength (now (s .entry)) r ⌝ }
 {
     if s.len() < 24 {
         return 1024;
@@ -298,7 +297,7 @@ fn page_size(s: &[u8]) -> usize
 
 // The rows of page p, if the store has it.
 fn inspect(s: &[u8], p: usize, number: usize) -> Outcome
-    ensures { λ r. ⌜ Untouched r ⌝ }
+    ensures { λ r. ⌜ InspectAsked p (now (s .entry)) r ⌝ }
 {
     let size = page_size(s);
     if p >= s.len() / size {

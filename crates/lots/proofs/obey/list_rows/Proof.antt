@@ -12,7 +12,7 @@ use Rattle.partition.specs.Listing.{listing}
 use Rattle.partition.specs.Partition.{Row}
 use Rattle.query.specs.Cursors.{At, Stepped}
 use Rattle.query.specs.declared.Cursor.{Cursor}
-use Rattle.query.specs.declared.Step.the-variants.{Given}
+use Rattle.query.specs.declared.Step.the-variants.{Handed}
 use Rattle.store.specs.Pages.{rowsHeld}
 use Rattle.lots.specs.Obeys.{Numbers}
 use Rattle.lots.proofs.Leaving.{listing-counts, some-row}
@@ -57,7 +57,7 @@ module _ (g : tie.After-p Inv-loop μ-loop) where
   abbrev behind : Cursor
   behind = g .p .given .0 .1 .1 .0
 
-  stepped : Stepped (S head) (store head) (head .loop .i) (Given page-at from behind)
+  stepped : Stepped (S head) (store head) (head .loop .i) (Handed page-at from behind)
   stepped = subst (Stepped (S head) (store head) (head .loop .i)) (g .p .given .1) (g .before .before .next-row .ensures (head .loop .i) (head .loop .inv .0))
 
 -- and its run was written
@@ -84,7 +84,7 @@ loop-holds : tie.Need-loop-holds Inv-loop μ-loop
 loop-holds c = (c .cursor-at .ensures, omega arith, refl)
 
 next-row-requires : tie.Need-next-row-requires Inv-loop μ-loop
-next-row-requires c κs = let q = start (c .before) in (q .pre .0 .sized, q .pre .0 .accepted, (c .before .loop .i, c .before .loop .inv .0))
+next-row-requires c κs = let q = start (c .before) in record { sized = q .pre .0 .sized; accepted = q .pre .0 .accepted; place = c .before .loop .i; at = c .before .loop .inv .0 }
 
 enum-known-p : tie.Need-enum-known-p Inv-loop μ-loop
 enum-known-p c = search needs

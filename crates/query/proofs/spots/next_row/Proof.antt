@@ -39,17 +39,17 @@ module _ (b : tie.At-loop Inv-loop μ-loop) where
   s = now (start .args .s)
 
   sz : Sized S
-  sz = start .pre .0
+  sz = start .pre .sized
 
   acc : Accepted S fnv s
-  acc = start .pre .1
+  acc = start .pre .accepted
 
   -- a place before which the cursor stands
   abbrev n : ℕ
-  n = start .pre .2 .0
+  n = start .pre .place
 
   now-from : From S s n (b .loop .i) (b .loop .left)
-  now-from = b .loop .inv n (start .pre .2 .1)
+  now-from = b .loop .inv n (start .pre .at)
 
   depth-is : b .before .before .get32 .result ≡ dirDepth s
   depth-is = b .before .before .get32 .ensures .0
@@ -81,13 +81,13 @@ module _ (e : tie.Else1 Inv-loop μ-loop) where
   )
 
 get32-requires : tie.Need-get32-requires Inv-loop μ-loop
-get32-requires c κs = let q = c .before in omega (arith, long-enough _ (q .pre .0) _ (q .pre .1))
+get32-requires c κs = let q = c .before in omega (arith, long-enough _ (q .pre .sized) _ (q .pre .accepted))
 
 cast-d : tie.Need-cast-d Inv-loop μ-loop
 cast-d c = omega (arith, c .get32 .ensures .1)
 
 two-to-requires : tie.Need-two-to-requires Inv-loop μ-loop
-two-to-requires c κs = let q = c .before .before in omega (arith, c .get32 .ensures .0, shallow _ (q .pre .0) _ (q .pre .1), twelve _ (q .pre .0))
+two-to-requires c κs = let q = c .before .before in omega (arith, c .get32 .ensures .0, shallow _ (q .pre .sized) _ (q .pre .accepted), twelve _ (q .pre .sized))
 
 loop-holds : tie.Need-loop-holds Inv-loop μ-loop
 loop-holds c = let q = c .before .before .before in λ n a. at-from (q .args .z) (now (q .args .s)) n (q .args .c) a
@@ -140,7 +140,7 @@ entries-of-requires : tie.Need-entries-of-requires Inv-loop μ-loop
 entries-of-requires c κs = let e = c .before .before in
     let w = at-page e in
     let b = e .before .before .before .before in
-    (omega (arith, w .0), omega (arith, w .1, depth-is b), omega (arith, depth-is b, shallow (S b) (sz b) (s b) (acc b), twelve (S b) (sz b)))
+    record { there = omega (arith, w .0); low = omega (arith, w .1, depth-is b); deep = omega (arith, depth-is b, shallow (S b) (sz b) (s b) (acc b), twelve (S b) (sz b)) }
 
 -- past a page
 past : (c : tie.After-entries-of Inv-loop μ-loop) (n : ℕ) → At (S (c .before .before .before .before .before .before .before)) (s (c .before .before .before .before .before .before .before)) n (start (c .before .before .before .before .before .before .before) .args .c)
@@ -160,7 +160,7 @@ add-i-2 : tie.Need-add-i-2 Inv-loop μ-loop
 add-i-2 c =
     let b = c .before .before .before .before .before .before .before in
     let m : 2 ^ dirDepth (s b) ≤ 2 ^ S b .deepest = pow-mono (shallow (S b) (sz b) (s b) (acc b)) in
-    omega (arith, past c (n b) (start b .pre .2 .1) .most, m, sz b)
+    omega (arith, past c (n b) (start b .pre .at) .most, m, sz b)
 
 loop-less-2 : tie.Need-loop-less-2 Inv-loop μ-loop
 loop-less-2 c =
