@@ -1,12 +1,12 @@
 -- The puts that good runs ask for, in other words: their codes end to end are the code bytes, their lengths and places are the runs. Assumes nothing.
 use mathlib.Core.Path.{_≡_, refl, sym, ap, _∙_}
 use mathlib.Core.List.{List, [], _∷_, _++_, map}
-use Prim.Native.Nat.{ℕ, suc, _+_, _≤_}
+use Prim.Native.Nat.{ℕ, _+_, _≤_}
 use native.Mathlib.Omega.{arith}
 use lib.ListN.{length, take, drop, take-append-drop, length-drop}
 use lib.Seq.{length-take-le}
 use Rattle.batch.specs.PlaceWords.{wordPlace}
-use Rattle.batch.specs.Batch.{Wanted, Runs, GoodRuns, sum, wanted}
+use Rattle.batch.specs.Batch.{Wanted, sum, wanted}
 
 -- the codes end to end
 abbrev pub joined : List Wanted → List ℕ

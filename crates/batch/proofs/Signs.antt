@@ -7,7 +7,7 @@ use native.Mathlib.Omega.{arith}
 use lib.IntN.{ℤ, pos, negsuc}
 use lib.Signed.{mag}
 use mir.Syntax.{Width, w16, w32}
-use mir.Val.{Fits, SFits, toZ, ofZ, sel, bits, hbits}
+use mir.Val.{Fits, toZ, ofZ, sel, bits, hbits}
 use mir.Facts.{toZ-ofZ, sfits-toZ}
 use Rattle.page.specs.Places.{InRange}
 use Rattle.store.specs.Moves.{pick}

@@ -1,8 +1,6 @@
 // A page read row by row through the reader: what comes out is its listing, codes in byte order.
-ghost use mathlib.Core.Path.{_≡_};
-ghost use lib.ListN.{length};
-ghost use Rattle.words.specs.Codes.{GoodCode};
 ghost use Rattle.page.specs.Page.{Slotted};
+ghost use Rattle.cases.specs.Reads.{Addable};
 use super::show::digits;
 use libc::STDOUT_FILENO;
 use page::Found;
@@ -10,7 +8,7 @@ use store::Answer;
 
 // A row of place (page, 0, 0) goes where its code belongs, if it is new and fits.
 fn add(bucket: &mut [u8], key: &[u8], page: u8)
-    requires { ⌜ Slotted (now bucket) × (length (now bucket) ≡ 1024) × GoodCode (now key) ⌝ }
+    requires { ⌜ Addable (now bucket) (now key) ⌝ }
     ensures { λ _. ⌜ Slotted (now (bucket .exit)) ⌝ }
 {
     let mut scratch = [0u8; 1024];

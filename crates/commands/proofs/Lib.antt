@@ -10,3 +10,4 @@ pub mod Cutting
 pub mod OneRow
 pub mod Cents
 pub mod Small
+pub mod Blocks

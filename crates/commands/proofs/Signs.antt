@@ -1,7 +1,7 @@
 -- Signed numbers made of their size, and read back from their bits. Assumes nothing.
 use Prim.Native.Nat.{ℕ, zero, suc, _+_, _-_, _^_, _≤_, _<_}
 use mathlib.Core.Path.{_≡_, refl, sym, ap, _∙_, subst}
-use mathlib.Core.Bool.{true, false}
+use mathlib.Core.Bool.{Bool, true, false}
 use mathlib.Core.List.{List, [], _∷_}
 use native.Mathlib.Nat.{zero-add, lt-of-le-of-lt}
 use native.Mathlib.Omega.{arith}
@@ -131,6 +131,9 @@ module _ (z : ℤ) (h : mag z < 2147483648) where
   module _ (t : ltZ (toZ w64 (ofZ w64 z)) (pos 0) ≡ false) where
     pub is-from : ltZ z (pos 0) ≡ false
     is-from = rw whole at t
+
+    pub is-small : (m n : ℕ) → ltZ (toZ w64 (ofZ w64 z)) (pos m) ≡ true → z ≡ signed (ltZ z (pos 0)) n → n < m
+    is-small m n u e = ltb-true n m (subst (λ (y : ℤ). ltZ y (pos m) ≡ true) (whole ∙ e ∙ ap (λ (b : Bool). signed b n) is-from) u)
 
     pub keep-asks : T (nonNeg (toZ w64 (ofZ w64 z))) × Fits w64 (natAbs (toZ w64 (ofZ w64 z)))
     keep-asks = rw whole (subst (λ (y : ℤ). T (nonNeg y) × Fits w64 (natAbs y)) (sym (from-zero z is-from)) (tt, record { fits = omega arith }))

@@ -6,6 +6,7 @@ use mathlib.Core.Logic.{_⊎_}
 use mathlib.Core.List.{List, [], _∷_, _++_}
 use lib.Dec.{ltb, eqb}
 use lib.ListN.{length, take, drop}
+use Rattle.ground.specs.Lists.{byte}
 use Rattle.commands.specs.declared.Glyph.{Glyph}
 use Rattle.commands.specs.declared.Decoded.{Decoded}
 use Rattle.commands.specs.declared.Decoded.the-variants.{Code, Wrong}
@@ -15,6 +16,10 @@ pub record Plain (b : ℕ) : Type 0 where
   pub least : 33 ≤ b
   pub most : b ≤ 126
   pub other : b ≡ 37 → ⊥
+
+-- the bytes of c from a up to b stand for themselves
+abbrev pub PlainFrom : List ℕ → ℕ → ℕ → Type 0
+PlainFrom c a b = (k : ℕ) → a ≤ k → k < b → Plain (byte c k)
 
 -- b is the hexadecimal digit h: 0 to 9, A to F, a to f
 abbrev pub Hex : ℕ → ℕ → Type 0

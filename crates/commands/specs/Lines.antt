@@ -180,3 +180,9 @@ pub record Uncoded (w : List ℕ) : Type 0 where
   pub lookup : w ≡ lookupWord → ⊥
   pub remove : w ≡ removeWord → ⊥
   pub report : w ≡ reportWord → ⊥
+
+-- a line that is to be obeyed, its first word w, the rest after a space; the word is none of those
+pub record Numberable (w rest : List ℕ) : Type 0 where
+  pub whole : Spaceless w
+  pub spoken : Spoken (w ++ (32 ∷ rest))
+  pub uncoded : Uncoded w

@@ -1,15 +1,16 @@
 // Answers as lines of text, put together in a buffer.
 ghost use mathlib.Core.Path.{_≡_};
+ghost use mathlib.Core.Bool.{true};
 ghost use mathlib.Core.List.{[], _∷_, _++_};
 ghost use Prim.Native.Nat.{_+_, _*_, _≤_, _<_};
-ghost use lib.ListN.{length, take};
+ghost use lib.ListN.{length, take, drop};
 ghost use lib.IntN.{pos};
 ghost use lib.Signed.{ltZ, mag};
 ghost use Rattle.io.specs.Digits.{digits};
 ghost use Rattle.store.specs.Tables.{meaning, refusal};
 ghost use Rattle.commands.specs.Answers.{Adds, Lines, because, faulty, numbered, placed, rowed, shows, why};
 ghost use Rattle.words.specs.Le.{bytes};
-ghost use Rattle.commands.specs.Codes.{escape, glyphs, shown, upper};
+ghost use Rattle.commands.specs.Codes.{escape, glyphs, shown, upper, Plain, PlainFrom};
 ghost use Rattle.commands.specs.Numbers.{decimal, integer, signed};
 ghost use Rattle.commands.specs.Numbers.{width as Numbers·width};
 ghost use Rattle.commands.specs.Texts.{text as Texts·text};
@@ -145,7 +146,8 @@ fn size_of(z: i64) -> u64
     z as u64
 }
 
-fn add_signed(out: &mut [u8], at: usize, z: i64) -> usize
+// A number of any size, its sign before it.
+fn add_long(out: &mut [u8], at: usize, z: i64) -> usize
     requires { ⌜ (at + 21 ≤ length (now out)) × (mag z < 2147483648) ⌝ }
     ensures { λ r. ⌜ Adds (integer z) (now (out .entry)) at (now (out .exit)) r ⌝ }
     ensures { λ r. ⌜ r ≤ at + 21 ⌝ }
@@ -155,10 +157,22 @@ fn add_signed(out: &mut [u8], at: usize, z: i64) -> usize
         let next = add(out, at, b"-");
         return add_number(out, next, n);
     }
-    if n < 10000 {
-        return add_small(out, at, n);
-    }
     add_number(out, at, n)
+}
+
+// Both tests of a small number fall through to the same call, so that they become one.
+fn add_signed(out: &mut [u8], at: usize, z: i64) -> usize
+    requires { ⌜ (at + 21 ≤ length (now out)) × (mag z < 2147483648) ⌝ }
+    ensures { λ r. ⌜ Adds (integer z) (now (out .entry)) at (now (out .exit)) r ⌝ }
+    ensures { λ r. ⌜ r ≤ at + 21 ⌝ }
+{
+    if !(z < 0) {
+        if z < 10000 {
+            let n = size_of(z);
+            return add_small(out, at, n);
+        }
+    }
+    add_long(out, at, z)
 }
 
 pub fn add_place(out: &mut [u8], at: usize, p: Place) -> usize
@@ -205,7 +219,8 @@ fn add_byte(out: &mut [u8], at: usize, b: u8) -> usize
     add(out, at, &text)
 }
 
-fn add_code(out: &mut [u8], at: usize, code: &[u8]) -> usize
+// A code byte by byte.
+fn add_bytes(out: &mut [u8], at: usize, code: &[u8]) -> usize
     requires { ⌜ at + 3 * length (now code) ≤ length (now out) ⌝ }
     ensures { λ r. ⌜ Adds (shown (now (code .entry))) (now (out .entry)) at (now (out .exit)) r ⌝ }
     ensures { λ r. ⌜ r ≤ at + 3 * length (now (code .entry)) ⌝ }
@@ -217,6 +232,79 @@ fn add_code(out: &mut [u8], at: usize, code: &[u8]) -> usize
         i += 1;
     }
     r
+}
+
+// 0 for a byte that is shown as itself, else 1.
+fn odd(x: u8) -> u8
+    ensures { λ r. ⌜ (r ≡ 0 → Plain x) ⌝ }
+{
+    if x < 33 {
+        return 1;
+    }
+    if x > 126 {
+        return 1;
+    }
+    if x == 37 {
+        return 1;
+    }
+    0
+}
+
+// Whether the eight bytes from a on are shown as themselves. A fixed number of turns and no way out before the end, so that it vectorises.
+fn eight_plain(code: &[u8], a: usize) -> bool
+    requires { ⌜ a + 8 ≤ length (now code) ⌝ }
+    ensures { λ r. ⌜ (r ≡ true → PlainFrom (now (code .entry)) a (a + 8)) ⌝ }
+{
+    let mut acc: u8 = 0;
+    let mut i = 0;
+    while i < 8 {
+        acc = acc | odd(code[a + i]);
+        i += 1;
+    }
+    acc == 0
+}
+
+// The eight bytes from i on go to out at an index: all read before one is written, so that it is one move.
+fn copy_eight(out: &mut [u8], at: usize, code: &[u8], i: usize) -> usize
+    requires { ⌜ (at + 8 ≤ length (now out)) × (i + 8 ≤ length (now code)) ⌝ }
+    ensures { λ r. ⌜ Adds (take 8 (drop i (now (code .entry)))) (now (out .entry)) at (now (out .exit)) r ⌝ }
+{
+    let text = [
+        code[i],
+        code[i + 1],
+        code[i + 2],
+        code[i + 3],
+        code[i + 4],
+        code[i + 5],
+        code[i + 6],
+        code[i + 7],
+    ];
+    add(out, at, &text)
+}
+
+// A code, eight bytes at a time while they are shown as themselves; the last eight may begin among those before.
+fn add_code(out: &mut [u8], at: usize, code: &[u8]) -> usize
+    requires { ⌜ at + 3 * length (now code) ≤ length (now out) ⌝ }
+    ensures { λ r. ⌜ Adds (shown (now (code .entry))) (now (out .entry)) at (now (out .exit)) r ⌝ }
+    ensures { λ r. ⌜ r ≤ at + 3 * length (now (code .entry)) ⌝ }
+{
+    let n = code.len();
+    if n < 8 {
+        return add_bytes(out, at, code);
+    }
+    let last = n - 8;
+    let mut i = 0;
+    while i < last {
+        if !eight_plain(code, i) {
+            return add_bytes(out, at + i, &code[i..n]);
+        }
+        copy_eight(out, at + i, code, i);
+        i += 8;
+    }
+    if !eight_plain(code, last) {
+        return add_bytes(out, at + i, &code[i..n]);
+    }
+    copy_eight(out, at + last, code, last)
 }
 
 // The number of a line, and why it is not obeyed.
@@ -292,12 +380,12 @@ fn replaced_text(out: &mut [u8], p: Place) -> usize
     add_place(out, n, p)
 }
 
-fn row_text(out: &mut [u8], code: &[u8], p: Place) -> usize
-    requires { ⌜ 127 + 3 * length (now code) ≤ length (now out) ⌝ }
-    ensures { λ r. ⌜ Adds (rowed (now (code .entry)) p) (now (out .entry)) 0 (now (out .exit)) r ⌝ }
-    ensures { λ r. ⌜ r ≤ 127 + 3 * length (now (code .entry)) ⌝ }
+fn row_text(out: &mut [u8], at: usize, code: &[u8], p: Place) -> usize
+    requires { ⌜ at + 127 + 3 * length (now code) ≤ length (now out) ⌝ }
+    ensures { λ r. ⌜ Adds (rowed (now (code .entry)) p) (now (out .entry)) at (now (out .exit)) r ⌝ }
+    ensures { λ r. ⌜ r ≤ at + 127 + 3 * length (now (code .entry)) ⌝ }
 {
-    let n = add_code(out, 0, code);
+    let n = add_code(out, at, code);
     let m = add(out, n, b" ");
     add_place(out, m, p)
 }
@@ -309,9 +397,9 @@ fn row_part(out: &mut [u8], code: &[u8], n: usize, p: Place) -> usize
     ensures { λ r. ⌜ r ≤ 127 + 3 * length (now (code .entry)) ⌝ }
 {
     if n <= code.len() {
-        return row_text(out, &code[..n], p);
+        return row_text(out, 0, &code[..n], p);
     }
-    row_text(out, code, p)
+    row_text(out, 0, code, p)
 }
 
 fn answer_text(out: &mut [u8], code: &[u8], number: usize, a: Answer) -> usize
@@ -337,6 +425,16 @@ pub fn answer_line(a: Answer, code: &[u8], number: usize, out: &mut [u8]) -> usi
     ensures { λ r. ⌜ Lines (shows (now (code .entry)) number (meaning a)) (now (out .exit)) r ⌝ }
 {
     let n = answer_text(out, code, number, a);
+    add(out, n, b"\n")
+}
+
+// A row as a line at an index of out.
+pub fn row_line(out: &mut [u8], at: usize, code: &[u8], p: Place) -> usize
+    requires { ⌜ at + 128 + 3 * length (now code) ≤ length (now out) ⌝ }
+    ensures { λ r. ⌜ Adds (rowed (now (code .entry)) p ++ (10 ∷ [])) (now (out .entry)) at (now (out .exit)) r ⌝ }
+    ensures { λ r. ⌜ r ≤ at + 128 + 3 * length (now (code .entry)) ⌝ }
+{
+    let n = row_text(out, at, code, p);
     add(out, n, b"\n")
 }
 

@@ -9,6 +9,7 @@ mod sums;
 pub use answers::answer_line;
 pub use answers::fault_line;
 pub use answers::number_line;
+pub use answers::row_line;
 pub use lines::parse;
 use page::Place;
 pub use sheet::sheet_line;

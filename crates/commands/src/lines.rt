@@ -3,7 +3,7 @@ ghost use mathlib.Core.Path.{_≡_};
 ghost use mathlib.Core.List.{List, _∷_, _++_};
 ghost use Prim.Native.Nat.{ℕ, _≤_, _<_};
 ghost use lib.Signed.{mag};
-ghost use Rattle.commands.specs.Lines.{FirstSpace, Places, Means, Spaceless, Spoken, Uncoded, PutBy, formatWord};
+ghost use Rattle.commands.specs.Lines.{FirstSpace, Places, Means, Spaceless, Spoken, Numberable, PutBy, formatWord};
 use super::codes::decode;
 use super::numbers::read_number;
 use super::numbers::read_signed;
@@ -122,7 +122,7 @@ fn format(rest: &[u8]) -> Command
 
 // A word and a number, or those of a format.
 fn numbered(word: &[u8], rest: &[u8]) -> Command
-    requires { ⌜ Spaceless (now word) × Spoken (now word ++ (32 ∷ now rest)) × Uncoded (now word) ⌝ }
+    requires { ⌜ Numberable (now word) (now rest) ⌝ }
     ensures { λ r. ⌜ ((k : List ℕ) → Means (now (word .entry) ++ (32 ∷ now (rest .entry))) k r) ⌝ }
 {
     if same(word, b"format") {

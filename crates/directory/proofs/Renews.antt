@@ -6,7 +6,6 @@ use mathlib.Core.Logic.{_⊎_, inl, inr}
 use Prim.Native.Nat.{ℕ, _+_, _-_, _/_, _^_, _≤_, _<_}
 use native.Mathlib.Omega.{arith}
 use native.Mathlib.Decide.{ℕ-discrete}
-use Rattle.ground.specs.Lists.{byte}
 use Rattle.ground.proofs.Sides.{side}
 use Rattle.words.specs.Le.{le16, le32}
 use Rattle.partition.specs.Bits.{top}
@@ -14,7 +13,7 @@ use Rattle.partition.specs.Partition.{Row}
 use Rattle.partition.specs.declared.Shape.{Shape}
 use Rattle.store.specs.Moves.{packFrom}
 use Rattle.store.proofs.Showing.Shows.{firstCode}
-use Rattle.store.specs.Pages.{size, pages, page, dirDepth, entryAt, contents}
+use Rattle.store.specs.Pages.{pages, page, dirDepth, entryAt, contents}
 use Rattle.store.specs.Accepted.{Stands, unused, used, Calls, Accepted}
 use Rattle.store.specs.Demands.{Sized}
 use Rattle.store.proofs.Accepted.Rules.{opened}

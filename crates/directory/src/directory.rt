@@ -4,7 +4,7 @@ ghost use Rattle.hash.specs.Fnv.{fnv};
 ghost use Rattle.partition.specs.Bits.{top};
 ghost use Rattle.store.specs.Pages.{contents, deepestIn};
 ghost use Rattle.store.specs.Demands.{Sized};
-ghost use Rattle.directory.specs.Directory.{RunSet, Runnable, Namable, PrefixNamed, PageNamed, PageOf, Directable, Directed, Settling};
+ghost use Rattle.directory.specs.Directory.{RunSet, Runnable, Namable, PrefixNamed, PageNamed, PageOf, Directable, Directed, Settleable};
 use partition::Shape;
 
 // The entries from a up to b name page p.
@@ -60,7 +60,7 @@ fn write_directory(s: &mut [u8], z: Shape, n: usize, d: u32)
 
 // Directory and depth are then as defined, those of the pages, where the directory is known to be if its depth d is.
 pub fn settle_depth(s: &mut [u8], z: Shape, n: usize, d: usize)
-    requires { ⌜ Sized z × Settling z (now s) n × (deepestIn (contents z (now s)) ≡ d → Directed z fnv (now s) d n (now s)) ⌝ }
+    requires { ⌜ Settleable z (now s) n × (deepestIn (contents z (now s)) ≡ d → Directed z fnv (now s) d n (now s)) ⌝ }
     ensures { λ _. ⌜ Directed z fnv (now (s .entry)) (deepestIn (contents z (now (s .entry)))) n (now (s .exit)) ⌝ }
 {
     let e = store::deepest(s, z, n);

@@ -36,9 +36,9 @@ use Rattle.lots.specs.declared.Outcome.{Outcome}
 use Rattle.lots.specs.declared.Outcome.the-variants.{Silent, Unknown as NotKnown, Told, Changed, Listed, Format as Formats, Stopped}
 use Rattle.lots.specs.declared.Session.{Session}
 use Rattle.lots.specs.Known.{Known}
-use Rattle.lots.specs.Obeys.{Outcomes, Passes, TellsOnly, Numbers, Untouched, Does, Obeys}
+use Rattle.lots.specs.Obeys.{Outcomes, Passes, Untouched, Does, Obeys}
 use Rattle.store.proofs.Demands.Unchecked.{check-says}
-use Rattle.lots.specs.Sessions.{Leaves, After, Alike, SessionHolds, Kept, Ran}
+use Rattle.lots.specs.Sessions.{Leaves, After, Alike, SessionHolds, Kept}
 
 -- a check that is no refusal accepts
 pub checked-accepted : (s : List ℕ) (o : Out) → Answers (checkTable (shapeOf s) fnv s) o → ok o ≡ true → Accepted (shapeOf s) fnv s
@@ -92,7 +92,7 @@ does-leaves k Report s o t d l = d .1
 pub leaves : {line s t : List ℕ} {o : Outcome} → Obeys line s o t → Leaves o → t ≡ s
 leaves {line} {s} {t} {o} x = does-leaves (x .code) (x .command) s o t (x .does)
 
--- what is only told leaves the store
+-- an unknown line leaves the store
 pub passes-untouched : (o : Outcome) → Passes o → Untouched o
 passes-untouched NotKnown p = tt
 passes-untouched Stopped p = tt
@@ -101,24 +101,6 @@ passes-untouched (Told x) p = tt
 passes-untouched (Listed n) p = tt
 passes-untouched (Changed x) p = p
 passes-untouched (Formats n size) p = p
-
-pub reads-untouched : (a : Out) (o : Outcome) → TellsOnly a o → Untouched o
-reads-untouched a NotKnown p = tt
-reads-untouched a Stopped p = tt
-reads-untouched a Silent p = tt
-reads-untouched a (Told x) p = tt
-reads-untouched a (Listed n) p = tt
-reads-untouched a (Changed x) p = p
-reads-untouched a (Formats n size) p = p
-
-pub numbers-untouched : (n : ℕ) (o : Outcome) → Numbers n o → Untouched o
-numbers-untouched n NotKnown p = tt
-numbers-untouched n Stopped p = tt
-numbers-untouched n Silent p = tt
-numbers-untouched n (Told x) p = tt
-numbers-untouched n (Listed m) p = tt
-numbers-untouched n (Changed x) p = p
-numbers-untouched n (Formats m size) p = p
 
 -- the store that a call leaves of one that is known to be accepted: accepted again, and as long
 pub record Still (s t : List ℕ) : Type 0 where
@@ -246,7 +228,3 @@ taken-in a f h = record {
   long = λ q. a .len;
   holds = holds-as (a .len) (a .known) h;
 }
-
--- the whole input, from a session that begins with len bytes
-pub ran : {z r : Session} {s t : List ℕ} {len : ℕ} → z .len ≡ len → Kept z s r t → Ran len s r t
-ran e k = record { same = k .same; long = λ q. k .long q ∙ e; holds = k .holds }

@@ -1,3 +1,6 @@
 pub mod Known
 pub mod Obeys
+pub mod Reports
+pub mod Runs
 pub mod Sessions
+pub mod Rows

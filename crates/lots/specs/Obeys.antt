@@ -1,19 +1,25 @@
 -- What a line of the input answers and does to the store. Assumes nothing.
-use Prim.Native.Nat.{ℕ}
+use Prim.Native.Nat.{ℕ, _≤_, _<_}
 use mathlib.Core.Path.{_≡_}
 use mathlib.Core.Bool.{true, false}
 use mathlib.Core.List.{List}
-use lib.ListN.{length, take}
+use mathlib.Core.Option.{some}
+use lib.ListN.{length, take, getElem?}
 use Rattle.commands.specs.declared.Command.{Command}
 use Rattle.commands.specs.declared.Command.the-variants.{Nothing, Unknown, Format, Put, Lookup, Remove, Count, Row, Listing, Check, Inspect, Report}
 use Rattle.commands.specs.Lines.{Means}
+use Rattle.ground.specs.Ladder.{Answers}
 use Rattle.hash.specs.Fnv.{fnv}
 use Rattle.partition.specs.Listing.{listing}
-use Rattle.partition.specs.Sizes.{shapeOf}
+use Rattle.partition.specs.Partition.{Row as StoredRow}
+use Rattle.partition.specs.Sizes.{size, shapeFor, shapeOf}
 use Rattle.store.specs.Demands.{Call, check, count, lookup, put, remove, rowAt, Made, ok}
-use Rattle.store.specs.Pages.{rowsHeld}
-use Rattle.store.specs.Tables.{Out, meaning}
+use Rattle.store.specs.Pages.{pages, page, read, rowsOn, rowsHeld}
+use Rattle.store.specs.Tables.{Out, refusedAt, meaning, giving, PageKeeps, inspectTable}
+use Rattle.report.specs.declared.Sums.{Sums}
+use Rattle.report.specs.Report.{summed}
 use Rattle.lots.specs.declared.Outcome.{Outcome}
+use Rattle.lots.specs.Reports.{Reports}
 use Rattle.lots.specs.declared.Outcome.the-variants.{Silent, Unknown as NotKnown, Told, Changed, Listed, Format as Formats, Stopped}
 
 -- a line that only reads
@@ -91,6 +97,53 @@ pub record ListAsked (s : List ℕ) (o : Outcome) : Type 0 where
   pub refused : ok answer ≡ false → TellsOnly answer o
   pub rows : ok answer ≡ true → Numbers (length (listing (shapeOf s) fnv (rowsHeld (shapeOf s) s))) o
 
+-- r is the length of the store's pages, as it says itself; one too short to say it has no page
+pub record PageLength (s : List ℕ) (r : ℕ) : Type 0 where
+  pub least : 1 ≤ r
+  pub own : 24 ≤ length s → r ≡ size (shapeOf s)
+  pub short : length s < 24 → length s < r
+
+-- inspection answers a for slot n of the page g, into a buffer of 64 bytes
+pub record SlotAsked (g : List ℕ) (n : ℕ) (a : Out) : Type 0 where
+  pub buffer : List ℕ
+  pub after : List ℕ
+  pub long : length buffer ≡ 64
+  pub answers : Answers (inspectTable (shapeFor (length g)) fnv g n buffer) (a, after)
+
+-- the answer a is the row in slot n of the page g, whose code begins the buffer k
+pub record SlotGiven (g : List ℕ) (n : ℕ) (a : Out) (k : List ℕ) : Type 0 where
+  pub row : StoredRow
+  pub there : getElem? (rowsOn (read g)) n ≡ some row
+  pub buffer : List ℕ
+  pub gives : (a, k) ≡ giving row buffer
+  pub long : length k ≡ 64
+
+-- a page that inspection does not refuse, of n rows
+pub record Shown (g : List ℕ) (n : ℕ) : Type 0 where
+  pub whole : length g ≡ size (shapeFor (length g))
+  pub keeps : PageKeeps (shapeFor (length g)) fnv g
+  pub rows : n ≡ length (rowsOn (read g))
+
+-- the page g is refused as inspection refuses it, or it has so many rows
+pub record PageAsked (g : List ℕ) (o : Outcome) : Type 0 where
+  pub refused : (PageKeeps (shapeFor (length g)) fnv g → ⊥) → TellsOnly (refusedAt 2 0) o
+  pub rows : PageKeeps (shapeFor (length g)) fnv g → Numbers (length (rowsOn (read g))) o
+
+-- the store has a page p, at the size that it says
+pub record HasPage (s : List ℕ) (p : ℕ) : Type 0 where
+  pub said : 24 ≤ length s
+  pub within : p < pages (shapeOf s) s
+
+-- page p of the store is asked; where there is none the line is unknown
+pub record InspectAsked (p : ℕ) (s : List ℕ) (o : Outcome) : Type 0 where
+  pub there : HasPage s p → PageAsked (page (shapeOf s) s p) o
+  pub absent : (HasPage s p → ⊥) → Passes o
+
+-- a report: where n rows are told, they were laid out and summed over the store's listing
+pub record ReportAsked (s : List ℕ) (o : Outcome) : Type 0 where
+  pub reads : Untouched o
+  pub rows : (n : ℕ) → o ≡ Listed n → (fl : List ℕ) × ((x : Sums) × Reports s fl n (summed x))
+
 -- a command on the store s; its code begins the buffer k
 abbrev pub Does : List ℕ → Command → List ℕ → Outcome → List ℕ → Type 0
 Does k (Put n p m) s o t = Written (put (take n k) p m) s o t
@@ -103,12 +156,13 @@ Does k Count s o t = Asked count s o × (t ≡ s)
 Does k (Row n) s o t = RowAsked n s o × (t ≡ s)
 Does k Listing s o t = ListAsked s o × (t ≡ s)
 Does k Check s o t = Asked check s o × (t ≡ s)
-Does k (Inspect n) s o t = Untouched o × (t ≡ s)
-Does k Report s o t = Untouched o × (t ≡ s)
+Does k (Inspect n) s o t = InspectAsked n s o × (t ≡ s)
+Does k Report s o t = ReportAsked s o × (t ≡ s)
 
--- the line is a command, and that is done
+-- the line is a command, whose code has room for 4,096 bytes, and that is done
 pub record Obeys (line s : List ℕ) (o : Outcome) (t : List ℕ) : Type 0 where
   pub code : List ℕ
+  pub long : length code ≡ 4096
   pub command : Command
   pub means : Means line code command
   pub does : Does code command s o t

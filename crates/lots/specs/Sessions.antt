@@ -54,15 +54,10 @@ pub record Kept (z : Session) (s : List ℕ) (r : Session) (t : List ℕ) : Type
   pub long : Quiet r → r .len ≡ z .len
   pub holds : SessionHolds r t
 
--- the whole input on the first len bytes of s: where r is quiet, they are as they were
-pub record Ran (len : ℕ) (s : List ℕ) (r : Session) (t : List ℕ) : Type 0 where
-  pub same : Quiet r → t ≡ s
-  pub long : Quiet r → r .len ≡ len
-  pub holds : SessionHolds r t
-
 -- A format of n pages of a size: the call answers on so many of the buffer's bytes, whatever they held, and these are the store then, unless it is refused.
 pub record FormatAsked (n size : ℕ) (z : Session) (s : List ℕ) (r : Session) (t : List ℕ) : Type 0 where
   pub len : ℕ
+  pub within : len ≤ length s
   pub long : n ≤ 4098 → size ≤ 16384 → n * size ≤ length s → len ≡ n * size
   pub answer : Out
   pub left : List ℕ
@@ -70,6 +65,10 @@ pub record FormatAsked (n size : ℕ) (z : Session) (s : List ℕ) (r : Session)
   pub refused : ok answer ≡ false → (t ≡ s) × (r .len ≡ z .len)
   pub done : ok answer ≡ true → (take len t ≡ left) × (r .len ≡ len)
 
--- A format that a line asks, with anew or not: where it would clear nothing or anew is said, and the buffer has room, the call is made.
-abbrev pub FormatDue : ℕ → ℕ → Bool → Session → List ℕ → Session → List ℕ → Type 0
-FormatDue n size anew z s r t = (z .len ≡ 0) ⊎ (anew ≡ true) → n * size ≤ length s → FormatAsked n size z s r t
+-- A format is due where it would clear nothing or anew is said, and the buffer has room.
+abbrev pub Due : ℕ → ℕ → Bool → Session → List ℕ → Type 0
+Due n size anew z s = ((z .len ≡ 0) ⊎ (anew ≡ true)) × (n * size ≤ length s)
+
+-- A format that a line asks: the call is made, or it is not due and the store is as it was.
+abbrev pub FormatTold : ℕ → ℕ → Bool → Session → List ℕ → Session → List ℕ → Type 0
+FormatTold n size anew z s r t = FormatAsked n size z s r t ⊎ ((Due n size anew z s → ⊥) × (t ≡ s) × (r .len ≡ z .len))

@@ -1,13 +1,11 @@
 // The line `report SHEET`: the sheet read, the report asked, and its rows and sums told.
 ghost use mathlib.Core.Path.{_≡_};
-ghost use Prim.Native.Nat.{_*_, _≤_};
-ghost use lib.ListN.{length};
-ghost use Rattle.hash.specs.Fnv.{fnv};
+ghost use Prim.Native.Nat.{_+_, _*_, _≤_, _<_};
+ghost use lib.ListN.{length, replicate};
 ghost use Rattle.partition.specs.Sizes.{shapeOf};
-ghost use Rattle.store.specs.Accepted.{Accepted};
-ghost use Rattle.report.specs.Report.{limit};
-ghost use Rattle.report.specs.Named.{LaidSheet, Markable};
-ghost use Rattle.lots.specs.Obeys.{Untouched};
+ghost use Rattle.report.specs.Report.{limit, missing, summed};
+ghost use Rattle.lots.specs.Obeys.{Passes, ReportAsked};
+ghost use Rattle.lots.specs.Reports.{MarkedRows, Reports, RowGiven, Summable};
 use super::say;
 use super::sheets;
 use crate::Outcome;
@@ -57,7 +55,9 @@ fn tell_bad_row(l: usize) -> bool {
     say::text(&text[0..k])
 }
 
-fn tell_not_there(p: Place, number: usize) -> bool {
+fn tell_not_there(s: &[u8], flat: &[u64], n: usize, p: Place, number: usize) -> bool
+    requires { ⌜ Reports (now s) (now flat) n (missing p) ⌝ }
+{
     let mut text = [0u8; 140];
     let k = commands::not_there_line(p, number, &mut text);
     say::text(&text[0..k])
@@ -75,48 +75,55 @@ fn tell_no_row(number: usize, l: usize) -> bool {
     say::text(&text[0..k])
 }
 
-// A row that no code names, or more than one does; of any other nothing is told.
-fn tell_row(r: NamedRow) -> bool {
+// Row i of n, if no code names it or more than one does; of any other nothing is told.
+fn tell_row(s: &[u8], z: Shape, flat: &[u64], n: usize, i: usize, r: NamedRow) -> bool
+    requires { ⌜ RowGiven z (now s) (now flat) n i r ⌝ }
+{
     match r {
-        NamedRow::Hidden(p, z) => tell_amount(b"hidden", p, z),
-        NamedRow::Doubled(p, z) => tell_amount(b"doubled", p, z),
+        NamedRow::Hidden(p, c) => tell_amount(b"hidden", p, c),
+        NamedRow::Doubled(p, c) => tell_amount(b"doubled", p, c),
         NamedRow::Once => true,
     }
 }
 
+// Of n rows the one after the first i by its mark, and how many are told then: no more where it could not be written.
+fn tell_next(s: &[u8], z: Shape, flat: &[u64], counts: &[u8], n: usize, i: usize) -> usize
+    requires { ⌜ MarkedRows z (now s) (now flat) n (now counts) × (i < n) ⌝ }
+    ensures { λ r. ⌜ (i ≤ r) × (r ≤ i + 1) ⌝ }
+{
+    let r = report::named_row(flat, counts, i);
+    if tell_row(s, z, flat, n, i, r) {
+        return i + 1;
+    }
+    i
+}
+
 // Every row of the sheet by its mark, in the sheet's order.
-fn tell_rows(flat: &[u64], counts: &[u8]) -> bool
-    requires { ⌜ LaidSheet (now flat) (length (now counts)) ⌝ }
+fn tell_rows(s: &[u8], z: Shape, flat: &[u64], counts: &[u8], n: usize) -> bool
+    requires { ⌜ MarkedRows z (now s) (now flat) n (now counts) ⌝ }
 {
     let mut i = 0;
-    while i < counts.len() {
-        let r = report::named_row(flat, counts, i);
-        if !tell_row(r) {
+    while i < n {
+        let next = tell_next(s, z, flat, counts, n, i);
+        if next == i {
             return false;
         }
-        i += 1;
+        i = next;
     }
     true
 }
 
-// The same of a sheet of n rows, as many as there are marks.
-fn tell_first(flat: &[u64], counts: &[u8], n: usize) -> bool
-    requires { ⌜ LaidSheet (now flat) n × (length (now counts) ≡ n) ⌝ }
-{
-    tell_rows(flat, counts)
-}
-
 // The rows that a report is about, by a tally of their own into n clear marks.
 fn tell_marked(s: &[u8], z: Shape, flat: &[u64], counts: &mut [u8], n: usize) -> bool
-    requires { ⌜ Markable z (now s) (now flat) n × (length (now counts) ≡ n) ⌝ }
+    requires { ⌜ Summable z (now s) (now flat) n × (now counts ≡ replicate n 0) ⌝ }
 {
     report::mark_rows(s, z, flat, counts);
-    tell_first(flat, counts, n)
+    tell_rows(s, z, flat, counts, n)
 }
 
 // The same with marks of its own.
 fn tell_fresh(s: &[u8], z: Shape, flat: &[u64], n: usize) -> bool
-    requires { ⌜ Markable z (now s) (now flat) n ⌝ }
+    requires { ⌜ Summable z (now s) (now flat) n ⌝ }
 {
     let mut counts = [0u8; LIMIT];
     tell_marked(s, z, flat, &mut counts[..n], n)
@@ -124,13 +131,15 @@ fn tell_fresh(s: &[u8], z: Shape, flat: &[u64], n: usize) -> bool
 
 // The same at the page size that the store says.
 fn tell_named(s: &[u8], flat: &[u64], n: usize) -> bool
-    requires { ⌜ Accepted (shapeOf (now s)) fnv (now s) × LaidSheet (now flat) n ⌝ }
+    requires { ⌜ Summable (shapeOf (now s)) (now s) (now flat) n ⌝ }
 {
     let z = partition::shape_of(s);
     tell_fresh(s, z, flat, n)
 }
 
-fn tell_sums(x: Sums) -> bool {
+fn tell_sums(s: &[u8], flat: &[u64], n: usize, x: Sums) -> bool
+    requires { ⌜ Reports (now s) (now flat) n (summed x) ⌝ }
+{
     if !tell_sum(b"total", x.total) {
         return false;
     }
@@ -142,7 +151,7 @@ fn tell_sums(x: Sums) -> bool {
 
 // A line that is not obeyed was answered, or could not be.
 fn passed(written: bool) -> Outcome
-    ensures { λ r. ⌜ Untouched r ⌝ }
+    ensures { λ r. ⌜ Passes r ⌝ }
 {
     if !written {
         return Outcome::Stopped;
@@ -153,17 +162,17 @@ fn passed(written: bool) -> Outcome
 // The report's answer on the sheet's numbers; `bad` is the line of the first row that breaks a rule.
 fn tell(s: &[u8], flat: &[u64], n: usize, bad: usize, number: usize) -> Outcome
     requires { ⌜ length (now flat) ≡ 2 * limit ⌝ }
-    ensures { λ r. ⌜ Untouched r ⌝ }
+    ensures { λ r. ⌜ ReportAsked (now (s .entry)) r ⌝ }
 {
     match report::judge(s, flat, n) {
         report::Outcome::Refused(r) => passed(say::answer(Answer::Refused(r), b"", number)),
         report::Outcome::BadSheet => passed(tell_bad_row(bad)),
-        report::Outcome::NotInSheet(p) => passed(tell_not_there(p, number)),
+        report::Outcome::NotInSheet(p) => passed(tell_not_there(s, flat, n, p, number)),
         report::Outcome::Summed(x) => {
             if !tell_named(s, flat, n) {
                 return Outcome::Stopped;
             }
-            if !tell_sums(x) {
+            if !tell_sums(s, flat, n, x) {
                 return Outcome::Stopped;
             }
             Outcome::Listed(n)
@@ -173,7 +182,7 @@ fn tell(s: &[u8], flat: &[u64], n: usize, bad: usize, number: usize) -> Outcome
 
 // The report over the sheet of that name.
 pub fn ask(s: &[u8], name: &[u8], number: usize) -> Outcome
-    ensures { λ r. ⌜ Untouched r ⌝ }
+    ensures { λ r. ⌜ ReportAsked (now (s .entry)) r ⌝ }
 {
     let mut flat = [0u64; 2 * LIMIT];
     let z = sheets::load(name, &mut flat);

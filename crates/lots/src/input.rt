@@ -4,7 +4,8 @@ ghost use mathlib.Core.Bool.{true, false};
 ghost use mathlib.Core.Logic.{_⊎_};
 ghost use Prim.Native.Nat.{_*_, _≤_};
 ghost use lib.ListN.{length};
-ghost use Rattle.lots.specs.Sessions.{After, Alike, FormatAsked, FormatDue, SessionHolds, Kept, Ran};
+ghost use Rattle.lots.specs.Runs.{BeforeAnew, Ran, Turned, Went};
+ghost use Rattle.lots.specs.Sessions.{After, Alike, FormatAsked, FormatTold, SessionHolds, Kept};
 use super::known;
 use super::obey;
 use super::say;
@@ -126,7 +127,7 @@ fn lacks_room(n: usize, size: usize, most: usize) -> bool
 // A format of n pages of a size that a line asks.
 fn ask_format(store: &mut [u8], z: Session, n: usize, size: usize, anew: bool) -> Session
     requires { ⌜ SessionHolds z (now store) ⌝ }
-    ensures { λ r. ⌜ Kept z (now (store .entry)) r (now (store .exit)) × (r .fill ≡ z .fill) × FormatDue n size anew z (now (store .entry)) r (now (store .exit)) ⌝ }
+    ensures { λ r. ⌜ Kept z (now (store .entry)) r (now (store .exit)) × (r .fill ≡ z .fill) × FormatTold n size anew z (now (store .entry)) r (now (store .exit)) ⌝ }
 {
     if held_back(z.len, anew) {
         return after(z, obey::unknown(Fault::Filled, z.number));
@@ -139,7 +140,7 @@ fn ask_format(store: &mut [u8], z: Session, n: usize, size: usize, anew: bool) -
 
 // Where ` anew` stands at the end of a format, or the end.
 fn before_anew(line: &[u8]) -> usize
-    ensures { λ r. ⌜ r ≤ length (now (line .entry)) ⌝ }
+    ensures { λ r. ⌜ BeforeAnew (now (line .entry)) r ⌝ }
 {
     let n = line.len();
     if n < 12 {
@@ -158,7 +159,7 @@ fn before_anew(line: &[u8]) -> usize
 // A command on the store.
 fn command(store: &mut [u8], z: Session, line: &[u8]) -> Session
     requires { ⌜ SessionHolds z (now store) ⌝ }
-    ensures { λ r. ⌜ Kept z (now (store .entry)) r (now (store .exit)) × (r .fill ≡ z .fill) ⌝ }
+    ensures { λ r. ⌜ Turned (now (line .entry)) z (now (store .entry)) r (now (store .exit)) ⌝ }
 {
     let n = before_anew(line);
     let len = z.len;
@@ -172,7 +173,7 @@ fn command(store: &mut [u8], z: Session, line: &[u8]) -> Session
 // A whole line.
 fn turn(store: &mut [u8], z: Session, line: &[u8]) -> Session
     requires { ⌜ SessionHolds z (now store) ⌝ }
-    ensures { λ r. ⌜ Kept z (now (store .entry)) r (now (store .exit)) × (r .fill ≡ z .fill) ⌝ }
+    ensures { λ r. ⌜ Turned (now (line .entry)) z (now (store .entry)) r (now (store .exit)) ⌝ }
 {
     if same(line, b"quit") {
         let mut y = z;
@@ -238,7 +239,7 @@ fn text_end(line: &[u8], e: usize) -> usize
 // The end of a line: it is obeyed, and the next one begins.
 fn end_line(store: &mut [u8], z: Session, line: &[u8]) -> Session
     requires { ⌜ SessionHolds z (now store) × (z .fill ≤ length (now line)) ⌝ }
-    ensures { λ r. ⌜ Kept z (now (store .entry)) r (now (store .exit)) × (r .fill ≡ 0) ⌝ }
+    ensures { λ r. ⌜ Went z (now (store .entry)) r (now (store .exit)) × (r .fill ≡ 0) ⌝ }
 {
     let y = next_line(z);
     let e = text_end(line, z.fill);
@@ -294,7 +295,7 @@ fn is_blank(b: u8) -> bool {
 // One byte of the input; none after the line quit.
 fn take(store: &mut [u8], z: Session, line: &mut [u8], b: u8) -> Session
     requires { ⌜ SessionHolds z (now store) × (z .fill ≤ length (now line)) ⌝ }
-    ensures { λ r. ⌜ Kept z (now (store .entry)) r (now (store .exit)) × (r .fill ≤ length (now (line .exit))) ⌝ }
+    ensures { λ r. ⌜ Went z (now (store .entry)) r (now (store .exit)) × (r .fill ≤ length (now (line .exit))) ⌝ }
 {
     if z.ended {
         return z;
@@ -311,7 +312,7 @@ fn take(store: &mut [u8], z: Session, line: &mut [u8], b: u8) -> Session
 // A piece of the input.
 fn feed(store: &mut [u8], z: Session, line: &mut [u8], piece: &[u8]) -> Session
     requires { ⌜ SessionHolds z (now store) × (z .fill ≤ length (now line)) ⌝ }
-    ensures { λ r. ⌜ Kept z (now (store .entry)) r (now (store .exit)) × (r .fill ≤ length (now (line .exit))) ⌝ }
+    ensures { λ r. ⌜ Went z (now (store .entry)) r (now (store .exit)) × (r .fill ≤ length (now (line .exit))) ⌝ }
 {
     let mut y = z;
     let mut i = 0;
@@ -328,7 +329,7 @@ fn feed(store: &mut [u8], z: Session, line: &mut [u8], piece: &[u8]) -> Session
 // What one read of the input brings.
 fn read(store: &mut [u8], z: Session, line: &mut [u8]) -> Session
     requires { ⌜ SessionHolds z (now store) × (z .fill ≤ length (now line)) ⌝ }
-    ensures { λ r. ⌜ Kept z (now (store .entry)) r (now (store .exit)) × (r .fill ≤ length (now (line .exit))) ⌝ }
+    ensures { λ r. ⌜ Went z (now (store .entry)) r (now (store .exit)) × (r .fill ≤ length (now (line .exit))) ⌝ }
 {
     let mut y = z;
     say::prompt(y.terminal);
@@ -350,7 +351,7 @@ fn read(store: &mut [u8], z: Session, line: &mut [u8]) -> Session
 // The whole input. A proved loop has to end, and nothing says that the input does: it counts down from a number that no run uses up.
 fn read_all(store: &mut [u8], z: Session, line: &mut [u8]) -> Session
     requires { ⌜ SessionHolds z (now store) × (z .fill ≤ length (now line)) ⌝ }
-    ensures { λ r. ⌜ Kept z (now (store .entry)) r (now (store .exit)) × (r .fill ≤ length (now (line .exit))) ⌝ }
+    ensures { λ r. ⌜ Went z (now (store .entry)) r (now (store .exit)) × (r .fill ≤ length (now (line .exit))) ⌝ }
 {
     let mut y = z;
     let mut turns = u64::MAX;

@@ -1,6 +1,6 @@
 -- What a page's rules say of one slot. Assumes nothing.
-use Prim.Native.Nat.{ℕ, _+_, _*_, _-_, _≤_, _<_}
-use mathlib.Core.Path.{_≡_}
+use Prim.Native.Nat.{ℕ, _+_, _*_, _-_, _/_, _%_, _≤_, _<_}
+use mathlib.Core.Path.{_≡_, ap}
 use mathlib.Core.Logic.{⊎-elim}
 use mathlib.Core.List.{List}
 use native.Mathlib.Omega.{arith}
@@ -9,7 +9,7 @@ use Rattle.ground.specs.Lists.{part}
 use Rattle.ground.proofs.Sides.{side}
 use Rattle.words.specs.Codes.{Before}
 use Rattle.words.proofs.Orders.{before-trans}
-use Rattle.page.specs.Page.{Slotted, Belongs, count, frontier, off, len, code}
+use Rattle.page.specs.Page.{Slotted, Belongs, count, frontier, word, off, len, kind, code}
 
 -- slot i of a page, in numbers
 pub record Lies (p : List ℕ) (i : ℕ) : Type 0 where
@@ -31,6 +31,11 @@ lies i b h = record {
   most = b .most;
   here = h;
 }
+
+-- offset and length from slot i's word, 1 above the length
+pub split-word : {p : List ℕ} (i w : ℕ) → Slotted p → i < count p → w ≡ word p i → (w % 16384 ≡ off p i) × (w / 16384 ≡ 16384 + len p i)
+unfolding off len kind
+split-word {p} i w b h e = (ap (λ x. x % 16384) e, omega (arith, b .kinds i h, e))
 
 -- the part of a page that holds slot i's code
 pub code-part : (p : List ℕ) (i o l : ℕ) → o ≡ off p i → l ≡ len p i → 8 ≤ l → take ((o + l) - (o + 8)) (drop (o + 8) p) ≡ code p i

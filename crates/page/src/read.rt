@@ -26,9 +26,12 @@ pub fn code_at(page: &[u8], i: usize) -> &[u8]
     requires { ⌜ Slotted (now page) × (i < count (now page)) ⌝ }
     ensures { λ r. ⌜ now r ≡ code (now (page .entry)) i ⌝ }
 {
-    let e = extent_of(page, i);
-    let from = e.off + 8;
-    let to = e.off + e.len;
+    let w = words::get32(page, page.len() - 4 * (i + 1));
+    let o = w % 16384;
+    // of a record that lies, 1 stands above its length
+    let l = w / 16384 - 16384;
+    let from = o + 8;
+    let to = o + l;
     &page[from..to]
 }
 

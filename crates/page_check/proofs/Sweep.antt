@@ -15,7 +15,7 @@ use Rattle.page.specs.Page.{off, len, word, code, count, frontier, free, need, 
 use Rattle.page_check.specs.Rules.{WordOk, SlotsOk, Preceded, Codes, prior, offOf, lenOf, slotOf}
 use Rattle.page_check.specs.Big.{Lead, Led}
 use Rattle.page_check.specs.Table.{Table, NextOk}
-use Rattle.page_check.proofs.Table.{table-none, table-more, vacant-of}
+use Rattle.page_check.proofs.Table.{table-none, table-more}
 
 -- of the first n slots each keeps its rules, they are in code order, and the table is theirs
 pub record Swept (p : List ℕ) (n f : ℕ) (t : List ℕ) : Type 0 where
@@ -32,21 +32,20 @@ unfolding word
 word-is p i w e = e
 
 module _ (p t : List ℕ) (f j : ℕ) (s : Swept p j f t) where
-  pub swept-more : (q : List ℕ) → f ≤ length t → NextOk p t f j (word p j) → q ≡ set t (offOf (word p j)) (lenOf (word p j)) → Swept p (j + 1) f q
+  pub swept-more : (q : List ℕ) → f ≤ length t → NextOk p f j (word p j) → q ≡ set t (offOf (word p j)) (lenOf (word p j)) → Swept p (j + 1) f q
   unfolding off len code
   swept-more q h n e = record {
     words = below-more (λ i. WordOk p f (word p i)) j (s .words) (n .sound);
     ascending = below-more (λ i. Before (prior p i) (code p i)) j (s .ascending) (n .rises);
-    table = table-more p t j f (s .table) q (n .sound .after) (omega (arith, n .sound .short)) (n .sound .inside) h (n .vacant) e;
+    table = table-more p t j f (s .table) q (n .sound .after) (n .sound .short) (n .sound .inside) h e;
   }
 
   -- where the slots keep their rules, so does the next
-  pub next-of : f ≡ frontier p → j < count p → SlotsOk p → NextOk p t f j (word p j)
+  pub next-of : f ≡ frontier p → j < count p → SlotsOk p → NextOk p f j (word p j)
   unfolding off len code
   next-of e h l = record {
     sound = rw e (l .words j h);
     rises = l .ascending j h;
-    vacant = vacant-of p t j f (s .table) (count p) h (l .starts);
   }
 
   -- the records before slot j lie in the page
@@ -104,4 +103,4 @@ unfolding len
 needs-more p j w e = rw e (omega (arith, total-more (need p) j))
 
 pub slots-all : (p t : List ℕ) (f : ℕ) → f ≡ frontier p → Swept p (count p) f t → free p + total (need p) (count p) ≡ length p - 8 → SlotsOk p
-slots-all p t f e s u = record { words = rw e at (s .words); ascending = s .ascending; starts = s .table .starts; unused = u }
+slots-all p t f e s u = record { words = rw e at (s .words); ascending = s .ascending; unused = u }

@@ -12,13 +12,13 @@ use Rattle.ground.proofs.Sides.{side, same}
 use Rattle.words.specs.Moves.{Cleared}
 use Rattle.words.specs.Zeros.{Zero}
 use Rattle.page.specs.Page.{off, len}
-use Rattle.page_check.specs.Table.{entries, Table, Inside}
+use Rattle.page_check.specs.Table.{entries, Distinct, Table, Inside}
 
 -- an or is below 128 just where both are
 pub or-small : (x y : ℕ) → bitOr x y < 128 → (x < 128) × (y < 128)
 or-small x y h = omega (arith, or-add-and x y, and-le-l x y, and-le-r x y)
 
--- an entry made and one taken back
+-- an entry made, one written over and one taken back
 pub entries-more : (t : List ℕ) (k v : ℕ) → k < length t → byte t k ≡ 0 → 1 ≤ v → entries (set t k v) ≡ entries t + 1
 unfolding entries
 entries-more [] k v h z l = absurd (omega arith)
@@ -28,6 +28,15 @@ entries-more (suc x ∷ t) zero v h z l = absurd (omega arith)
 entries-more (zero ∷ t) (suc k) v h z l = entries-more t k v (omega arith) z l
 entries-more (suc x ∷ t) (suc k) v h z l = omega (arith, entries-more t k v (omega arith) z l)
 
+pub entries-over : (t : List ℕ) (k v : ℕ) → 1 ≤ byte t k → 1 ≤ v → entries (set t k v) ≡ entries t
+unfolding entries
+entries-over [] k v h l = refl
+entries-over (zero ∷ t) zero v h l = absurd (omega arith)
+entries-over (suc x ∷ t) zero zero h l = absurd (omega arith)
+entries-over (suc x ∷ t) zero (suc v) h l = refl
+entries-over (zero ∷ t) (suc k) v h l = entries-over t k v h l
+entries-over (suc x ∷ t) (suc k) v h l = omega (arith, entries-over t k v h l)
+
 pub entries-less : (t : List ℕ) (k : ℕ) → 1 ≤ byte t k → entries (set t k 0) + 1 ≡ entries t
 unfolding entries
 entries-less [] k h = absurd (omega arith)
@@ -35,12 +44,6 @@ entries-less (zero ∷ t) zero h = absurd (omega arith)
 entries-less (suc x ∷ t) zero h = omega arith
 entries-less (zero ∷ t) (suc k) h = entries-less t k h
 entries-less (suc x ∷ t) (suc k) h = omega (arith, entries-less t k h)
-
--- a zero written over a zero
-pub set-zero : (t : List ℕ) (k : ℕ) → byte t k ≡ 0 → set t k 0 ≡ t
-set-zero [] k z = refl
-set-zero (x ∷ t) zero z = ap (λ y. y ∷ t) (sym z)
-set-zero (x ∷ t) (suc k) z = ap (λ u. x ∷ u) (set-zero t k z)
 
 -- no entry where all is zero
 pub entries-none : (t : List ℕ) → Zero t → entries t ≡ 0
@@ -61,10 +64,11 @@ table-none p t f z = record {
   after = λ i h. absurd (omega arith);
   short = λ i h. absurd (omega arith);
   inside = λ i h. absurd (omega arith);
-  starts = λ i j h. absurd (omega arith);
-  at = λ i h. absurd (omega arith);
   only = λ k. inl (z k);
-  number = entries-none t z;
+  most = omega (arith, entries-none t z);
+  starts = λ _ i j h. absurd (omega arith);
+  at = λ _ i h. absurd (omega arith);
+  full = λ _. entries-none t z;
 }
 
 module _ (p t : List ℕ) (n f : ℕ) (b : Table p n f t) where
@@ -75,38 +79,52 @@ module _ (p t : List ℕ) (n f : ℕ) (b : Table p n f t) where
     above = λ k h. ⊎-elim (λ z. z) (λ u. absurd (omega (arith, u .2, b .inside (u .0) (u .1), b .short (u .0) (u .1)))) (b .only k);
   }
 
-  -- a record that starts where none of the first n does has no entry at its start
-  pub vacant-of : (c : ℕ) → n < c → ((i j : ℕ) → i < c → j < c → off p i ≡ off p j → i ≡ j) → byte t (off p n) ≡ 0
-  vacant-of c h s = ⊎-elim (λ z. z) (λ u. absurd (omega (arith, u .1, s (u .0) n (omega (arith, u .1)) h (u .2)))) (b .only (off p n))
-
   -- the next record's entry
-  pub table-more : (q : List ℕ) → 8 ≤ off p n → 1 ≤ len p n → off p n + len p n ≤ f → f ≤ length t → byte t (off p n) ≡ 0 → q ≡ set t (off p n) (len p n) → Table p (n + 1) f q
-  table-more q a s l g z e = record {
+  pub table-more : (q : List ℕ) → 8 ≤ off p n → 9 ≤ len p n → off p n + len p n ≤ f → f ≤ length t → q ≡ set t (off p n) (len p n) → Table p (n + 1) f q
+  table-more q a s l g e = record {
     after = λ i h. ⊎-elim (λ x. rw x a) (λ x. b .after i (omega (arith, x))) (same i n);
     short = λ i h. ⊎-elim (λ x. rw x s) (λ x. b .short i (omega (arith, x))) (same i n);
     inside = λ i h. ⊎-elim (λ x. rw x l) (λ x. b .inside i (omega (arith, x))) (same i n);
-    starts = λ i j h k x. ⊎-elim
-        (λ y. ⊎-elim (λ w. y ∙ sym w) (λ w. absurd (apart j (omega (arith, w)) (sym x ∙ ap (off p) y))) (same j n))
-        (λ y. ⊎-elim (λ w. absurd (apart i (omega (arith, y)) (x ∙ ap (off p) w))) (λ w. b .starts i j (omega (arith, y)) (omega (arith, w)) x) (same j n))
-        (same i n);
-    at = λ i h. ⊎-elim
-        (λ x. rw x new)
-        (λ x. let m : i < n = omega (arith, x) in rw e (getD-set-other t (off p n) (off p i) (len p n) 0 (apart i m) ∙ b .at i m))
-        (same i n);
     only = λ k. ⊎-elim
-        (λ x. inr (n, omega arith, sym x))
-        (λ x. ⊎-elim
-        (λ y. inl (rw e (getD-set-other t (off p n) k (len p n) 0 x ∙ y)))
-        (λ u. inr (u .0, omega (arith, u .1), u .2)) (b .only k))
+        (λ x. inr (n, omega arith, sym x, rw x new))
+        (λ x. ⊎-elim (λ y. inl (kept k x ∙ y)) (λ u. inr (u .0, omega (arith, u .1), u .2, kept k x ∙ u .3)) (b .only k))
         (same k (off p n));
-    number = rw e (omega (arith, entries-more t (off p n) (len p n) (omega arith) z s, b .number));
+    most = ⊎-elim (λ z. omega (arith, more z, b .most)) (λ z. omega (arith, over z, b .most)) (same (byte t (off p n)) 0);
+    starts = λ m. let v = vacant m in let o = exact m in λ i j h k x. ⊎-elim
+        (λ y. ⊎-elim (λ w. y ∙ sym w) (λ w. absurd (apart v o j (omega (arith, w)) (sym x ∙ ap (off p) y))) (same j n))
+        (λ y. ⊎-elim (λ w. absurd (apart v o i (omega (arith, y)) (x ∙ ap (off p) w))) (λ w. b .starts o i j (omega (arith, y)) (omega (arith, w)) x) (same j n))
+        (same i n);
+    at = λ m i h. ⊎-elim
+        (λ x. rw x new)
+        (λ x. let r : i < n = omega (arith, x) in kept (off p i) (apart (vacant m) (exact m) i r) ∙ b .at (exact m) i r)
+        (same i n);
+    full = λ d. let u = b .full (λ i j h k. d i j (omega arith) (omega arith)) in omega (arith, more (free d), u);
   }
     where
       new : byte q (off p n) ≡ len p n
       new = rw e (getD-set-same t (off p n) (len p n) 0 (omega arith))
 
-      apart : (i : ℕ) → i < n → off p i ≡ off p n → ⊥
-      apart i h x = omega (arith, b .short i h, b .at i h, ap (byte t) x)
+      kept : (k : ℕ) → (k ≡ off p n → ⊥) → byte q k ≡ byte t k
+      kept k x = rw e (getD-set-other t (off p n) k (len p n) 0 x)
+
+      more : byte t (off p n) ≡ 0 → entries q ≡ entries t + 1
+      more z = rw e (entries-more t (off p n) (len p n) (omega arith) z (omega arith))
+
+      over : (byte t (off p n) ≡ 0 → ⊥) → entries q ≡ entries t
+      over z = rw e (entries-over t (off p n) (len p n) (omega arith) (omega arith))
+
+      -- where all have an entry, there was none at the next one's start
+      vacant : entries q ≡ n + 1 → byte t (off p n) ≡ 0
+      vacant m = ⊎-elim (λ z. z) (λ z. absurd (omega (arith, over z, b .most))) (same (byte t (off p n)) 0)
+
+      exact : entries q ≡ n + 1 → entries t ≡ n
+      exact m = omega (arith, more (vacant m))
+
+      apart : byte t (off p n) ≡ 0 → entries t ≡ n → (i : ℕ) → i < n → off p i ≡ off p n → ⊥
+      apart v o i h x = omega (arith, b .short i h, b .at o i h, ap (byte t) x)
+
+      free : Distinct p (n + 1) → byte t (off p n) ≡ 0
+      free d = ⊎-elim (λ z. z) (λ u. absurd (omega (arith, u .1, d (u .0) n (omega (arith, u .1)) (omega arith) (u .2)))) (b .only (off p n))
 
 -- what lies between 8 and f cleared, all is zero
 pub cleared : (t q : List ℕ) (f : ℕ) → Inside f t → Cleared t 8 f q → Zero q

@@ -9,11 +9,13 @@ use lib.ListN.{length, set, List·getD-eq-default}
 use lib.Seq.{getD-set-same, getD-set-other}
 use Rattle.ground.specs.Lists.{byte}
 use Rattle.ground.proofs.Sides.{side, same}
+use Rattle.words.specs.Moves.{Span}
 use Rattle.words.specs.Zeros.{Zero}
 use Rattle.words.proofs.Zeros.{or-zero, zero-or}
 use Rattle.page.specs.Page.{In, off, len}
-use Rattle.page_check.specs.Table.{entries, Table, Inside, Laid}
-use Rattle.page_check.proofs.Table.{entries-less, entries-none, none-entries, inside-of, set-zero}
+use Rattle.page_check.specs.Table.{entries, Distinct, Table, Inside, Laid}
+use Rattle.page_check.specs.Marks.{OfPlace, Marked}
+use Rattle.page_check.proofs.Table.{entries-less, entries-none, none-entries, inside-of}
 
 abbrev Apart : List ℕ → ℕ → Type 0
 Apart p n = (i j k : ℕ) → i < n → j < n → In p i k → In p j k → i ≡ j
@@ -37,36 +39,100 @@ pub record Walked (p : List ℕ) (n f : ℕ) (t m : List ℕ) (x e met acc : ℕ
   pub spent : Apart p n → (k : ℕ) → k < x → byte m k ≡ 0
   pub clear : Laid p n f → acc ≡ 0
 
+-- u at byte x: the entries m that are left, and 255 on the places of the records met
+pub record Marking (p : List ℕ) (n : ℕ) (m : List ℕ) (x : ℕ) (u : List ℕ) : Type 0 where
+  pub ahead : (k : ℕ) → x ≤ k → byte u k ≡ byte m k
+  pub places : (i k : ℕ) → Met p n m i → OfPlace p i k → byte u k ≡ 255
+  pub only : (k : ℕ) → (byte u k ≡ byte m k) ⊎ ((i : ℕ) × (i < n) × OfPlace p i k)
+
 -- g, where the last bytes of no record end, is x only where the last record, ending at e, does not end there
 pub record Gap (g x e : ℕ) : Type 0 where
   pub to : g ≤ x
   pub met : g < x → e ≡ x
   pub none : 8 < x → g ≡ x → e < x
 
+-- at byte x, whether or not two records start at one byte: of the table t the entries m are left, met records were met, and u is t from x on
+pub record Passed (t : List ℕ) (f : ℕ) (m : List ℕ) (x met : ℕ) (u : List ℕ) : Type 0 where
+  pub from : 8 ≤ x
+  pub to : x ≤ f
+  pub later : (k : ℕ) → x ≤ k → byte m k ≡ byte t k
+  pub left : entries m + met ≡ entries t
+  pub ahead : (k : ℕ) → x ≤ k → byte u k ≡ byte t k
+  pub inside : Inside f u
+
 module _ (p t : List ℕ) (n f : ℕ) (b : Table p n f t) where
+  pub passed-none : 8 ≤ f → Passed t f t 8 0 t
+  passed-none h = record { from = omega arith; to = h; later = λ k _. refl; left = omega arith; ahead = λ k _. refl; inside = inside-of p t n f b }
+
+  module _ (m u : List ℕ) (x met : ℕ) (w : Passed t f m x met u) (l : x < f) where
+    pub passed-hole : Passed t f m (x + 1) met u
+    passed-hole = record {
+      from = omega (arith, w .from);
+      to = omega arith;
+      later = λ k h. w .later k (omega arith);
+      left = w .left;
+      ahead = λ k h. w .ahead k (omega arith);
+      inside = w .inside;
+    }
+
+    -- the record that starts here is 9 bytes long or more, and ends before f
+    pub ends-within : 1 ≤ byte u x → (9 ≤ byte u x) × (x + byte u x ≤ f)
+    ends-within s = ⊎-elim
+        (λ z. absurd (omega (arith, w .ahead x (omega arith))))
+        (λ r. (omega (arith, w .ahead x (omega arith), r .3, b .short (r .0) (r .1)), omega (arith, w .ahead x (omega arith), r .2, r .3, b .inside (r .0) (r .1))))
+        (b .only x)
+
+    pub passed-record : (v : List ℕ) → 1 ≤ byte u x → Span u x (x + 8) (λ _. 255) v → Passed t f (set m x 0) (x + byte u x) (met + 1) v
+    passed-record v s c =
+        let r = ends-within s in
+        record {
+          from = omega (arith, w .from);
+          to = r .1;
+          later = λ k h. getD-set-other m x k 0 0 (λ y. omega (arith, y, r .0)) ∙ w .later k (omega arith);
+          left = omega (arith, w .left, entries-less m x (omega (arith, w .later x (omega arith), w .ahead x (omega arith))));
+          ahead = λ k h. c .above k (omega (arith, r .0)) ∙ w .ahead k (omega arith);
+          inside = record {
+            below = λ k h. c .below k (omega (arith, w .from)) ∙ w .inside .below k h;
+            above = λ k h. c .above k (omega (arith, r .0, r .1)) ∙ w .inside .above k h;
+          };
+        }
+
+-- a table where no two records start at one byte
+pub record Exact (p : List ℕ) (n f : ℕ) (t : List ℕ) : Type 0 where
+  pub table : Table p n f t
+  pub all : entries t ≡ n
+
+-- records that lie apart start at bytes of their own
+pub distinct-of : (p : List ℕ) (n f : ℕ) (t : List ℕ) → Table p n f t → Laid p n f → Distinct p n
+distinct-of p n f t b d i j h l e = d .apart i j (off p i) h l (record { from = omega arith; to = omega (arith, b .short i h) }) (record { from = omega (arith, e); to = omega (arith, e, b .short j l) })
+
+module _ (p t : List ℕ) (n f : ℕ) (b : Exact p n f t) where
+  fresh : (i : ℕ) → Met p n t i → ⊥
+  fresh i u = omega (arith, b .table .at (b .all) i (u .0), b .table .short i (u .0), u .1)
+
+  pub marking-none : Marking p n t 8 t
+  marking-none = record { ahead = λ k _. refl; places = λ i k u. absurd (fresh i u); only = λ k. inl refl }
+
   pub walked-none : 8 ≤ f → Walked p n f t t 8 8 0 0
   walked-none h = record {
     from = omega arith;
     to = h;
     later = λ k _. refl;
     never = λ k z. z;
-    left = omega (arith, b .number);
+    left = omega (arith, b .all);
     apart = λ i j k u. absurd (fresh i u);
     done = λ i u. absurd (fresh i u);
     till = omega arith;
     ends = inl refl;
     zeros = λ _ k l g. absurd (omega arith);
-    spent = λ _ k l. inside-of p t n f b .below k l;
+    spent = λ _ k l. inside-of p t n f (b .table) .below k l;
     clear = λ _. refl;
   }
-    where
-      fresh : (i : ℕ) → Met p n t i → ⊥
-      fresh i u = omega (arith, b .at i (u .0), b .short i (u .0), u .1)
 
   module _ (m : List ℕ) (x e met acc : ℕ) (w : Walked p n f t m x e met acc) (l : x < f) where
     -- a byte at which no record starts
-    hole : byte m x ≡ 0 → Walked p n f t m (x + 1) e met (bitOr acc (byte p x))
-    hole z = record {
+    pub walked-hole : byte m x ≡ 0 → Walked p n f t m (x + 1) e met (bitOr acc (byte p x))
+    walked-hole z = record {
       from = omega (arith, w .from);
       to = omega arith;
       later = λ k h. w .later k (omega arith);
@@ -80,24 +146,50 @@ module _ (p t : List ℕ) (n f : ℕ) (b : Table p n f t) where
       spent = λ a k h. ⊎-elim (λ s. rw s z) (λ s. w .spent a k (omega (arith, s))) (same k x);
       clear = λ d. zero-or acc (byte p x) (w .clear d) (d .clear x (w .from) l (λ i h y. ⊎-elim
           (λ s. omega (arith, y .to, w .till, w .done i (h, w .spent (d .apart) (off p i) s)))
-          (λ s. let o : off p i ≡ x = omega (arith, y .from) in omega (arith, w .later x (omega arith), b .at i h, ap (byte t) o, b .short i h))
+          (λ s. let o : off p i ≡ x = omega (arith, y .from) in omega (arith, w .later x (omega arith), b .table .at (b .all) i h, ap (byte t) o, b .table .short i h))
           (side (off p i) x)));
     }
-
-    pub walked-hole : (q : List ℕ) → byte m x ≡ 0 → q ≡ set m x 0 → Walked p n f t q (x + 1) e met (bitOr acc (byte p x))
-    walked-hole q z g = rw (g ∙ set-zero m x z) (hole z)
 
     -- the record that starts here
     pub here : 1 ≤ byte m x → (i : ℕ) × (i < n) × (off p i ≡ x) × (byte m x ≡ len p i)
     here s = ⊎-elim
         (λ z. absurd (omega (arith, w .later x (omega arith))))
-        (λ u. (u .0, u .1, u .2, w .later x (omega arith) ∙ sym (ap (byte t) (u .2)) ∙ b .at (u .0) (u .1)))
-        (b .only x)
+        (λ u. (u .0, u .1, u .2, w .later x (omega arith) ∙ u .3))
+        (b .table .only x)
+
+    pub marking-hole : (u : List ℕ) → Marking p n m x u → Marking p n m (x + 1) u
+    marking-hole u a = record { ahead = λ k h. a .ahead k (omega arith); places = a .places; only = a .only }
+
+    -- its entry is taken back, and its place marked
+    pub marking-record : (u v : List ℕ) → 1 ≤ byte m x → Marking p n m x u → Span u x (x + 8) (λ _. 255) v → Marking p n (set m x 0) (x + byte m x) v
+    marking-record u v s a c = record {
+      ahead = λ k h. c .above k (omega (arith, long)) ∙ a .ahead k (omega arith) ∙ sym (kept k (λ y. omega (arith, y, long)));
+      places = λ i k q y. ⊎-elim
+          (λ o. c .new k (omega (arith, y .from, o)) (omega (arith, y .to, o)))
+          (λ o. let old = a .places i k (q .0, sym (kept (off p i) o) ∙ q .1) y in ⊎-elim (λ h. c .below k h ∙ old) (λ h. ⊎-elim (λ g. c .new k h g) (λ g. c .above k g ∙ old) (side k (x + 8))) (side k x))
+          (same (off p i) x);
+      only = λ k. ⊎-elim
+          (λ h. ⊎-elim (λ y. inl (c .below k h ∙ y ∙ sym (kept k (λ z. omega (arith, z, h))))) (λ z. inr z) (a .only k))
+          (λ h. ⊎-elim
+          (λ g. inr (r .0, r .1, record { from = omega (arith, r .2); to = omega (arith, r .2) }))
+          (λ g. ⊎-elim (λ y. inl (c .above k g ∙ y ∙ sym (kept k (λ z. omega (arith, z, g))))) (λ z. inr z) (a .only k))
+          (side k (x + 8)))
+          (side k x);
+    }
+      where
+        r : (i : ℕ) × (i < n) × (off p i ≡ x) × (byte m x ≡ len p i)
+        r = here s
+
+        long : 9 ≤ byte m x
+        long = omega (arith, r .3, b .table .short (r .0) (r .1))
+
+        kept : (k : ℕ) → (k ≡ x → ⊥) → byte (set m x 0) k ≡ byte m k
+        kept k y = getD-set-other m x k 0 0 y
 
     pub walked-record : (q : List ℕ) → 1 ≤ byte m x → q ≡ set m x 0 → Walked p n f t q (x + byte m x) (x + byte m x) (met + 1) acc
     walked-record q s g = record {
       from = omega (arith, w .from);
-      to = omega (arith, b .inside i₀ (r .1), r .2, r .3);
+      to = omega (arith, b .table .inside i₀ (r .1), r .2, r .3);
       later = λ k h. kept k (λ y. omega arith) ∙ w .later k (omega arith);
       never = λ k z. ⊎-elim (λ y. rw y gone) (λ y. kept k y ∙ w .never k z) (same k x);
       left = rw g (omega (arith, entries-less m x s, w .left));
@@ -113,8 +205,8 @@ module _ (p t : List ℕ) (n f : ℕ) (b : Table p n f t) where
           (λ y. rw y gone)
           (λ y. kept k y ∙ ⊎-elim (λ c. w .spent a k c) (λ c. w .later k c ∙ ⊎-elim
           (λ z. z)
-          (λ u. absurd (y (sym (u .2) ∙ ap (off p) (a (u .0) i₀ k (u .1) (r .1) (record { from = omega (arith, u .2); to = omega (arith, u .2, b .short (u .0) (u .1)) }) (within k c h)) ∙ r .2)))
-          (b .only k)) (side k x))
+          (λ u. absurd (y (sym (u .2) ∙ ap (off p) (a (u .0) i₀ k (u .1) (r .1) (record { from = omega (arith, u .2); to = omega (arith, u .2, b .table .short (u .0) (u .1)) }) (within k c h)) ∙ r .2)))
+          (b .table .only k)) (side k x))
           (same k x);
       clear = w .clear;
     }
@@ -133,7 +225,7 @@ module _ (p t : List ℕ) (n f : ℕ) (b : Table p n f t) where
 
         -- a record that is met is this one or was met before
         before : (i : ℕ) → Met p n q i → (i ≡ i₀) ⊎ Met p n m i
-        before i u = ⊎-elim (λ y. inl (b .starts i i₀ (u .0) (r .1) (y ∙ sym (r .2)))) (λ y. inr (u .0, sym (kept (off p i) y) ∙ u .1)) (same (off p i) x)
+        before i u = ⊎-elim (λ y. inl (b .table .starts (b .all) i i₀ (u .0) (r .1) (y ∙ sym (r .2)))) (λ y. inr (u .0, sym (kept (off p i) y) ∙ u .1)) (same (off p i) x)
 
         past : (i k : ℕ) → Met p n m i → In p i k → In p i₀ k → ⊥
         past i k u y z = omega (arith, w .done i u, w .till, y .to, z .from, r .2, r .3)
@@ -142,12 +234,18 @@ module _ (p t : List ℕ) (n f : ℕ) (b : Table p n f t) where
         within k h c = record { from = omega (arith, r .2, r .3); to = omega (arith, r .2, r .3) }
 
   module _ (m : List ℕ) (e met acc : ℕ) (w : Walked p n f t m f e met acc) where
-    pub inside-still : Inside f m
-    inside-still = record { below = λ k h. w .never k (inside-of p t n f b .below k h); above = λ k h. w .never k (inside-of p t n f b .above k h) }
+    inside-still : Inside f m
+    inside-still = record { below = λ k h. w .never k (inside-of p t n f (b .table) .below k h); above = λ k h. w .never k (inside-of p t n f (b .table) .above k h) }
 
     -- all met
-    pub emptied : met ≡ n → Zero m
+    emptied : met ≡ n → Zero m
     emptied h = none-entries m (omega (arith, w .left))
+
+    pub marked-all : (u : List ℕ) → Marking p n m f u → met ≡ n → Marked p n u
+    marked-all u a h = record {
+      places = λ i k l y. a .places i k (l, emptied h (off p i)) y;
+      only = λ k. ⊎-elim (λ y. inl (y ∙ emptied h k)) (λ z. inr z) (a .only k);
+    }
 
     pub laid-of : 17 ≤ f → acc ≡ 0 → met ≡ n → e ≡ f → Laid p n f
     laid-of l z h s = record {

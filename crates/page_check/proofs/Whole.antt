@@ -80,7 +80,6 @@ pub slots-of : (p : List ℕ) → BucketPage p → SlotsOk p
 slots-of p b = record {
   words = λ i h. word-of p i (slot i h);
   ascending = climbs;
-  starts = λ i j h l e. b .rules .apart i j (off p i) h l (record { from = omega arith; to = omega (arith, b .rules .short i h) }) (record { from = omega arith; to = omega (arith, b .rules .short j l) });
   unused = b .rules .unused;
 }
   where

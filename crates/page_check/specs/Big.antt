@@ -10,6 +10,17 @@ unfoldable pub big : ℕ → List ℕ → ℕ → ℕ
 big zero s k = zero
 big (suc n) s k = 256 * big n s k + byte s (k + n)
 
+-- four bytes, and eight
+pub record Bytes4 (a b c d : ℕ) : Type 0 where
+  pub first : a < 256
+  pub second : b < 256
+  pub third : c < 256
+  pub fourth : d < 256
+
+pub record Bytes8 (a b c d e f g h : ℕ) : Type 0 where
+  pub high : Bytes4 a b c d
+  pub low : Bytes4 e f g h
+
 -- bytes a up to b of p
 pub record Stretch (p : List ℕ) (a b : ℕ) : Type 0 where
   pub order : a ≤ b

@@ -1,4 +1,5 @@
 pub mod Rules
 pub mod Big
 pub mod Table
+pub mod Marks
 pub mod Shared

@@ -60,9 +60,8 @@ pub record Codes (p : List ℕ) (w : ℕ) (c : List ℕ) : Type 0 where
   pub inside : offOf w + lenOf w ≤ length p
   pub is : part p (offOf w + 8) (lenOf w - 8) ≡ c
 
--- the slots with their records: each for itself, in code order, no two from one byte, and the needs with total free
+-- the slots with their records: each for itself, in code order, and the needs with total free
 pub record SlotsOk (p : List ℕ) : Type 0 where
   pub words : (i : ℕ) → i < count p → WordOk p (frontier p) (word p i)
   pub ascending : (i : ℕ) → i < count p → Before (prior p i) (code p i)
-  pub starts : (i j : ℕ) → i < count p → j < count p → off p i ≡ off p j → i ≡ j
   pub unused : free p + total (need p) (count p) ≡ length p - 8

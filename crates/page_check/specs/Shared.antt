@@ -2,8 +2,9 @@
 use Prim.Native.Nat.{ℕ, _≤_, _<_}
 use mathlib.Core.Path.{_≡_}
 use mathlib.Core.List.{List}
-use lib.Bits.{bitXor}
+use lib.ListN.{length}
 use Rattle.words.specs.Folds.{Folded}
+use Rattle.words.specs.Zeros.{Zero}
 use Rattle.hash.specs.Fnv.{fnv}
 use Rattle.partition.specs.Bits.{top}
 use Rattle.page.specs.Page.{BucketPage, depth, count, code}
@@ -20,10 +21,22 @@ Share h p = (i j : ℕ) → i < count p → j < count p → top (depth p) (h (co
 abbrev pub Spelled : List ℕ → Type 0
 Spelled p = (i : ℕ) → i < count p → Folded (code p i)
 
--- slot i's code has no capital, and the difference of its hash and the first is below m
-pub record SlotOk (p : List ℕ) (i first m : ℕ) : Type 0 where
-  pub folded : Folded (code p i)
-  pub near : bitXor first (fnv (code p i)) < m
+-- the bucket page's rules, no capital included
+pub record PageOk (p : List ℕ) : Type 0 where
+  pub rules : BucketPage p
+  pub folded : Spelled p
+
+-- a bucket page, the hash of its first code, and k bits at most those of a hash
+pub record FirstHash (p : List ℕ) (first k : ℕ) : Type 0 where
+  pub rules : BucketPage p
+  pub hash : first ≡ fnv (code p 0)
+  pub bits : k ≤ 32
+
+-- a table as long as the page, of zeros, and a deepest depth of no more bits than a hash has
+pub record LentTable (p t : List ℕ) (deepest : ℕ) : Type 0 where
+  pub same : length t ≡ length p
+  pub zero : Zero t
+  pub bits : deepest ≤ 32
 
 -- the bucket page's rules, no capital and shared hash bits included, local depth 0 to the deepest
 pub record Keeps (deepest : ℕ) (p : List ℕ) : Type 0 where

@@ -6,8 +6,9 @@ use mathlib.Core.List.{List, [], _∷_}
 use lib.ListN.{length}
 use Rattle.ground.specs.Lists.{byte, part}
 use Rattle.words.specs.Codes.{Before}
-use Rattle.page.specs.Page.{In, off, len}
-use Rattle.page_check.specs.Rules.{WordOk, Preceded, offOf, lenOf, slotOf, prior}
+use Rattle.words.specs.Zeros.{Zero}
+use Rattle.page.specs.Page.{In, off, len, count, frontier}
+use Rattle.page_check.specs.Rules.{HeadOk, WordOk, Preceded, offOf, lenOf, slotOf, prior}
 use Rattle.page_check.specs.Big.{Stretch, Lead, Led}
 
 -- how many bytes are not zero
@@ -16,15 +17,35 @@ entries [] = zero
 entries (zero ∷ t) = entries t
 entries (suc x ∷ t) = suc (entries t)
 
--- the first n records lie between 8 and f, no two start at one byte, and t has an entry for each and no other
+-- no two of the first n records start at one byte
+abbrev pub Distinct : List ℕ → ℕ → Type 0
+Distinct p n = (i j : ℕ) → i < n → j < n → off p i ≡ off p j → i ≡ j
+
+-- the first n records lie between 8 and f, and t has entries at their starts only; there are n exactly when no two start at one byte, and then each has its own
 pub record Table (p : List ℕ) (n f : ℕ) (t : List ℕ) : Type 0 where
   pub after : (i : ℕ) → i < n → 8 ≤ off p i
-  pub short : (i : ℕ) → i < n → 1 ≤ len p i
+  pub short : (i : ℕ) → i < n → 9 ≤ len p i
   pub inside : (i : ℕ) → i < n → off p i + len p i ≤ f
-  pub starts : (i j : ℕ) → i < n → j < n → off p i ≡ off p j → i ≡ j
-  pub at : (i : ℕ) → i < n → byte t (off p i) ≡ len p i
-  pub only : (k : ℕ) → (byte t k ≡ 0) ⊎ ((i : ℕ) × (i < n) × (off p i ≡ k))
-  pub number : entries t ≡ n
+  pub only : (k : ℕ) → (byte t k ≡ 0) ⊎ ((i : ℕ) × (i < n) × (off p i ≡ k) × (byte t k ≡ len p i))
+  pub most : entries t ≤ n
+  pub starts : entries t ≡ n → Distinct p n
+  pub at : entries t ≡ n → (i : ℕ) → i < n → byte t (off p i) ≡ len p i
+  pub full : Distinct p n → entries t ≡ n
+
+-- a page whose header keeps its rules, of n rows and frontier f, and a table as long as it, of zeros
+pub record HeadKnown (p t : List ℕ) (n f : ℕ) : Type 0 where
+  pub head : HeadOk p
+  pub rows : n ≡ count p
+  pub front : f ≡ frontier p
+  pub same : length t ≡ length p
+  pub zero : Zero t
+
+-- a page of frontier f, and a table as long as it, of its n records
+pub record Tabled (p t : List ℕ) (n f : ℕ) : Type 0 where
+  pub start : 17 ≤ f
+  pub within : f ≤ length p
+  pub same : length t ≡ length p
+  pub table : Table p n f t
 
 -- zeros before 8 and from f on
 pub record Inside (f : ℕ) (t : List ℕ) : Type 0 where
@@ -51,8 +72,7 @@ pub record Turn (p t : List ℕ) (f k lead w next : ℕ) : Type 0 where
   pub pair : Pair p k lead (offOf w + 8) (offOf w + lenOf w) next
   pub same : length t ≡ length p
 
--- slot i's word w: its own rules, in code order, no entry at its start
-pub record NextOk (p t : List ℕ) (f i w : ℕ) : Type 0 where
+-- slot i's word w: its own rules, in code order
+pub record NextOk (p : List ℕ) (f i w : ℕ) : Type 0 where
   pub sound : WordOk p f w
   pub rises : Before (prior p i) (part p (offOf w + 8) (lenOf w - 8))
-  pub vacant : byte t (offOf w) ≡ 0

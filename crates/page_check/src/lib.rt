@@ -1,4 +1,4 @@
-// Whether bytes are a bucket page: the rules of its bytes by page_ok, capitals and the shared bits of its hashes slot by slot.
+// Whether bytes are a bucket page: the rules of its bytes by page_ok, the shared bits of its hashes slot by slot.
 ghost use mathlib.Core.Path.{_≡_};
 ghost use mathlib.Core.Bool.{true, false};
 ghost use Prim.Native.Nat.{_+_, _*_, _-_, _^_, _≤_, _<_};
@@ -7,15 +7,15 @@ ghost use lib.ListN.{length, set};
 ghost use Rattle.ground.specs.Says.{Says};
 ghost use Rattle.ground.specs.Lists.{part};
 ghost use Rattle.words.specs.Codes.{Before};
-ghost use Rattle.words.specs.Folds.{Folded};
 ghost use Rattle.words.specs.Zeros.{Zero};
 ghost use Rattle.hash.specs.Fnv.{fnv};
 ghost use Rattle.partition.specs.Bits.{top};
-ghost use Rattle.page.specs.Page.{BucketPage, depth, count, frontier, code};
+ghost use Rattle.page.specs.Page.{BucketPage, depth, count, code};
 ghost use Rattle.page_check.specs.Rules.{HeadOk, NaturalAt, WordOk, SlotsOk, offOf, lenOf, slotOf, prior, Preceded, Codes};
-ghost use Rattle.page_check.specs.Table.{Table, Inside, Laid, Pair, Turn, NextOk};
-ghost use Rattle.page_check.specs.Big.{big, Stretch, Lead};
-ghost use Rattle.page_check.specs.Shared.{Spelled, SlotOk, Alike, Share, Keeps};
+ghost use Rattle.page_check.specs.Table.{Table, HeadKnown, Tabled, Inside, Laid, Pair, Turn, NextOk};
+ghost use Rattle.page_check.specs.Marks.{Marked, NoCapital};
+ghost use Rattle.page_check.specs.Big.{Bytes4, Bytes8, big, Stretch, Lead};
+ghost use Rattle.page_check.specs.Shared.{PageOk, FirstHash, LentTable, Alike, Share, Keeps};
 use words::Order;
 
 // Size, byte 0, row count, and a frontier that leaves room for a record and for the slots.
@@ -79,14 +79,14 @@ fn word_ok(page: &[u8], f: usize, w: usize) -> bool
 
 // Four bytes as one number, and eight: nested so that they become one load.
 fn join4(a: usize, b: usize, c: usize, d: usize) -> usize
-    requires { ⌜ (a < 256) × (b < 256) × (c < 256) × (d < 256) ⌝ }
+    requires { ⌜ Bytes4 a b c d ⌝ }
     ensures { λ r. ⌜ (r ≡ a * 16777216 + (b * 65536 + (c * 256 + d))) × (r < 4294967296) ⌝ }
 {
     words::on(a, 24, words::on(b, 16, words::on(c, 8, d)))
 }
 
 fn join8(a: usize, b: usize, c: usize, d: usize, e: usize, f: usize, g: usize, h: usize) -> usize
-    requires { ⌜ (a < 256) × (b < 256) × (c < 256) × (d < 256) × (e < 256) × (f < 256) × (g < 256) × (h < 256) ⌝ }
+    requires { ⌜ Bytes8 a b c d e f g h ⌝ }
     ensures { λ r. ⌜ r ≡ (a * 16777216 + (b * 65536 + (c * 256 + d))) * 4294967296 + (e * 16777216 + (f * 65536 + (g * 256 + h))) ⌝ }
 {
     words::on(
@@ -164,7 +164,7 @@ fn rises(page: &[u8], k: usize, lead: usize, x: usize, y: usize, next: usize) ->
     }
 }
 
-// The word of the slot at k, after a code of that lead: code order, and its length entered at its start, where none was.
+// The word of the slot at k, after a code of that lead: code order, and its length entered at its start. Two that start at one byte have one entry, so that the walk meets too few.
 fn next_ok(
     page: &[u8],
     tab: &mut [u8],
@@ -175,7 +175,7 @@ fn next_ok(
     next: usize,
 ) -> bool
     requires { ⌜ Turn (now page) (now tab) f k lead w next ⌝ }
-    ensures says { λ r. ⌜ Says r (NextOk (now (page .entry)) (now (tab .entry)) f (slotOf (now (page .entry)) k) w) ⌝ }
+    ensures says { λ r. ⌜ Says r (NextOk (now (page .entry)) f (slotOf (now (page .entry)) k) w) ⌝ }
     ensures entered { λ r. ⌜ (r ≡ true → now (tab .exit) ≡ set (now (tab .entry)) (offOf w) (lenOf w)) ⌝ }
     ensures kept { λ r. ⌜ (r ≡ false → now (tab .exit) ≡ now (tab .entry)) ⌝ }
 {
@@ -184,16 +184,13 @@ fn next_ok(
     if !rises(page, k, lead, o + 8, o + l, next) {
         return false;
     }
-    if tab[o] != 0 {
-        return false;
-    }
     tab[o] = l as u8;
     true
 }
 
 // The slots with their records, in one pass, each at k; lead is that of the code before, none before the first.
 fn slots_ok(page: &[u8], tab: &mut [u8], n: usize, f: usize) -> bool
-    requires { ⌜ HeadOk (now page) × (n ≡ count (now page)) × (f ≡ frontier (now page)) × (length (now tab) ≡ length (now page)) × Zero (now tab) ⌝ }
+    requires { ⌜ HeadKnown (now page) (now tab) n f ⌝ }
     ensures says { λ r. ⌜ Says r (SlotsOk (now (page .entry))) ⌝ }
     ensures entered { λ r. ⌜ (r ≡ true → Table (now (page .entry)) n f (now (tab .exit))) ⌝ }
     ensures inside { λ r. ⌜ Inside f (now (tab .exit)) ⌝ }
@@ -220,12 +217,12 @@ fn slots_ok(page: &[u8], tab: &mut [u8], n: usize, f: usize) -> bool
     words::get16(page, 6) + 4 * n + lens == page.len() - 8
 }
 
-// From 8 to the frontier by the table: over each record that is met, its entry taken back, and the bytes of none or-ed; gap is where the last of these ends.
+// From 8 to the frontier by the table: over each record that is met, its place marked in the table, and the bytes of none or-ed; gap is where the last of these ends.
 // Met records lie apart; that all n are met, those bytes are zero and none of them is the last before f is that the records are laid well.
 fn walk(page: &[u8], tab: &mut [u8], n: usize, f: usize) -> bool
-    requires { ⌜ (17 ≤ f) × (f ≤ length (now page)) × (length (now tab) ≡ length (now page)) × Table (now page) n f (now tab) ⌝ }
+    requires { ⌜ Tabled (now page) (now tab) n f ⌝ }
     ensures says { λ r. ⌜ Says r (Laid (now (page .entry)) n f) ⌝ }
-    ensures emptied { λ r. ⌜ (r ≡ true → Zero (now (tab .exit))) ⌝ }
+    ensures marked { λ r. ⌜ (r ≡ true → Marked (now (page .entry)) n (now (tab .exit))) ⌝ }
     ensures inside { λ r. ⌜ Inside f (now (tab .exit)) ⌝ }
 {
     let mut pos = 8;
@@ -234,13 +231,13 @@ fn walk(page: &[u8], tab: &mut [u8], n: usize, f: usize) -> bool
     let mut acc: u8 = 0;
     while pos < f {
         let l = tab[pos] as usize;
-        tab[pos] = 0;
         if l == 0 {
             acc = acc | page[pos];
             pos += 1;
             gap = pos;
             continue;
         }
+        words::fill(tab, pos, pos + 8, 255);
         pos += l;
         met += 1;
     }
@@ -253,11 +250,36 @@ fn walk(page: &[u8], tab: &mut [u8], n: usize, f: usize) -> bool
     gap < f
 }
 
-// The rules after the header, of n rows and frontier f: where they hold, the table is zero again.
+// Where the test for capitals ends: by whole turns of 32 bytes where those end before the slots, at e, so that it has no rest.
+fn rounded(f: usize, e: usize) -> usize
+    requires { ⌜ (f ≤ e) × (e ≤ 16384) ⌝ }
+    ensures { λ r. ⌜ (f ≤ r) × (r ≤ e) ⌝ }
+{
+    let g = (f + 23) / 32 * 32 + 8;
+    if e < g {
+        return f;
+    }
+    g
+}
+
+// Whether no byte from 8 up to g is a capital, but for those that are marked. No way out before the end, so that it vectorises.
+fn no_capital(page: &[u8], tab: &[u8], g: usize) -> bool
+    requires { ⌜ (g ≤ length (now page)) × (g ≤ length (now tab)) ⌝ }
+    ensures { λ r. ⌜ Says r (NoCapital (now (page .entry)) (now (tab .entry)) g) ⌝ }
+{
+    let mut low: u8 = 255;
+    let mut k = 8;
+    while k < g {
+        low = words::lesser(low, words::letter(page[k] | tab[k]));
+        k += 1;
+    }
+    26 <= low
+}
+
+// The rules after the header, of n rows and frontier f.
 fn records_ok(page: &[u8], tab: &mut [u8], n: usize, f: usize) -> bool
-    requires { ⌜ HeadOk (now page) × (n ≡ count (now page)) × (f ≡ frontier (now page)) × (length (now tab) ≡ length (now page)) × Zero (now tab) ⌝ }
-    ensures says { λ r. ⌜ Says r (BucketPage (now (page .entry))) ⌝ }
-    ensures emptied { λ r. ⌜ (r ≡ true → Zero (now (tab .exit))) ⌝ }
+    requires { ⌜ HeadKnown (now page) (now tab) n f ⌝ }
+    ensures says { λ r. ⌜ Says r (PageOk (now (page .entry))) ⌝ }
     ensures inside { λ r. ⌜ Inside f (now (tab .exit)) ⌝ }
 {
     if !slots_ok(page, tab, n, f) {
@@ -267,13 +289,16 @@ fn records_ok(page: &[u8], tab: &mut [u8], n: usize, f: usize) -> bool
         return false;
     }
     let e = page.len() - 4 * n;
-    words::all_zero(&page[f..e])
+    if !words::all_zero(&page[f..e]) {
+        return false;
+    }
+    no_capital(page, tab, rounded(f, e))
 }
 
-// Whether the page keeps the rules of a bucket page (but for capitals and the hashes' shared bits). tab is scratch of the page's length, zero before and after.
+// Whether the page keeps the rules of a bucket page (but for the hashes' shared bits). tab is scratch of the page's length, zero before and after.
 pub fn page_ok(page: &[u8], tab: &mut [u8]) -> bool
     requires { ⌜ (length (now tab) ≡ length (now page)) × Zero (now tab) ⌝ }
-    ensures says { λ r. ⌜ Says r (BucketPage (now (page .entry))) ⌝ }
+    ensures says { λ r. ⌜ Says r (PageOk (now (page .entry))) ⌝ }
     ensures zero { λ r. ⌜ Zero (now (tab .exit)) ⌝ }
 {
     if !head_ok(page) {
@@ -281,35 +306,9 @@ pub fn page_ok(page: &[u8], tab: &mut [u8]) -> bool
     }
     let n = words::get16(page, 2);
     let f = words::get16(page, 4);
-    if records_ok(page, tab, n, f) {
-        return true;
-    }
+    let ok = records_ok(page, tab, n, f);
     words::clear(tab, 8, f);
-    false
-}
-
-// Whether slot i's code has no capital.
-pub fn slot_folded(page: &[u8], i: usize) -> bool
-    requires { ⌜ BucketPage (now page) × (i < count (now page)) ⌝ }
-    ensures { λ r. ⌜ Says r (Folded (code (now (page .entry)) i)) ⌝ }
-{
-    words::folded(page::code_at(page, i))
-}
-
-// Whether no code of a bucket page has a capital.
-pub fn spelled_ok(page: &[u8]) -> bool
-    requires { ⌜ BucketPage (now page) ⌝ }
-    ensures { λ r. ⌜ Says r (Spelled (now (page .entry))) ⌝ }
-{
-    let n = words::get16(page, 2);
-    let mut i = 0;
-    while i < n {
-        if !slot_folded(page, i) {
-            return false;
-        }
-        i += 1;
-    }
-    true
+    ok
 }
 
 // The hash of slot i's code.
@@ -343,20 +342,9 @@ pub fn differ_below(first: u32, x: u32, m: u64) -> bool
     ((first ^ x) as u64) < m
 }
 
-// Whether slot i's code has no capital, and the difference of its hash and the first is below m.
-pub fn slot_ok(page: &[u8], i: usize, first: u32, m: u64) -> bool
-    requires { ⌜ BucketPage (now page) × (i < count (now page)) ⌝ }
-    ensures { λ r. ⌜ Says r (SlotOk (now (page .entry)) i first m) ⌝ }
-{
-    if !slot_folded(page, i) {
-        return false;
-    }
-    differ_below(first, hash_slot(page, i), m)
-}
-
 // Whether the hashes of a bucket page, the first of them given, share their first k bits: their differences or-ed have none there.
 fn alike(page: &[u8], first: u32, k: u8) -> bool
-    requires { ⌜ BucketPage (now page) × (first ≡ fnv (code (now page) 0)) × (k ≤ 32) ⌝ }
+    requires { ⌜ FirstHash (now page) first k ⌝ }
     ensures { λ r. ⌜ Says r (Alike fnv (now (page .entry)) k) ⌝ }
 {
     let n = words::get16(page, 2);
@@ -379,7 +367,7 @@ pub fn share_ok(page: &[u8]) -> bool
 
 // Whether one page alone keeps every rule of a bucket page, with a local depth up to the deepest. tab is as for page_ok.
 pub fn bucket_ok(page: &[u8], tab: &mut [u8], deepest: u8) -> bool
-    requires { ⌜ (length (now tab) ≡ length (now page)) × Zero (now tab) × (deepest ≤ 32) ⌝ }
+    requires { ⌜ LentTable (now page) (now tab) deepest ⌝ }
     ensures says { λ r. ⌜ Says r (Keeps deepest (now (page .entry))) ⌝ }
     ensures zero { λ r. ⌜ Zero (now (tab .exit)) ⌝ }
 {
@@ -387,9 +375,6 @@ pub fn bucket_ok(page: &[u8], tab: &mut [u8], deepest: u8) -> bool
         return false;
     }
     if deepest < page[1] {
-        return false;
-    }
-    if !spelled_ok(page) {
         return false;
     }
     share_ok(page)

@@ -265,7 +265,7 @@ module _ (S : Shape) (h : List ℕ → ℕ) (hash : Hash h) (s : List ℕ) (p i 
                 let m : entryAt S s i ≡ p = one-calls S sized h s A i p l (home .from) (home .to) (calls-old i x) in
                 let w : q ≡ p = sym o ∙ m in
                 let u = subst (CallsFor S h t d i) w y in
-                omega (arith, z, home .from, W .named .first (omega (arith, home .from)) all-taken .named (low p (home .from) (home .to) (u .used)) i u))
+                omega (arith, z, home .from, W .named .at-page (omega (arith, home .from)) all-taken .named (low p (home .from) (home .to) (u .used)) i u))
                 (λ M. omega (arith, z, a, M .named (low q a b (y .used)) i y))
                 (each q a b)
 

@@ -3,12 +3,11 @@
 use mathlib.Core.Path.{_≡_, refl, sym, ap, subst, subst₂, _∙_}
 use mathlib.Core.List.{List}
 use mathlib.Core.Logic.{_⊎_, inl, inr, ⊎-elim}
-use Prim.Native.Nat.{ℕ, zero, suc, _+_, _-_, _*_, _/_, _^_, _≤_, _<_}
+use Prim.Native.Nat.{ℕ, _+_, _-_, _*_, _/_, _^_, _≤_, _<_}
 use native.Mathlib.Omega.{arith}
 use native.Mathlib.Decide.{ℕ-discrete}
-use native.Mathlib.Nat.{mul-le-mul-right}
 use lib.ListN.{length}
-use lib.Pow.{pow-mono, shr-shr}
+use lib.Pow.{shr-shr}
 use Rattle.ground.specs.Lists.{byte}
 use Rattle.ground.proofs.Sides.{side}
 use Rattle.ground.proofs.Tables.{length-tab}
@@ -28,7 +27,7 @@ use Rattle.store.proofs.Showing.Shows.{firstCode}
 use Rattle.store.proofs.Showing.Showing.{first-code}
 use Rattle.store.proofs.Accepted.Unique.{within}
 use Rattle.store.proofs.Paging.Views.{set-long, set-same, set-other, set-entry}
-use Rattle.directory.specs.Directory.{CallsFor, PrefixNamed}
+use Rattle.directory.specs.Directory.{CallsFor}
 use Rattle.directory.proofs.Directories.{page-above, calls-same}
 use Rattle.directory.proofs.Renews.{packed-bits}
 use Rattle.putting.specs.Split.{Bucketed, NewPage, NewEntry, EntriesWritten, NamedIf}
@@ -63,7 +62,7 @@ module _ (S : Shape) (h : List ℕ → ℕ) (d k v w : ℕ) (half : w / 2 ≡ v)
   written-within W = record {
     each = λ q a b. ⊎-elim inl (λ N. inr (page-within N)) (W .each q a b);
     entries = λ i l. ⊎-elim inl (λ E. inr (entry-within E)) (W .entries i l);
-    first = λ a e. page-within (W .first a e);
+    at-page = λ a e. page-within (W .at-page a e);
     left = W .left;
   }
 
@@ -73,7 +72,7 @@ pub none-named : (S : Shape) (h : List ℕ → ℕ) (s : List ℕ) (d k v at : �
 none-named S h s d k v at = record {
   each = λ q a b. inl refl;
   entries = λ i l. inl refl;
-  first = λ a e. absurd (omega arith);
+  at-page = λ a e. absurd (omega arith);
   left = λ _. (refl, refl);
 }
 
@@ -151,7 +150,7 @@ module _ (S : Shape) (h : List ℕ → ℕ) (d k v : ℕ) (fits : 2 ^ d ≤ S .e
     after = record {
       each = λ q a b. each q a (A .each q a b) (B .each q a (omega (arith, b, same-pages)));
       entries = λ i l. entry i (A .entries i l) (B .entries i l);
-      first = λ a e. new-then at (A .first a z) (B .each at (from a) (omega (arith, to, same-pages)));
+      at-page = λ a e. new-then at (A .at-page a z) (B .each at (from a) (omega (arith, to, same-pages)));
       left = λ a. absurd (omega (arith, B .left a .1));
     }
 
@@ -220,7 +219,7 @@ module _ (S : Shape) (sized : Sized S) (h : List ℕ → ℕ) (rs : List Row) (s
   one-named = record {
     each = λ x a b. go x a b (ℕ-discrete x n);
     entries = λ i l. ⊎-elim (low-entry i l) (λ o. inl (ap (λ y. entryAt S y i) (F .over o) ∙ inside i l)) low-or;
-    first = λ a e. let m : n ≡ at = its a in subst (NewPage S h s d k v at t) m new-page;
+    at-page = λ a e. let m : n ≡ at = its a in subst (NewPage S h s d k v at t) m new-page;
     left = λ a. absurd (omega arith);
   }
     where

@@ -1,7 +1,7 @@
 -- What the steps of a put on an accepted store ask and answer. Over any page size and hash. Assumes nothing.
 use mathlib.Core.Path.{_≡_}
 use mathlib.Core.List.{List}
-use Prim.Native.Nat.{ℕ, suc, _+_, _*_, _/_, _≤_, _<_}
+use Prim.Native.Nat.{ℕ, suc, _+_, _/_, _≤_, _<_}
 use lib.ListN.{length}
 use Rattle.words.specs.Codes.{GoodCode}
 use Rattle.words.specs.Folds.{Folded}
@@ -95,9 +95,3 @@ pub record Vacant (S : Shape) (s : List ℕ) (d x k : ℕ) : Type 0 where
   pub low : k ≤ d
   pub unset : Unset S s d k (top k x)
   pub above : (j : ℕ) → k ≡ suc j → Unset S s d j (top j x) → ⊥
-
--- the store is long enough for a directory, and d is a depth that there is
-pub record DirectoryOf (S : Shape) (s : List ℕ) (d : ℕ) : Type 0 where
-  pub sized : Sized S
-  pub long : 2 * size S ≤ length s
-  pub deep : d ≤ S .deepest

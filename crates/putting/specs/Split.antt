@@ -14,6 +14,7 @@ use Rattle.store.specs.Pages.{pages, page, entryAt, Page, contents, asRow}
 use Rattle.store.specs.Accepted.{GoodLength, Calls}
 use Rattle.store.specs.Demands.{Sized}
 use Rattle.store.specs.Moves.{find, isFree, frees, packFrom, packed, written}
+use Rattle.query.specs.Spots.{DirectoryOf}
 use Rattle.directory.specs.Directory.{CallsFor, PrefixNamed, Rewritten}
 use Rattle.putting.specs.Put.{newRow}
 
@@ -180,8 +181,14 @@ pub record NewEntry (S : Shape) (h : List ℕ → ℕ) (d k v n : ℕ) (t : List
 pub record EntriesWritten (S : Shape) (h : List ℕ → ℕ) (s : List ℕ) (d k v at : ℕ) (t : List ℕ) (p : ℕ) : Type 0 where
   pub each : (q : ℕ) → 2 ≤ q → q < pages S s → (page S t q ≡ page S s q) ⊎ NewPage S h s d k v at t q
   pub entries : (i : ℕ) → i < S .entries → (entryAt S t i ≡ entryAt S s i) ⊎ NewEntry S h d k v (pages S s) t i
-  pub first : 0 < at → p ≡ 0 → NewPage S h s d k v at t at
+  pub at-page : 0 < at → p ≡ 0 → NewPage S h s d k v at t at
   pub left : 0 < p → (t ≡ s) × (p ≡ at)
+
+-- a bucket's prefix, a directory of depth d, and p can be an entry
+pub record NamingBucket (S : Shape) (s : List ℕ) (k v d p : ℕ) : Type 0 where
+  pub prefix : PrefixIn S k v
+  pub directory : DirectoryOf S s d
+  pub word : p < 4294967296
 
 -- the entries that the prefix v of k bits calls for are p, if the directory, of depth d, has entries for it
 pub record NamedIf (S : Shape) (s : List ℕ) (d k v p : ℕ) (t : List ℕ) : Type 0 where

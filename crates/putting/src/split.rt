@@ -6,8 +6,8 @@ ghost use Rattle.hash.specs.Fnv.{fnv};
 ghost use Rattle.partition.specs.Bits.{top};
 ghost use Rattle.store.specs.Pages.{pages, contents};
 ghost use Rattle.store.specs.Tables.{putAccepted, meaning};
-ghost use Rattle.putting.specs.Put.{newRow, Crowded, Lent, DirectoryOf};
-ghost use Rattle.putting.specs.Split.{withNew, takenNext, PageComing, PrefixIn, NamedIf, Spread, BucketsWritten};
+ghost use Rattle.putting.specs.Put.{newRow, Crowded, Lent};
+ghost use Rattle.putting.specs.Split.{withNew, takenNext, PageComing, NamingBucket, NamedIf, Spread, BucketsWritten};
 use super::bucket::write_bucket;
 use super::weigh::count_below;
 use super::weigh::gather;
@@ -39,7 +39,7 @@ fn hash_under(v: u64, k: u32) -> u32
 
 // The entries that the prefix v of k bits calls for name page p, if the directory, of depth d, has entries for it.
 fn name_bucket(s: &mut [u8], z: Shape, k: u32, v: u64, d: u32, p: usize)
-    requires { ⌜ PrefixIn z k v × DirectoryOf z (now s) d × (p < 4294967296) ⌝ }
+    requires { ⌜ NamingBucket z (now s) k v d p ⌝ }
     ensures { λ _. ⌜ NamedIf z (now (s .entry)) d k v p (now (s .exit)) ⌝ }
 {
     if k <= d {

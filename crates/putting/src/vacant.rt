@@ -2,7 +2,8 @@
 ghost use Prim.Native.Nat.{_≤_};
 ghost use Rattle.ground.specs.Says.{Says};
 ghost use Rattle.partition.specs.Bits.{top};
-ghost use Rattle.putting.specs.Put.{Unset, Vacant, DirectoryOf};
+ghost use Rattle.query.specs.Spots.{DirectoryOf};
+ghost use Rattle.putting.specs.Put.{Unset, Vacant};
 use partition::Shape;
 
 // Whether no entry names a page, of those that the first k bits of the hash x call for in a directory of depth d.

@@ -11,14 +11,14 @@ use Rattle.partition.specs.declared.Shape.{Shape}
 use Rattle.store.specs.Pages.{pages, page, asRow}
 use Rattle.store.proofs.Accepted.Rules.{broken-one, accepted-whole}
 use Rattle.store.proofs.Demands.Settled.{some-one}
-use Rattle.store_check.specs.First.{FirstBad, Judged}
+use Rattle.store_check.specs.First.{FirstFrom, Judged}
 use Rattle.query.specs.Cursors.{Stepped}
 use Rattle.query.specs.declared.Cursor.{Cursor}
-use Rattle.query.specs.declared.Step.the-variants.{Given, Done}
+use Rattle.query.specs.declared.Step.the-variants.{Handed, Done}
 
--- a pass has one first bad page
-pub first-one : (n : ℕ) (P : ℕ → Type 0) (p q : ℕ) → FirstBad n P p → FirstBad n P q → p ≡ q
-first-one n P p q a b = ⊎-elim
+-- a pass has one first bad page, from wherever it starts
+pub first-one : (m n : ℕ) (P : ℕ → Type 0) (p q : ℕ) → FirstFrom m n P p → FirstFrom m n P q → p ≡ q
+first-one m n P p q a b = ⊎-elim
     (λ l. absurd (a .bad (omega (arith, b .within)) (b .before p l (a .start))))
     (λ g. ⊎-elim (λ l. absurd (b .bad (omega (arith, a .within)) (a .before q l (b .start)))) (λ h. omega arith) (side q p)) (side p q)
 
@@ -30,8 +30,8 @@ judged-one S h s p q a b = ⊎-elim
     (side p (pages S s))
 
 -- a place of the listing has one row, or none: so has a step from before it, wherever its cursor stands
-pub stepped-one : (S : Shape) (s : List ℕ) (n p i q j : ℕ) (c e : Cursor) → Stepped S s n (Given p i c) → Stepped S s n (Given q j e) → asRow (rowAt (page S s p) i) ≡ asRow (rowAt (page S s q) j)
+pub stepped-one : (S : Shape) (s : List ℕ) (n p i q j : ℕ) (c e : Cursor) → Stepped S s n (Handed p i c) → Stepped S s n (Handed q j e) → asRow (rowAt (page S s p) i) ≡ asRow (rowAt (page S s q) j)
 stepped-one S s n p i q j c e a b = some-one _ _ (a .0 .1) (b .0 .1)
 
-pub stepped-done : (S : Shape) (s : List ℕ) (n p i : ℕ) (c : Cursor) → Stepped S s n (Given p i c) → Stepped S s n Done → ⊥
+pub stepped-done : (S : Shape) (s : List ℕ) (n p i : ℕ) (c : Cursor) → Stepped S s n (Handed p i c) → Stepped S s n Done → ⊥
 stepped-done S s n p i c a b = none-some b (a .0 .1)

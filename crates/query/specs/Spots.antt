@@ -5,12 +5,26 @@ use mathlib.Core.Option.{some, none}
 use Prim.Native.Nat.{ℕ, _+_, _*_, _≤_, _<_}
 use lib.ListN.{length, getElem?}
 use Rattle.hash.specs.Fnv.{fnv}
+use Rattle.ground.specs.Lists.{byte}
 use Rattle.page.specs.Page.{BucketPage, count, place, code, rowAt}
 use Rattle.partition.specs.declared.Shape.{Shape}
 use Rattle.partition.specs.Listing.{listing, placeOf}
 use Rattle.store.specs.Pages.{size, page, asRow, rowsHeld}
+use Rattle.store.specs.Demands.{Sized}
 use Rattle.query.specs.declared.Spot.{Spot}
 use Rattle.query.specs.declared.Spot.the-variants.{Here, Nowhere}
+
+-- the store is long enough for a directory, and d is a depth that there is
+pub record DirectoryOf (S : Shape) (s : List ℕ) (d : ℕ) : Type 0 where
+  pub sized : Sized S
+  pub long : 2 * size S ≤ length s
+  pub deep : d ≤ S .deepest
+
+-- the page at offset a is not deeper than d, and d is no more than the deepest depth of all sizes
+pub record ShallowAt (s : List ℕ) (a d : ℕ) : Type 0 where
+  pub there : a + 2 ≤ length s
+  pub low : byte s (a + 1) ≤ d
+  pub deep : d ≤ 12
 
 -- slot i of the bucket page p
 pub record OnPage (S : Shape) (s : List ℕ) (p i : ℕ) : Type 0 where

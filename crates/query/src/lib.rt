@@ -12,7 +12,7 @@ ghost use Rattle.store.specs.Pages.{page, asRow, rowsHeld};
 ghost use Rattle.store.specs.Accepted.{Accepted};
 ghost use Rattle.store.specs.Demands.{Sized};
 ghost use Rattle.store.specs.Tables.{checkTable, countTable, lookedUp, lookupTable, rowOf, rowTable, giving, meaning};
-ghost use Rattle.query.specs.Asked.{Asked};
+ghost use Rattle.query.specs.Asked.{Asked, RowSought};
 ghost use Rattle.query.specs.Spots.{OnPage};
 use partition::Shape;
 use store::Answer;
@@ -42,7 +42,7 @@ pub struct Cursor {
 
 // A row's page and slot with the cursor behind it, or no row is left.
 pub enum Step {
-    Given(usize, usize, Cursor),
+    Handed(usize, usize, Cursor),
     Done,
 }
 
@@ -133,7 +133,7 @@ pub fn read_row(s: &[u8], z: Shape, p: usize, i: usize, out: &mut [u8]) -> Answe
 
 // The row at place n of the listing, its code to the start of the output, on an accepted store.
 pub fn give_row(s: &[u8], z: Shape, n: usize, out: &mut [u8]) -> Answer
-    requires { ⌜ Sized z × Accepted z fnv (now s) × (64 ≤ length (now out)) ⌝ }
+    requires { ⌜ RowSought z fnv (now s) (now out) ⌝ }
     ensures { λ r. ⌜ Answers (rowOf (listing z fnv (rowsHeld z (now (s .entry)))) n (now (out .entry))) (meaning r, now (out .exit)) ⌝ }
 {
     match spots::nth_row(s, z, n) {

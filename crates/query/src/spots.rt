@@ -8,8 +8,9 @@ ghost use Rattle.partition.specs.Bits.{top};
 ghost use Rattle.store.specs.Pages.{size, page, read, rowsOn, dirDepth, entryAt, rowsHeld};
 ghost use Rattle.store.specs.Accepted.{Accepted};
 ghost use Rattle.store.specs.Demands.{Sized};
-ghost use Rattle.query.specs.Spots.{StandsAt, Listed};
-ghost use Rattle.query.specs.Cursors.{At, Stepped};
+ghost use Rattle.query.specs.Asked.{Sought};
+ghost use Rattle.query.specs.Spots.{DirectoryOf, ShallowAt, StandsAt, Listed};
+ghost use Rattle.query.specs.Cursors.{At, Steppable, Stepped};
 use super::Cursor;
 use super::Spot;
 use super::Step;
@@ -18,7 +19,7 @@ use partition::Shape;
 
 // The entry that a hash's top bits give.
 pub fn entry_of(s: &[u8], z: Shape, x: u32) -> usize
-    requires { ⌜ Sized z × (2 * size z ≤ length (now s)) × (dirDepth (now s) ≤ z .deepest) ⌝ }
+    requires { ⌜ DirectoryOf z (now s) (dirDepth (now s)) ⌝ }
     ensures { λ r. ⌜ (r ≡ entryAt z (now (s .entry)) (top (dirDepth (now (s .entry))) x)) × (r < 4294967296) ⌝ }
 {
     let d = words::get32(s, 16) as u32;
@@ -28,7 +29,7 @@ pub fn entry_of(s: &[u8], z: Shape, x: u32) -> usize
 
 // Where the row of a code of the hash x stands.
 pub fn find_row(s: &[u8], z: Shape, key: &[u8], x: u32) -> Spot
-    requires { ⌜ Sized z × Accepted z fnv (now s) × (x ≡ fnv (now key)) ⌝ }
+    requires { ⌜ Sought z fnv (now s) (now key) x ⌝ }
     ensures { λ r. ⌜ StandsAt z (now (s .entry)) (now (key .entry)) r ⌝ }
 {
     let p = entry_of(s, z, x);
@@ -72,7 +73,7 @@ pub fn count_rows(s: &[u8], z: Shape, n: usize) -> usize
 
 // The number of entries of the page at offset a, in a directory of depth d.
 pub fn entries_of(s: &[u8], a: usize, d: u32) -> usize
-    requires { ⌜ (a + 2 ≤ length (now s)) × (byte (now s) (a + 1) ≤ d) × (d ≤ 12) ⌝ }
+    requires { ⌜ ShallowAt (now s) a d ⌝ }
     ensures { λ r. ⌜ r ≡ 2 ^ (d - byte (now (s .entry)) (a + 1)) ⌝ }
 {
     partition::two_to(d - s[a + 1] as u32)
@@ -88,7 +89,7 @@ pub fn cursor_at(s: &[u8], z: Shape, n: usize) -> Cursor
 
 // One row on, from any place before which the cursor stands: bucket after bucket by first entry, each once.
 pub fn next_row(s: &[u8], z: Shape, c: Cursor) -> Step
-    requires { ⌜ Sized z × Accepted z fnv (now s) × ((n : ℕ) × At z (now s) n c) ⌝ }
+    requires { ⌜ Steppable z (now s) c ⌝ }
     ensures { λ r. ⌜ ((n : ℕ) → At z (now (s .entry)) n c → Stepped z (now (s .entry)) n r) ⌝ }
 {
     let d = words::get32(s, 16) as u32;
@@ -105,7 +106,7 @@ pub fn next_row(s: &[u8], z: Shape, c: Cursor) -> Step
             let k = words::get16(s, a + 2);
             if left < k {
                 let next = left + 1;
-                return Step::Given(
+                return Step::Handed(
                     p,
                     left,
                     Cursor {
@@ -127,7 +128,7 @@ pub fn nth_row(s: &[u8], z: Shape, n: usize) -> Spot
     ensures { λ r. ⌜ Listed z (now (s .entry)) n r ⌝ }
 {
     match next_row(s, z, cursor_at(s, z, n)) {
-        Step::Given(p, i, _) => Spot::Here(p, i),
+        Step::Handed(p, i, _) => Spot::Here(p, i),
         Step::Done => Spot::Nowhere,
     }
 }

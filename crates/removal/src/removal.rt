@@ -21,7 +21,7 @@ use store_check::Length;
 
 // The row of the code of the hash x, which is that of slot i of page p, goes: its page loses the record, is cleared, or is joined with others.
 fn take_out(s: &mut [u8], z: Shape, p: usize, i: usize, key: &[u8], x: u32)
-    requires { ⌜ Sized z × Leaving z fnv (now s) p i (now key) × (x ≡ fnv (now key)) ⌝ }
+    requires { ⌜ Leaving z fnv (now s) p i (now key) × (x ≡ fnv (now key)) ⌝ }
     ensures { λ _. ⌜ Becomes z fnv (now (s .entry)) (removed z fnv (contents z (now (s .entry))) (now (key .entry))) (now (s .exit)) ⌝ }
 {
     let size = 8 + z.capacity;

@@ -6,17 +6,11 @@ use mathlib.Core.List.{List, [], _∷_}
 use native.Mathlib.Nat.{le-of-suc-le-suc, not-suc-le-zero, lt-irrefl, eq-or-lt-of-le}
 use mathlib.Core.Logic.{_⊎_, inl, inr}
 use native.Mathlib.Omega.{arith}
-use lib.Dec.{T, eqb, ltb, ltb→lt, nltb→le}
+use lib.Dec.{eqb}
 use lib.ListN.{length, getD}
+use Rattle.ground.proofs.Sides.{side}
 use Rattle.report.specs.Numbers.{RisingNumbers, indexOf}
-use Rattle.report.proofs.Ranks.{holds, fails, eq-true, ne-false}
-
-side : (a b : ℕ) → (a < b) ⊎ (b ≤ a)
-side a b = sides (ltb a b) refl
-  where
-    sides : (t : Bool) → ltb a b ≡ t → (a < b) ⊎ (b ≤ a)
-    sides true e = inl (ltb→lt a b (holds e))
-    sides false e = inr (nltb→le a b (fails e))
+use Rattle.report.proofs.Ranks.{eq-true, ne-false}
 
 -- the middle of lo and hi lies between them
 pub mid-lo : (lo hi : ℕ) → lo ≤ lo + (hi - lo) / 2

@@ -10,7 +10,7 @@ use lib.ListN.{length, getD, set, length-set, take, drop, replicate, length-repl
 use Rattle.ground.specs.Lists.{part}
 use Rattle.ground.proofs.Parts.{part-is}
 use Rattle.report.specs.declared.SheetRow.{SheetRow}
-use Rattle.report.specs.Numbers.{rank, raise, laid, spreadFrom, ranksOf, raisedOf}
+use Rattle.report.specs.Numbers.{outside, rank, raise, laid, spreadFrom, ranksOf, raisedOf}
 use Rattle.report.specs.Report.{placeIn, limit, zeroRow, sheetRow}
 use Rattle.report.proofs.Ranks.{eq-true, laid-in}
 
@@ -79,7 +79,7 @@ map-at f (x ∷ xs) (suc i) l = map-at f xs i (le-of-suc-le-suc l)
 -- all of them, as lists
 module _ (xs : List SheetRow) (h : length xs ≤ limit) where
   abbrev pub flat : List ℕ
-  flat = spreadFrom 0 xs (replicate (2 * limit) 0)
+  flat = spreadFrom 0 xs (replicate (2 * limit) outside)
 
   spread-length : (rs : List SheetRow) (k : ℕ) (fl : List ℕ) → length fl ≡ 2 * limit → k + length rs ≤ limit → length (spreadFrom k rs fl) ≡ 2 * limit
   spread-length [] k fl e l = e
@@ -88,10 +88,10 @@ module _ (xs : List SheetRow) (h : length xs ≤ limit) where
       spread-length rs (suc k) (laid fl k r) (laid-length fl k r e (omega (arith, m))) (omega (arith, m))
 
   long : length flat ≡ 2 * limit
-  long = spread-length xs 0 (replicate (2 * limit) 0) (length-replicate {A = ℕ} (2 * limit) 0) (omega (arith, h))
+  long = spread-length xs 0 (replicate (2 * limit) outside) (length-replicate {A = ℕ} (2 * limit) outside) (omega (arith, h))
 
   numbers : (i : ℕ) → i < length xs → (getD {A = ℕ} flat (0 + i) 0 ≡ rank (placeIn (sheetRow xs i))) × (getD {A = ℕ} flat (limit + (0 + i)) 0 ≡ raise (sheetRow xs i .cents))
-  numbers i l = words-are xs 0 (replicate (2 * limit) 0) i (length-replicate {A = ℕ} (2 * limit) 0) (omega (arith, h)) l
+  numbers i l = words-are xs 0 (replicate (2 * limit) outside) i (length-replicate {A = ℕ} (2 * limit) outside) (omega (arith, h)) l
 
   pub ranks-are : ranksOf flat (length xs) ≡ map (λ (x : SheetRow). rank (placeIn x)) xs
   unfolding part

@@ -5,9 +5,11 @@ pub mod Upto
 pub mod Ranks
 pub mod Halves
 pub mod Runs
+pub mod Counts
 pub mod Rises
 pub mod Few
 pub mod Tells
+pub mod Joined
 pub mod Laid
 pub mod Marks
 pub mod Orders

@@ -8,7 +8,7 @@ use lib.IntN.{ℤ, pos, negsuc, negℤ, _+ℤ_, +ℤ-assoc, +ℤ-comm}
 use lib.Signed.{_≤ℤ_, leZ-yes, pos-natAbs}
 use Rattle.report.specs.Report.{highest}
 use Rattle.report.specs.Numbers.{outside, raise}
-use Rattle.report.proofs.Ranks.{holds, lt-no, lt-yes, le-yes, Raised, raised}
+use Rattle.report.proofs.Ranks.{holds, lt-yes, le-yes, Raised, raised}
 
 in-pos : (n : ℕ) (t : Bool) → leb n 1000000000000 ≡ t → cond t (n + 1000000000000) outside ≤ 2000000000000 → n ≤ 1000000000000
 in-pos n true e l = leb→le n 1000000000000 (holds e)
@@ -19,8 +19,8 @@ in-neg n true e l = ltb→lt n 1000000000000 (holds e)
 in-neg n false e l = absurd (omega (arith, l))
 
 raised-in : (c : ℤ) → raise c ≤ 2000000000000 → Raised c
-raised-in (pos n) l = raised (pos n) refl (lt-no 1000000000000 n (in-pos n (leb n 1000000000000) refl l))
-raised-in (negsuc n) l = let h : n < 1000000000000 = in-neg n (ltb n 1000000000000) refl l in raised (negsuc n) (lt-no 999999999999 n (omega arith)) refl
+raised-in (pos n) l = raised (pos n) refl (le-yes n 1000000000000 (in-pos n (leb n 1000000000000) refl l))
+raised-in (negsuc n) l = let h : n < 1000000000000 = in-neg n (ltb n 1000000000000) refl l in raised (negsuc n) (le-yes n 999999999999 (omega arith)) refl
 
 pub raise-is : (c : ℤ) → raise c ≤ 2000000000000 → pos (raise c) ≡ c +ℤ pos 1000000000000
 raise-is c l = let r = raised-in c l in ap pos (sym (r .is)) ∙ pos-natAbs (c +ℤ pos 1000000000000) (r .ok)

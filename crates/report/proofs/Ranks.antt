@@ -4,11 +4,11 @@ use mathlib.Core.Path.{_≡_, refl, sym, subst, ap, _∙_}
 use mathlib.Core.Bool.{Bool, true, false, cond, not, _&&_}
 use mathlib.Core.List.{List}
 use native.Mathlib.Omega.{arith}
-use lib.Dec.{T, leb, ltb, eqb, ltb→lt, nltb→le, leb→le, le→leb, lt→ltb, eqb-refl, eqb→eq, not-T}
+use lib.Dec.{T, leb, ltb, eqb, ltb→lt, nleb→lt, leb→le, le→leb, lt→ltb, eqb-refl, eqb→eq, not-T}
 use lib.Arith.{lt→nleb, le→nltb}
 use lib.ListN.{length, set}
 use lib.IntN.{ℤ, pos, negsuc, natAbs, _+ℤ_}
-use lib.Signed.{mag, ltZ, nonNeg}
+use lib.Signed.{mag, ltZ, leZ, nonNeg}
 use Rattle.report.specs.declared.SheetRow.{SheetRow}
 use Rattle.report.specs.Report.{placeIn, limit}
 use Rattle.report.specs.Numbers.{outside, natPart, ranked, rank, raise, laid}
@@ -49,13 +49,9 @@ pub natPart-neg : (c : ℤ) → ltZ c (pos 0) ≡ true → outside ≡ natPart c
 natPart-neg (pos n) e = let l : n < 0 = ltb→lt n 0 (holds e) in absurd (omega (arith, l))
 natPart-neg (negsuc n) e = refl
 
-pub natPart-pos : (c : ℤ) → ltZ c (pos 0) ≡ false → natAbs c ≡ natPart c
-natPart-pos (pos n) e = refl
-natPart-pos (negsuc n) e = absurd (fails e)
-
-pub natPart-ok : (c : ℤ) → ltZ c (pos 0) ≡ false → T (nonNeg c)
-natPart-ok (pos n) e = tt
-natPart-ok (negsuc n) e = absurd (fails e)
+pub natPart-low : (c : ℤ) (m : ℕ) → ltZ c (pos 0) ≡ false → mag c < m → natPart c < m
+natPart-low (pos n) m e l = l
+natPart-low (negsuc n) m e l = absurd (fails e)
 
 pub pack-a : (a b c : ℕ) → 2147483648 ≤ a → outside ≡ ranked a b c
 pack-a a b c l = sym (ap (λ (t : Bool). cond (t && (ltb b 32768 && ltb c 32768)) (a * 4294967296 + b * 65536 + c) outside) (lt-no a 2147483648 l))
@@ -74,13 +70,13 @@ pack-c a b c h l k = sym (pack-when a b c false h l (lt-no c 32768 k))
 pub pack-in : (a b c : ℕ) → a < 2147483648 → b < 32768 → c < 32768 → a * 4294967296 + b * 65536 + c ≡ ranked a b c
 pack-in a b c h l k = sym (pack-when a b c true h l (lt-yes c 32768 k))
 
-pub raise-low : (c : ℤ) → ltZ c (negsuc 999999999999) ≡ true → outside ≡ raise c
-raise-low (pos n) e = absurd (holds e)
-raise-low (negsuc n) e = let l : 999999999999 < n = ltb→lt 999999999999 n (holds e) in sym (ap (λ (t : Bool). cond t (1000000000000 - suc n) outside) (lt-no n 1000000000000 (omega arith)))
+pub raise-low : (c : ℤ) → leZ (negsuc 999999999999) c ≡ false → outside ≡ raise c
+raise-low (pos n) e = absurd (fails e)
+raise-low (negsuc n) e = let l : 999999999999 < n = nleb→lt n 999999999999 (fails e) in sym (ap (λ (t : Bool). cond t (1000000000000 - suc n) outside) (lt-no n 1000000000000 (omega arith)))
 
-pub raise-high : (c : ℤ) → ltZ (pos 1000000000000) c ≡ true → outside ≡ raise c
-raise-high (pos n) e = let l : 1000000000000 < n = ltb→lt 1000000000000 n (holds e) in sym (ap (λ (t : Bool). cond t (n + 1000000000000) outside) (le-no n 1000000000000 l))
-raise-high (negsuc n) e = absurd (holds e)
+pub raise-high : (c : ℤ) → leZ c (pos 1000000000000) ≡ false → outside ≡ raise c
+raise-high (pos n) e = sym (ap (λ (t : Bool). cond t (n + 1000000000000) outside) e)
+raise-high (negsuc n) e = absurd (fails e)
 
 -- an amount in range, and 10^12 more
 pub record Raised (c : ℤ) : Type 0 where
@@ -94,13 +90,13 @@ raised-neg : (n : ℕ) (t : Bool) → ltb 1000000000000 (suc n) ≡ t → t ≡ 
 raised-neg n true e f l = absurd (holds (sym f))
 raised-neg n false e f l = (tt, refl, omega arith)
 
-pub raised : (c : ℤ) → ltZ c (negsuc 999999999999) ≡ false → ltZ (pos 1000000000000) c ≡ false → Raised c
+pub raised : (c : ℤ) → leZ (negsuc 999999999999) c ≡ true → leZ c (pos 1000000000000) ≡ true → Raised c
 raised (pos n) e f =
-    let l : n ≤ 1000000000000 = nltb→le 1000000000000 n (fails f) in
+    let l : n ≤ 1000000000000 = leb→le n 1000000000000 (holds f) in
     let d : raise (pos n) ≡ n + 1000000000000 = ap (λ (t : Bool). cond t (n + 1000000000000) outside) (le-yes n 1000000000000 l) in
     record { ok = tt; is = sym d; small = omega (arith, d, l); mag-small = omega arith }
 raised (negsuc n) e f =
-    let l : n ≤ 999999999999 = nltb→le 999999999999 n (fails e) in
+    let l : n ≤ 999999999999 = leb→le n 999999999999 (holds e) in
     let h : n < 1000000000000 = omega arith in
     let d : raise (negsuc n) ≡ 1000000000000 - suc n = ap (λ (t : Bool). cond t (1000000000000 - suc n) outside) (lt-yes n 1000000000000 h) in
     let a = raised-neg n (ltb 1000000000000 (suc n)) refl (lt-no 1000000000000 (suc n) (omega arith)) h in

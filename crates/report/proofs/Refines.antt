@@ -16,7 +16,7 @@ use Rattle.store.specs.Pages.{rowsHeld}
 use Rattle.report.specs.declared.SheetRow.{SheetRow}
 use Rattle.report.specs.declared.Sums.{Sums}
 use Rattle.report.specs.Report.{placeIn, limit, sheetRow, RowPlace, GoodSheet, totalOf, hiddenOf, hiddenCents, doubledOf, reportOf, PlaceAt, FirstMissing, Reported, other, missing, summed, reportTable}
-use Rattle.report.specs.Numbers.{rank, raise, rankOn, ranksOf, raisedOf, spreadFrom, Sound, indexOf, tallied, unmarked, unmarkedSum, remarked, Lowered, SumsOf, ToldBy, numbersTable}
+use Rattle.report.specs.Numbers.{outside, rank, raise, rankOn, ranksOf, raisedOf, spreadFrom, Sound, indexOf, tallied, unmarked, unmarkedSum, remarked, Lowered, SumsOf, ToldBy, numbersTable}
 use Rattle.report.proofs.Runs.{listed-below, listed-rank}
 use Rattle.report.proofs.Laid.{map-at, ranks-are, raised-are}
 use Rattle.report.proofs.Raises.{amount-in}
@@ -136,7 +136,7 @@ module _ (xs : List SheetRow) (g : GoodSheet xs) (rs : List Row) where
 
 module _ (S : Shape) (h : List ℕ → ℕ) (s : List ℕ) (xs : List SheetRow) where
   abbrev fl : List ℕ
-  fl = spreadFrom 0 xs (replicate (2 * limit) 0)
+  fl = spreadFrom 0 xs (replicate (2 * limit) outside)
 
   abbrev n : ℕ
   n = length xs

@@ -1,4 +1,4 @@
--- The tally after k codes, and the pass over the marks after i rows. Assumes nothing.
+-- The tally after k codes. Assumes nothing.
 use Prim.Native.Nat.{ℕ, zero, suc, _+_, _*_, _<_, _≤_}
 use mathlib.Core.Path.{_≡_, refl, sym, ap, subst, _∙_}
 use mathlib.Core.Bool.{Bool, true, false, cond}
@@ -6,20 +6,20 @@ use mathlib.Core.List.{List, [], _∷_, map}
 use mathlib.Core.Option.{some, none}
 use native.Mathlib.Nat.{le-of-suc-le-suc, not-suc-le-zero}
 use native.Mathlib.Omega.{arith}
-use lib.Dec.{ltb, leb, eqb}
+use lib.Dec.{ltb}
 use lib.ListN.{length, getD, set, drop, getElem?, length-set, drop-of-length-le}
 use Rattle.ground.proofs.Tests.{none-some}
 use Rattle.partition.specs.Partition.{Row}
 use Rattle.store.proofs.Demands.Settled.{some-one}
-use Rattle.report.specs.Numbers.{rankOn, AtMost, indexOf, markAt, tallied, ifSo, unmarked, unmarkedSum, remarked, ClosedWith}
-use Rattle.report.proofs.Ranks.{lt-yes, lt-no, eq-true, ne-false, le-yes, le-no}
+use Rattle.report.specs.Numbers.{rankOn, AtMost, indexOf, markAt, tallied}
+use Rattle.report.proofs.Ranks.{lt-yes, lt-no}
 
 drop-suc : (xs : List ℕ) (i : ℕ) → i < length xs → drop i xs ≡ getD {A = ℕ} xs i 0 ∷ drop (suc i) xs
 drop-suc [] i l = absurd (not-suc-le-zero l)
 drop-suc (x ∷ xs) zero l = refl
 drop-suc (x ∷ xs) (suc i) l = drop-suc xs i (le-of-suc-le-suc l)
 
-drop-at : (xs : List ℕ) (i : ℕ) → i < length xs → drop i xs ≡ getD {A = ℕ} xs i 0 ∷ drop (i + 1) xs
+pub drop-at : (xs : List ℕ) (i : ℕ) → i < length xs → drop i xs ≡ getD {A = ℕ} xs i 0 ∷ drop (i + 1) xs
 drop-at xs i l = let e : suc i ≡ i + 1 = omega arith in drop-suc xs i l ∙ ap (λ (j : ℕ). getD {A = ℕ} xs i 0 ∷ drop j xs) e
 
 -- the row at place k of a listing, as a number
@@ -69,7 +69,7 @@ module _ {ps ls ws cs₀ cs : List ℕ} {k sum : ℕ} (g : Going ps ls ws cs₀ 
   pub going-end : length ws ≤ k → (k, (sum, cs)) ≡ tallied ps ls ws 0 0 cs₀
   going-end h = sym (ap (λ (vs : List ℕ). tallied ps ls vs k sum cs) (drop-of-length-le ws h)) ∙ g .same
 
-  pub going-next : k < length ws → AtMost 2000000000000 ls → length ls ≡ length ps → (i : ℕ) → i ≡ indexOf w ps → i < length ps → (cs′ : List ℕ) → cs′ ≡ markAt cs i → Going ps ls ws cs₀ cs′ (k + 1) (sum + getD {A = ℕ} ls i 0)
+  going-next : k < length ws → AtMost 2000000000000 ls → length ls ≡ length ps → (i : ℕ) → i ≡ indexOf w ps → i < length ps → (cs′ : List ℕ) → cs′ ≡ markAt cs i → Going ps ls ws cs₀ cs′ (k + 1) (sum + getD {A = ℕ} ls i 0)
   going-next l a m i e h cs′ f = record {
     k-le = omega (arith, l);
     sum-le = let b : getD {A = ℕ} ls i 0 ≤ 2000000000000 = a .le i (omega (arith, h, m)) in omega (arith, g .sum-le, b);
@@ -79,65 +79,7 @@ module _ {ps ls ws cs₀ cs : List ℕ} {k sum : ℕ} (g : Going ps ls ws cs₀ 
         ∙ sym (one-code l true (lt-yes (indexOf w ps) (length ps) (subst (λ (j : ℕ). j < length ps) e h))) ∙ g .same;
   }
 
--- ---- the pass over the marks
-pub plus-yes : (x n : ℕ) {t : Bool} → t ≡ true → x + n ≡ x + ifSo t n
-plus-yes x n e = sym (ap (λ (t : Bool). x + ifSo t n) e)
-
-pub plus-no : (x n : ℕ) {t : Bool} → t ≡ false → x ≡ x + ifSo t n
-plus-no x n e = let z : x ≡ x + 0 = omega arith in z ∙ sym (ap (λ (t : Bool). x + ifSo t n) e)
-
-pub record Passed (ls cs : List ℕ) (i h s d : ℕ) : Type 0 where
-  pub i-le : i ≤ length cs
-  pub h-le : h ≤ i
-  pub d-le : d ≤ i
-  pub s-le : s ≤ i * 2000000000000
-  pub h-is : h + unmarked (drop i cs) ≡ unmarked cs
-  pub s-is : s + unmarkedSum (drop i ls) (drop i cs) ≡ unmarkedSum ls cs
-  pub d-is : d + remarked (drop i cs) ≡ remarked cs
-
-pub passed-start : (ls cs : List ℕ) → Passed ls cs 0 0 0 0
-passed-start ls cs = record { i-le = omega arith; h-le = omega arith; d-le = omega arith; s-le = omega arith; h-is = omega arith; s-is = omega arith; d-is = omega arith }
-
-ifSo-le : (t : Bool) (n : ℕ) → ifSo t n ≤ n
-ifSo-le true n = omega arith
-ifSo-le false n = omega arith
-
-module _ {ls cs : List ℕ} {i h s d : ℕ} (p : Passed ls cs i h s d) where
-  abbrev c : ℕ
-  c = getD {A = ℕ} cs i 0
-
-  abbrev l : ℕ
-  l = getD {A = ℕ} ls i 0
-
-  pub passed-next : i < length cs → length cs ≡ length ls → AtMost 2000000000000 ls → (h′ s′ d′ : ℕ) → h′ ≡ h + ifSo (eqb c 0) 1 → s′ ≡ s + ifSo (eqb c 0) l → d′ ≡ d + ifSo (leb 2 c) 1 → Passed ls cs (i + 1) h′ s′ d′
-  passed-next il m a h′ s′ d′ eh es ed =
-      let cs-at : drop i cs ≡ c ∷ drop (i + 1) cs = drop-at cs i il in
-      let ls-at : drop i ls ≡ l ∷ drop (i + 1) ls = drop-at ls i (omega (arith, il, m)) in
-      let fh : unmarked (drop i cs) ≡ ifSo (eqb c 0) 1 + unmarked (drop (i + 1) cs) = ap unmarked cs-at in
-      let fd : remarked (drop i cs) ≡ ifSo (leb 2 c) 1 + remarked (drop (i + 1) cs) = ap remarked cs-at in
-      let fs : unmarkedSum (drop i ls) (drop i cs) ≡ ifSo (eqb c 0) l + unmarkedSum (drop (i + 1) ls) (drop (i + 1) cs) = λ j. unmarkedSum (ls-at j) (cs-at j) in
-      let b : l ≤ 2000000000000 = a .le i (omega (arith, il, m)) in
-      record {
-        i-le = omega (arith, il);
-        h-le = omega (arith, p .h-le, eh, ifSo-le (eqb c 0) 1);
-        d-le = omega (arith, p .d-le, ed, ifSo-le (leb 2 c) 1);
-        s-le = omega (arith, p .s-le, es, ifSo-le (eqb c 0) l, b);
-        h-is = omega (arith, p .h-is, eh, fh);
-        s-is = omega (arith, p .s-is, es, fs);
-        d-is = omega (arith, p .d-is, ed, fd);
-      }
-
-  hidden-nil : unmarkedSum (drop i ls) [] ≡ 0
-  hidden-nil = nil (drop i ls)
-    where
-      nil : (xs : List ℕ) → unmarkedSum xs [] ≡ 0
-      nil [] = refl
-      nil (x ∷ xs) = refl
-
-  pub passed-end : length cs ≤ i → ClosedWith ls cs (record { hidden = h; sum = s; doubled = d })
-  passed-end e =
-      let cs-at : drop i cs ≡ [] = drop-of-length-le cs e in
-      let fh : unmarked (drop i cs) ≡ 0 = ap unmarked cs-at in
-      let fd : remarked (drop i cs) ≡ 0 = ap remarked cs-at in
-      let fs : unmarkedSum (drop i ls) (drop i cs) ≡ 0 = ap (λ (v : List ℕ). unmarkedSum (drop i ls) v) cs-at ∙ hidden-nil in
-      record { rows = omega (arith, p .h-is, fh); sum = omega (arith, p .s-is, fs); twice = omega (arith, p .d-is, fd) }
+  -- the same, of numbers that are known by equations
+  pub going-to : k < length ws → AtMost 2000000000000 ls → length ls ≡ length ps → (i : ℕ) → i ≡ indexOf w ps → i < length ps → (cs′ : List ℕ) → cs′ ≡ markAt cs i
+      → (k′ s′ : ℕ) → k′ ≡ k + 1 → s′ ≡ sum + getD {A = ℕ} ls i 0 → Going ps ls ws cs₀ cs′ k′ s′
+  going-to l a m i e h cs′ f k′ s′ ek es = subst (λ (n : ℕ). Going ps ls ws cs₀ cs′ n s′) (sym ek) (subst (λ (n : ℕ). Going ps ls ws cs₀ cs′ (k + 1) n) (sym es) (going-next l a m i e h cs′ f))

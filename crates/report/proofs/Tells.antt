@@ -1,4 +1,4 @@
--- What a tally and the closing pass tell: how large the sums may be, and the parts of a laid-out sheet. Assumes nothing.
+-- What a tally tells: how large the sums may be, and the parts of a laid-out sheet. Assumes nothing.
 use Prim.Native.Nat.{ℕ, zero, suc, _+_, _*_, _-_, _<_, _≤_}
 use mathlib.Core.Path.{_≡_, refl, sym, ap, subst, _∙_}
 use mathlib.Core.Bool.{Bool, true, false, cond}

@@ -83,7 +83,7 @@ module _ (xs : List SheetRow) (places : (i : ℕ) → i < length xs → RowPlace
       cond-suc (eqb (indexOf (rankOn q) (ranks xs)) j) m
       ∙ (λ i. cond (index-names xs places r q j l i) 1 0 + times-is rs j l i)
 
--- the closing pass over such marks
+-- the sums over such marks
 module _ (rs : List Row) where
   abbrev pub markOf : SheetRow → ℕ
   markOf x = bumped 0 (timesNamed rs x)

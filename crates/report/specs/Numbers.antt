@@ -3,7 +3,7 @@ use mathlib.Core.Path.{_≡_}
 use mathlib.Core.Bool.{Bool, cond, _&&_}
 use mathlib.Core.List.{List, [], _∷_, map}
 use mathlib.Core.Option.{none}
-use Prim.Native.Nat.{ℕ, suc, _+_, _*_, _-_, _≤_, _<_}
+use Prim.Native.Nat.{ℕ, suc, _+_, _*_, _-_, _≤_, _<_, _^_}
 use lib.Dec.{leb, ltb, eqb}
 use lib.ListN.{length, getD, set, take, drop, replicate, getElem?}
 use lib.IntN.{ℤ, pos, negsuc, _+ℤ_}
@@ -14,13 +14,15 @@ use Rattle.page.specs.Places.{place}
 use Rattle.partition.specs.declared.Shape.{Shape}
 use Rattle.partition.specs.Partition.{Row}
 use Rattle.partition.specs.Listing.{listing}
+use Rattle.store.specs.Accepted.{Accepted}
+use Rattle.store.specs.Demands.{Sized}
 use Rattle.store.specs.Pages.{rowsHeld}
 use Rattle.store.specs.Tables.{refused, Refusal1, checked}
 use Rattle.query.specs.Cursors.{At}
 use Rattle.report.specs.declared.Next.{Next}
 use Rattle.report.specs.declared.Next.the-variants.{Placed, End}
 use Rattle.report.specs.declared.SheetRow.{SheetRow}
-use Rattle.report.specs.declared.Left.{Left}
+use Rattle.report.specs.declared.Counted.{Counted}
 use Rattle.report.specs.declared.Sums.{Sums}
 use Rattle.report.specs.declared.Ending.{Ending}
 use Rattle.report.specs.declared.Ending.the-variants.{Missing, Whole}
@@ -85,6 +87,12 @@ pub record SoundSheet (ps ls : List ℕ) : Type 0 where
 
 -- ---- the tally
 
+-- an accepted store beside a sheet's numbers that keep the rules
+pub record Ready (S : Shape) (s ps ls : List ℕ) : Type 0 where
+  pub sized : Sized S
+  pub accepted : Accepted S fnv s
+  pub sheet : SoundSheet ps ls
+
 -- where w is, or how many there are
 abbrev pub indexOf : ℕ → List ℕ → ℕ
 indexOf w [] = 0
@@ -108,12 +116,7 @@ Follows S s n End = getElem? (listing S fnv (rowsHeld S s)) n ≡ none
 abbrev pub rankOn : Row → ℕ
 rankOn r = rank (place (r .place))
 
--- the tally of the rows rs from the marks cs ends with the marks cs′: at the first place that is not there, or whole
-abbrev pub Ends : List ℕ → List ℕ → List Row → List ℕ → Ending → List ℕ → Type 0
-Ends ps ls rs cs (Missing p) cs′ = PlaceAt rs (tallied ps ls (map rankOn rs) 0 0 cs .0) p
-Ends ps ls rs cs (Whole k s) cs′ = (k ≡ length rs) × ((k, (s, cs′)) ≡ tallied ps ls (map rankOn rs) 0 0 cs)
-
--- ---- the closing pass
+-- ---- what a tally counts
 
 abbrev pub ifSo : Bool → ℕ → ℕ
 ifSo t l = cond t l 0
@@ -133,10 +136,43 @@ abbrev pub remarked : List ℕ → ℕ
 remarked [] = 0
 remarked (c ∷ cs) = ifSo (leb 2 c) 1 + remarked cs
 
-pub record ClosedWith (ls cs : List ℕ) (l : Left) : Type 0 where
-  pub rows : l .hidden ≡ unmarked cs
-  pub sum : l .sum ≡ unmarkedSum ls cs
-  pub twice : l .doubled ≡ remarked cs
+-- the sum of all amounts
+abbrev pub sumOf : List ℕ → ℕ
+sumOf [] = 0
+sumOf (l ∷ ls) = l + sumOf ls
+
+-- one code more leaves each number a word
+pub record RoomFor (t : Counted) (l : ℕ) : Type 0 where
+  pub codes : t .codes + 1 < 2 ^ 64
+  pub sum : t .sum + l < 2 ^ 64
+  pub named : t .named + 1 < 2 ^ 64
+  pub once : t .once + l < 2 ^ 64
+  pub doubled : t .doubled + 1 < 2 ^ 64
+
+-- t with one code more, of a row with the amount l and the mark m before
+pub record OneMore (t : Counted) (l m : ℕ) (r : Counted) : Type 0 where
+  pub codes : r .codes ≡ t .codes + 1
+  pub sum : r .sum ≡ t .sum + l
+  pub named : r .named ≡ t .named + ifSo (eqb m 0) 1
+  pub once : r .once ≡ t .once + ifSo (eqb m 0) l
+  pub doubled : r .doubled ≡ t .doubled + ifSo (eqb m 1) 1
+
+-- t has what is marked in cs′ and not in cs, and what is marked more than once
+pub record MarkedBy (ls cs cs′ : List ℕ) (t : Counted) : Type 0 where
+  pub named : unmarked cs′ + t .named ≡ unmarked cs
+  pub once : unmarkedSum ls cs′ + t .once ≡ unmarkedSum ls cs
+  pub doubled : remarked cs′ ≡ remarked cs + t .doubled
+
+-- the whole tally of the rows rs from the marks cs to the marks cs′
+pub record WholeTally (ps ls : List ℕ) (rs : List Row) (cs : List ℕ) (t : Counted) (cs′ : List ℕ) : Type 0 where
+  pub codes : t .codes ≡ length rs
+  pub all : (t .codes, (t .sum, cs′)) ≡ tallied ps ls (map rankOn rs) 0 0 cs
+  pub marks : MarkedBy ls cs cs′ t
+
+-- the tally of the rows rs from the marks cs ends with the marks cs′: at the first place that is not there, or whole
+abbrev pub Ends : List ℕ → List ℕ → List Row → List ℕ → Ending → List ℕ → Type 0
+Ends ps ls rs cs (Missing p) cs′ = PlaceAt rs (tallied ps ls (map rankOn rs) 0 0 cs .0) p
+Ends ps ls rs cs (Whole t) cs′ = WholeTally ps ls rs cs t cs′
 
 -- z is the sum of k amounts whose raised sum is s
 abbrev pub Lowered : ℕ → ℕ → ℤ → Type 0

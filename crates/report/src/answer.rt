@@ -6,12 +6,10 @@ ghost use Rattle.ground.specs.Ladder.{Answers};
 ghost use Rattle.hash.specs.Fnv.{fnv};
 ghost use Rattle.partition.specs.Listing.{listing};
 ghost use Rattle.partition.specs.Sizes.{shapeOf};
-ghost use Rattle.store.specs.Accepted.{Accepted};
-ghost use Rattle.store.specs.Demands.{Sized};
 ghost use Rattle.store.specs.Pages.{rowsHeld};
 ghost use Rattle.report.specs.Report.{limit, reported};
-ghost use Rattle.report.specs.Numbers.{SoundSheet, Lowered, ToldBy, numbersTable};
-use super::tally::close;
+ghost use Rattle.report.specs.Numbers.{Lowered, Ready, ToldBy, numbersTable};
+use super::tally::add_up;
 use super::tally::sound;
 use super::tally::tally;
 use crate::Ending;
@@ -34,23 +32,25 @@ pub fn lower(sum: u64, k: usize) -> i64
     0 - (base - sum) as i64
 }
 
-// Over a sound sheet, with room for a mark for each row.
+// Over a sound sheet, with a clear mark for each row: what no code names is what is left of the sheet.
 fn told(s: &[u8], z: Shape, ranks: &[u64], raised: &[u64], counts: &mut [u8]) -> Outcome
-    requires { ⌜ Sized z × Accepted z fnv (now s) × SoundSheet (now ranks) (now raised) × (length (now counts) ≡ length (now ranks)) ⌝ }
+    requires { ⌜ Ready z (now s) (now ranks) (now raised) × (now counts ≡ replicate (length (now ranks)) 0) ⌝ }
     ensures { λ r. ⌜ ToldBy (now (ranks .entry)) (now (raised .entry)) (listing z fnv (rowsHeld z (now (s .entry)))) (now (counts .entry)) (reported r) ⌝ }
 {
     match tally(s, z, ranks, raised, counts) {
         Ending::Missing(p) => Outcome::NotInSheet(p),
-        Ending::Whole(k, sum) => {
-            let l = close(raised, counts);
-            let hidden = l.hidden;
-            let total = lower(sum, k);
-            let cents = lower(l.sum, hidden);
+        Ending::Whole(t) => {
+            let named = t.named;
+            let once = t.once;
+            let hidden = ranks.len() - named;
+            let rest = add_up(raised) - once;
+            let total = lower(t.sum, t.codes);
+            let cents = lower(rest, hidden);
             Outcome::Summed(Sums {
                 total: total,
                 hidden: hidden,
                 cents: cents,
-                doubled: l.doubled,
+                doubled: t.doubled,
             })
         }
     }
@@ -58,7 +58,7 @@ fn told(s: &[u8], z: Shape, ranks: &[u64], raised: &[u64], counts: &mut [u8]) ->
 
 // The same, with marks of its own.
 fn told_fresh(s: &[u8], z: Shape, ranks: &[u64], raised: &[u64]) -> Outcome
-    requires { ⌜ Sized z × Accepted z fnv (now s) × SoundSheet (now ranks) (now raised) ⌝ }
+    requires { ⌜ Ready z (now s) (now ranks) (now raised) ⌝ }
     ensures { λ r. ⌜ ToldBy (now (ranks .entry)) (now (raised .entry)) (listing z fnv (rowsHeld z (now (s .entry)))) (replicate (length (now (ranks .entry))) 0) (reported r) ⌝ }
 {
     let n = ranks.len();

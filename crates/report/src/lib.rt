@@ -56,10 +56,19 @@ pub enum Next {
     End,
 }
 
-// How a tally ends: at a place that is not in the sheet, or whole, with the number of codes and the sum of their raised amounts.
+// What a tally counts: the codes with the sum of their raised amounts, the sheet rows that they name with the sum of theirs, and those that more than one names.
+pub struct Counted {
+    pub codes: usize,
+    pub sum: u64,
+    pub named: usize,
+    pub once: u64,
+    pub doubled: usize,
+}
+
+// How a tally ends: at a place that is not in the sheet, or whole.
 pub enum Ending {
     Missing(Place),
-    Whole(usize, u64),
+    Whole(Counted),
 }
 
 // A row of the sheet by the codes that name it: none, with its place and cents; one; more than one.
@@ -67,13 +76,6 @@ pub enum NamedRow {
     Hidden(Place, i64),
     Once,
     Doubled(Place, i64),
-}
-
-// What no code names, with the sum of its raised amounts, and what more than one does.
-pub struct Left {
-    pub hidden: usize,
-    pub sum: u64,
-    pub doubled: usize,
 }
 
 // The sheet as numbers: the one loop over it.
@@ -91,7 +93,8 @@ pub fn spread(sheet: &[SheetRow], flat: &mut [u64]) -> usize
 pub fn report(store: &[u8], sheet: &[SheetRow]) -> Outcome
     ensures { λ r. ⌜ Answers (reportTable (shapeOf (now (store .entry))) fnv (now (store .entry)) (now (sheet .entry))) (reported r) ⌝ }
 {
-    let mut flat = [0u64; 2 * LIMIT];
+    // filled with what no row has: 16 bytes an instruction, where zeros are set byte by byte
+    let mut flat = [9223372036854775808u64; 2 * LIMIT];
     let n = spread(sheet, &mut flat);
     answer::judge(store, &flat, n)
 }

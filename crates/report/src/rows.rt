@@ -7,47 +7,23 @@ use crate::LIMIT;
 use crate::SheetRow;
 use page::Place;
 
-// A part of a place; 2^63 where it is negative.
-fn nat32(a: i32) -> u64
-    ensures { λ r. ⌜ r ≡ natPart a ⌝ }
+// Three parts as one number, in the places' order; 2^63 for what is no place. A negative part makes the whole negative, so one test finds all three.
+fn rank_parts(a: i32, b: i16, c: i16) -> u64
+    ensures { λ r. ⌜ r ≡ ranked (natPart a) (natPart b) (natPart c) ⌝ }
 {
-    if a < 0 {
+    let w = (a as i64 * 4294967296) | (b as i64 * 65536) | c as i64;
+    if w < 0 {
         return 9223372036854775808;
     }
-    a as u64
-}
-
-fn nat16(a: i16) -> u64
-    ensures { λ r. ⌜ r ≡ natPart a ⌝ }
-{
-    if a < 0 {
-        return 9223372036854775808;
-    }
-    a as u64
-}
-
-// Three parts as one number, in the places' order; 2^63 for what is no place.
-fn rank_parts(a: u64, b: u64, c: u64) -> u64
-    ensures { λ r. ⌜ r ≡ ranked a b c ⌝ }
-{
-    if 2147483648 <= a {
-        return 9223372036854775808;
-    }
-    if 32768 <= b {
-        return 9223372036854775808;
-    }
-    if 32768 <= c {
-        return 9223372036854775808;
-    }
-    a * 4294967296 + b * 65536 + c
+    w as u64
 }
 
 pub fn rank_of(p: Place) -> u64
     ensures { λ r. ⌜ r ≡ rank p ⌝ }
 {
-    let a = nat32(p.page);
-    let b = nat16(p.slot);
-    let c = nat16(p.volume);
+    let a = p.page;
+    let b = p.slot;
+    let c = p.volume;
     rank_parts(a, b, c)
 }
 
@@ -66,13 +42,12 @@ fn rank_row(r: SheetRow) -> u64
 fn raise_of(c: i64) -> u64
     ensures { λ r. ⌜ r ≡ raise c ⌝ }
 {
-    if c < -1000000000000 {
-        return 9223372036854775808;
+    if -1000000000000 <= c {
+        if c <= 1000000000000 {
+            return (c + 1000000000000) as u64;
+        }
     }
-    if 1000000000000 < c {
-        return 9223372036854775808;
-    }
-    (c + 1000000000000) as u64
+    9223372036854775808
 }
 
 // Row i as two numbers, and the next i.

@@ -2,20 +2,21 @@
 use mathlib.Core.Path.{_≡_, refl, sym, ap, subst, _∙_}
 use mathlib.Core.List.{List}
 use mathlib.Core.Logic.{_⊎_, inl, inr, ⊎-elim}
-use Prim.Native.Nat.{ℕ, _+_, _-_, _*_, _^_, _≤_, _<_}
+use Prim.Native.Nat.{ℕ, _+_, _-_, _*_, _/_, _^_, _≤_, _<_}
 use native.Mathlib.Omega.{arith}
 use native.Mathlib.Nat.{div-add-mod'}
 use lib.ListN.{length, getD, take, drop, List·getD-eq-default}
 use Rattle.ground.specs.Lists.{byte, part}
 use Rattle.ground.proofs.Sides.{side, same}
 use Rattle.ground.proofs.Parts.{byte-part, length-part, lent-part}
+use Rattle.words.specs.Le.{le16, le32}
 use Rattle.words.specs.Zeros.{Zero}
 use Rattle.partition.specs.declared.Shape.{Shape}
 use Rattle.store.specs.Demands.{Sized}
 use Rattle.store.specs.Pages.{size, pages, dirDepth, entryAt}
 use Rattle.hash.specs.Fnv.{fnv}
 use Rattle.store.specs.Accepted.{GoodLength, Page0, Page1, Stands}
-use Rattle.store_check.specs.Directory.{Entries, AllAre, AllBelow, Ranges}
+use Rattle.store_check.specs.Directory.{Entries, EntriesTo, AllAre, AllBelow, InRange, Ranges}
 use Rattle.store_check.specs.Begun.{Begun, AllStand}
 
 -- the bytes lent from a up to e
@@ -30,6 +31,46 @@ zero-lent s a e l m z k =
     ap (λ g. byte g k) q
     ∙ ⊎-elim (λ lt. byte-part s a (e - a) k lt ∙ z (a + k) (omega arith) (omega arith))
     (λ ge. List·getD-eq-default (part s a (e - a)) 0 (omega (arith, length-part s a (e - a) (omega arith)))) (side k (e - a))
+
+-- a number of four bytes is 0 exactly where they are
+four-zeros : (s : List ℕ) (a : ℕ) → le32 s a ≡ 0 → (k : ℕ) → a ≤ k → k < a + 4 → byte s k ≡ 0
+unfolding le32 le16
+four-zeros s a z k lo hi =
+    ⊎-elim (λ e. let q : byte s k ≡ byte s a = ap (byte s) e in omega arith)
+    (λ n. ⊎-elim (λ e. let q : byte s k ≡ byte s (a + 1) = ap (byte s) e in omega arith)
+    (λ m. ⊎-elim (λ e. let q : byte s k ≡ byte s (a + 2) = ap (byte s) e in omega arith)
+    (λ l. let e : k ≡ a + 2 + 1 = omega (arith, n, m, l) in let q : byte s k ≡ byte s (a + 2 + 1) = ap (byte s) e in omega arith)
+    (same k (a + 2))) (same k (a + 1))) (same k a)
+
+zeros-four : (s : List ℕ) (a : ℕ) → ((k : ℕ) → a ≤ k → k < a + 4 → byte s k ≡ 0) → le32 s a ≡ 0
+unfolding le32 le16
+zeros-four s a z = omega (arith, z a (omega arith) (omega arith), z (a + 1) (omega arith) (omega arith), z (a + 2) (omega arith) (omega arith), z (a + 2 + 1) (omega arith) (omega arith))
+
+-- the entries behind the first m are zero exactly where their bytes are
+module _ (S : Shape) (s : List ℕ) (m : ℕ) (sized : Sized S) (few : m ≤ S .entries) (long : 2 * size S ≤ length s) where
+  abbrev Behind : Type 0
+  Behind = (i : ℕ) → i < S .entries → m ≤ i → entryAt S s i ≡ 0
+
+  pub bytes-behind : Zero (take (2 * size S - (size S + 4 * m)) (drop (size S + 4 * m) s)) → Behind
+  bytes-behind z i l h = zeros-four s (size S + 4 * i) (λ k lo hi. lent-zero s (size S + 4 * m) (2 * size S) (omega (arith, sized .whole)) long z k (omega arith) (omega (arith, sized .whole)))
+
+  pub behind-bytes : Behind → Zero (take (2 * size S - (size S + 4 * m)) (drop (size S + 4 * m) s))
+  behind-bytes z = zero-lent s (size S + 4 * m) (2 * size S) (omega (arith, sized .whole)) long (λ k lo hi.
+      let i : ℕ = (k - size S) / 4 in
+      four-zeros s (size S + 4 * i) (z i (omega (arith, sized .whole)) (omega arith)) k (omega arith) (omega arith))
+
+  pub entries-all : (dir : List ℕ) → EntriesTo S s dir m → Behind → Entries S s dir
+  entries-all dir e z = record { long = e .long; entry = λ i l. ⊎-elim (λ lt. e .entry i lt) (λ ge. e .beyond i ge ∙ sym (z i l ge)) (side i m) }
+
+  pub ranges-all : (dir : List ℕ) (n : ℕ) → 1 ≤ n → EntriesTo S s dir m → InRange dir n m → Ranges dir n m
+  ranges-all dir n l e r = record {
+    not-one = λ i a b q. ⊎-elim (λ lt. r .not-one i a lt q) (λ ge. omega (arith, e .beyond i ge, q)) (side i m);
+    below = λ i a b. ⊎-elim (λ lt. r .below i a lt) (λ ge. omega (arith, e .beyond i ge)) (side i m);
+    beyond = λ i a b. e .beyond i a;
+  }
+
+pub ranges-some : (dir : List ℕ) (n m : ℕ) → m ≤ length dir → Ranges dir n m → InRange dir n m
+ranges-some dir n m l r = record { not-one = λ i a b. r .not-one i a (omega arith); below = λ i a b. r .below i a (omega arith) }
 
 -- page 1, by its entries
 module _ (S : Shape) (s dir : List ℕ) (n m : ℕ) (decoded : Entries S s dir) (number : n ≡ pages S s) (more : 3 ≤ n) (power : m ≡ 2 ^ dirDepth s) where

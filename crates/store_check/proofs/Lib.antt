@@ -7,5 +7,6 @@ pub mod Naming
 pub mod Heads
 pub mod Heaps
 pub mod Standing
+pub mod Skips
 pub mod Parting
 pub mod Said

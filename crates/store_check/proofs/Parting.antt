@@ -7,15 +7,15 @@ use Prim.Native.Nat.{ℕ, suc, _+_, _-_, _*_, _/_, _^_, _≤_, _<_}
 use native.Mathlib.Omega.{arith}
 use lib.Dec.{eqb}
 use borrow.Author.Tests.{eq-eqb, ne-eqb}
-use lib.ListN.{length, getD, set, take, drop}
+use lib.ListN.{length, getD, set, take, drop, List·getD-eq-default}
 use Rattle.ground.specs.Lists.{byte, total}
-use Rattle.ground.proofs.Sides.{same}
+use Rattle.ground.proofs.Sides.{same, side}
 use Rattle.ground.proofs.Tables.{total-same}
 use Rattle.ground.proofs.Tests.{says-eqb}
 use Rattle.words.specs.Moves.{Span}
 use Rattle.words.specs.Zeros.{Zero}
 use Rattle.hash.specs.Fnv.{fnv, fnv-lt}
-use Rattle.page.specs.Page.{BucketPage, depth, code, rows}
+use Rattle.page.specs.Page.{Record, BucketPage, depth, code, rows}
 use Rattle.page.specs.Page.{free as total-free}
 use Rattle.partition.specs.Bits.{top}
 use Rattle.partition.specs.Partition.{needs, rowsOf, after}
@@ -24,12 +24,16 @@ use Rattle.partition.proofs.Tree.{pfx}
 use Rattle.partition.proofs.Directory.{holds-range, entries-size}
 use Rattle.partition.proofs.Bits.{top-lt, top-step}
 use Rattle.partition.proofs.Path.{path-short}
-use Rattle.store.specs.Pages.{size, pages, page, dirDepth, read, asRow, rowsOn, rowsHeld}
-use Rattle.store.specs.Accepted.{Stands, unused, used, Parted}
+use Rattle.store.specs.Pages.{size, pages, page, dirDepth, free, bucket, read, contents, depthOn, asRow, rowsOn, rowsHeld}
+use Rattle.store.specs.Accepted.{Stands, unused, used, Parted, Deepest}
 use Rattle.store.specs.Moves.{pick}
 use Rattle.partition.specs.declared.Shape.{Shape}
 use Rattle.store.specs.Demands.{Sized}
-use Rattle.store.proofs.Accepted.Unique.{read-zero, read-used, page-long}
+use Rattle.store.proofs.Accepted.Named.{deepest-le}
+use Rattle.store.proofs.Accepted.Unique.{read-zero, read-used, page-long, held as held-at}
+use Rattle.store.proofs.Showing.Shows.{Holding}
+use Rattle.store.proofs.Showing.Shown.{free-not}
+use Rattle.store.proofs.Showing.Showing.{pages-held}
 use Rattle.store.proofs.Paging.Depths.{page-byte}
 use Rattle.store.proofs.Paging.PageTies.{page-needs}
 use Rattle.store.proofs.Paging.Views.{page-lent}
@@ -72,6 +76,10 @@ pub hashed-more : (S : Shape) (s : List ℕ) {p x : ℕ} {hashes : List ℕ} →
 hashed-more S s {hashes = hashes} H a b e =
     let F = filled-more (λ k v. v ≡ firstOf (page S s k)) {l = hashes} (record { long = H .long; start = a; each = H .each }) b e in
     record { long = F .long; each = F .each }
+
+-- of the free pages from p up to q it is 0
+pub hashed-free : (S : Shape) (s : List ℕ) {p q : ℕ} {hashes : List ℕ} → Hashed S s p hashes → ((k : ℕ) → p ≤ k → getD hashes k 0 ≡ 0) → ((k : ℕ) → k < q → p ≤ k → Zero (page S s k)) → Hashed S s q hashes
+hashed-free S s {p} H none clear = record { long = H .long; each = λ k a b. ⊎-elim (λ lt. H .each k a lt) (λ ge. none k ge ∙ sym (first-free (page S s k) (clear k b ge 0))) (side k p) }
 
 pub hashed-all : (S : Shape) (s hashes : List ℕ) (n p : ℕ) → Hashed S s p hashes → n ≤ p → Hashed S s n hashes
 hashed-all S s hashes n p H l = record { long = H .long; each = λ q a b. H .each q a (omega arith) }
@@ -208,3 +216,19 @@ undivided S s n a z q l m j e = go (a .each q l m)
     go : Stands S fnv s q → S .capacity < needs (rowsOf fnv (rowsHeld S s) j (top j (fnv (code (page S s q) 0))))
     go (unused g _) = absurd (omega (arith, g 1, e))
     go (used b k _) = absurd (omega (arith, k, z, e))
+
+-- and none is deeper than it
+pub level : (S : Shape) (s : List ℕ) → AllStand S s (pages S s) → dirDepth s ≡ 0 → Deepest S s
+level S s a z = omega (arith, z, deepest-le (contents S s) 0 flat)
+  where
+    shallow : (q : ℕ) → Stands S fnv s q → (k : ℕ) (rs : List Record) → read (page S s q) ≡ bucket k rs → k ≤ 0
+    shallow q (unused g _) k rs e = absurd (free-not (sym (read-zero (page S s q) g) ∙ e))
+    shallow q (used b l _) k rs e = let f : depth (page S s q) ≡ k = ap depthOn (sym (read-used (page S s q) (b .rules)) ∙ e) in omega (arith, l, z)
+
+    flat : (i k : ℕ) (rs : List Record) → Holding (contents S s) i k rs → k ≤ 0
+    flat i k rs e = ⊎-elim
+        (λ lt.
+        let n : i + 2 - 2 ≡ i = omega arith in
+        shallow (i + 2) (a .each (i + 2) (omega arith) (omega arith)) k rs (sym (held-at S s (i + 2) (omega arith) (omega arith)) ∙ ap (λ j. getD (contents S s) j free) n ∙ e))
+        (λ ge. absurd (free-not (sym (List·getD-eq-default (contents S s) free (omega (arith, pages-held S s))) ∙ e)))
+        (side i (pages S s - 2))

@@ -2,7 +2,7 @@
 use mathlib.Core.Path.{_≡_, refl, sym, subst}
 use mathlib.Core.Bool.{Bool, true, false}
 use mathlib.Core.List.{List}
-use Prim.Native.Nat.{ℕ, _+_}
+use Prim.Native.Nat.{ℕ, _+_, _%_}
 use native.Mathlib.Omega.{arith}
 use lib.Dec.{eqb}
 use lib.ListN.{length-replicate, replicate}
@@ -13,7 +13,7 @@ use Rattle.partition.specs.Sizes.{size, Sized, S4096, S16384, either, shapeFor,
 use Rattle.partition.proofs.Sizes.{sized-for, sized-of}
 use Rattle.store.specs.Accepted.{GoodLength}
 use Rattle.store.proofs.Paging.PageTies.{zeros}
-use Rattle.store_check.specs.Begun.{Tables}
+use Rattle.store_check.specs.Begun.{Tables, Checkable}
 
 pub said-sized : (s : List ℕ) (z : Shape) → z ≡ shapeOf s → Sized z
 said-sized s z e = subst Sized (sym e) (sized-of s)
@@ -51,11 +51,14 @@ blank S = record {
   hashes-long = length-replicate {A = ℕ} (S .entries + 2) 0;
   sums-long = length-replicate {A = ℕ} (S .entries + 1) 0;
   tab-long = length-replicate {A = ℕ} (size S) 0;
+  no-dir = zeros (S .entries);
   no-counts = zeros (S .entries + 2);
+  no-hashes = zeros (S .entries + 2);
   no-sums = zeros (S .entries + 1);
   no-tab = zeros (size S);
 }
 
 -- they are what the check of a store of that size starts with
-pub fresh : (S z : Shape) (s : List ℕ) → Sized S → (z ≡ S) × GoodLength z s → Sized z × GoodLength z s × Blank S z
-fresh S z s d p = (subst Sized (sym (p .0)) d, p .1, subst (Blank S) (sym (p .0)) (blank S))
+pub fresh : (S z : Shape) (s : List ℕ) → Sized S → size S % 1024 ≡ 0 → (z ≡ S) × GoodLength z s
+    → Checkable z s (replicate (S .entries) 0) (replicate (S .entries + 2) 0) (replicate (S .entries + 2) 0) (replicate (S .entries + 1) 0) (replicate (size S) 0)
+fresh S z s d b p = record { sized = subst Sized (sym (p .0)) d; blocks = subst (λ x. size x % 1024 ≡ 0) (sym (p .0)) b; long = p .1; tables = subst (Blank S) (sym (p .0)) (blank S) }

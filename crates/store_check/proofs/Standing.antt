@@ -12,7 +12,6 @@ use Rattle.partition.specs.Bits.{top}
 use Rattle.partition.specs.declared.Shape.{Shape}
 use Rattle.store.specs.Pages.{page, dirDepth, entryAt}
 use Rattle.store.specs.Accepted.{Bucket, Calls, Stands, unused, used}
-use Rattle.words.specs.Folds.{Folded}
 use Rattle.store_check.specs.Directory.{Counted, Named}
 use Rattle.words.specs.Zeros.{Zero}
 use Rattle.store_check.specs.First.{FirstBad}
@@ -23,10 +22,9 @@ use Rattle.store_check.proofs.Naming.{room, unnamed, none-named}
 abbrev pub prefixOf : List ℕ → ℕ
 prefixOf g = top (depth g) (fnv (code g 0))
 
--- slot i has no capital and the prefix of slot 0
-pub record Like (g : List ℕ) (i : ℕ) : Type 0 where
-  pub folded : Folded (code g i)
-  pub share : top (depth g) (fnv (code g 0)) ≡ top (depth g) (fnv (code g i))
+-- slot i has the prefix of slot 0
+abbrev pub Like : List ℕ → ℕ → Type 0
+Like g i = top (depth g) (fnv (code g 0)) ≡ top (depth g) (fnv (code g i))
 
 module _ (S : Shape) (s dir counts : List ℕ) (n d p : ℕ) (B : Begun S s dir n d) (C : Counted dir (2 ^ d) (S .entries + 2) counts) (from : 2 ≤ p) (to : p < n) where
   low : (i : ℕ) → i < length dir → i < S .entries
@@ -48,11 +46,11 @@ module _ (S : Shape) (s dir counts : List ℕ) (n d p : ℕ) (B : Begun S s dir 
   module _ (nz : byte (page S s p) 0 ≡ 0 → ⊥) where
     own-of : Stands S fnv s p → Own (page S s p) d
     own-of (unused a u) = absurd (nz (a 0))
-    own-of (used b k _) = record { rules = b .rules; folded = b .folded 0 (b .rules .some); deep = omega (arith, k, B .depth) }
+    own-of (used b k _) = record { rules = b .rules; folded = b .folded; deep = omega (arith, k, B .depth) }
 
     like-of : Stands S fnv s p → (i : ℕ) → i < count (page S s p) → Like (page S s p) i
     like-of (unused a u) i l = absurd (nz (a 0))
-    like-of (used b k _) i l = record { folded = b .folded i l; share = b .share 0 i (b .rules .some) l }
+    like-of (used b k _) i l = b .share 0 i (b .rules .some) l
 
     named-of : Stands S fnv s p → Named dir d (depth (page S s p)) (prefixOf (page S s p)) p
     named-of (unused a u) i l = absurd (nz (a 0))
@@ -70,7 +68,7 @@ module _ (S : Shape) (s dir counts : List ℕ) (n d p : ℕ) (B : Begun S s dir 
 
     pub used-stands : Own g d → ((i : ℕ) → i < count g → Like g i) → Named dir d (depth g) (prefixOf g) p → Stands S fnv s p
     used-stands o like names = used
-        (subst (Bucket fnv) e (record { rules = o .rules; folded = λ i l. like i l .folded; share = λ i j l m. sym (like i l .share) ∙ like j m .share }))
+        (subst (Bucket fnv) e (record { rules = o .rules; folded = o .folded; share = λ i j l m. sym (like i l) ∙ like j m }))
         (subst (λ x. depth x ≤ dirDepth s) e (omega (arith, o .deep, B .depth)))
         (λ i l. subst (λ x. (entryAt S s i ≡ p) ↔ Calls (dirDepth s) (depth x) (prefixOf x) i) e (
           (λ q. subst (λ k. Calls k (depth g) (prefixOf g) i) (B .depth) (names i (high i l) .0 (B .entries .entry i l ∙ q))),

@@ -12,8 +12,9 @@ use Rattle.hash.specs.Fnv.{fnv}
 use Rattle.partition.specs.Bits.{top}
 use Rattle.partition.specs.Partition.{needs}
 use Rattle.partition.specs.declared.Shape.{Shape}
-use Rattle.store.specs.Pages.{page, read, rowsOn}
+use Rattle.store.specs.Pages.{pages, page, read, rowsOn}
 use Rattle.store.specs.Moves.{pick}
+use Rattle.store_check.specs.Begun.{AllStand}
 use Rattle.store_check.specs.Heaps.{below, Heaped}
 
 -- a page that can be read: free, or a bucket
@@ -55,3 +56,17 @@ module _ (S : Shape) (s : List ℕ) where
     pub hashed : Hashed n hashes
     pub long : length sums ≡ S .entries + 1
     pub each : (v : ℕ) → v ≤ S .entries → getD sums v 0 ≡ below topAt loadAt (n - 2) v
+
+  -- what pass 2 starts from: n pages that stand, their first hashes, and sums that are zero
+  pub record Pass2 (n : ℕ) (hashes sums : List ℕ) : Type 0 where
+    pub stand : AllStand S s n
+    pub hashed : Hashed n hashes
+    pub sums-long : length sums ≡ S .entries + 1
+    pub no-sums : Zero sums
+
+  -- what pass 2 goes by at page p
+  pub record Digested (hashes sums : List ℕ) (p : ℕ) : Type 0 where
+    pub stand : AllStand S s (pages S s)
+    pub digest : Digest (pages S s) hashes sums
+    pub from : 2 ≤ p
+    pub to : p < pages S s

@@ -5,12 +5,16 @@ use Rattle.partition.specs.declared.Shape.{Shape}
 use Rattle.store.specs.Pages.{pages}
 use Rattle.store.specs.Accepted.{Accepted, Broken}
 
--- of the pages 2 upward, n in all with pages 0 and 1, p is the first that breaks the rule, or p is n
-pub record FirstBad (n : ℕ) (Keeps : ℕ → Type 0) (p : ℕ) : Type 0 where
+-- of the pages from a on, up to n, p is the first that breaks the rule, or p is n
+pub record FirstFrom (a n : ℕ) (Keeps : ℕ → Type 0) (p : ℕ) : Type 0 where
   pub within : p ≤ n
-  pub start : 2 ≤ p
-  pub before : (q : ℕ) → q < p → 2 ≤ q → Keeps q
+  pub start : a ≤ p
+  pub before : (q : ℕ) → q < p → a ≤ q → Keeps q
   pub bad : p < n → Keeps p → ⊥
+
+-- the same of the pages 2 upward
+abbrev pub FirstBad : ℕ → (ℕ → Type 0) → ℕ → Type 0
+FirstBad n Keeps p = FirstFrom 2 n Keeps p
 
 -- p is the page at which the check stops, or the number of pages of an accepted store
 pub record Judged (S : Shape) (h : List ℕ → ℕ) (s : List ℕ) (p : ℕ) : Type 0 where

@@ -4,11 +4,9 @@ ghost use Rattle.hash.specs.Fnv.{fnv};
 ghost use Rattle.partition.specs.Partition.{S1024};
 ghost use Rattle.partition.specs.Sizes.{S4096, S16384, shapeOf};
 ghost use Rattle.store.specs.Accepted.{GoodLength};
-ghost use Rattle.store.specs.Demands.{Sized};
 ghost use Rattle.store_check.specs.First.{Judged};
-ghost use Rattle.store_check.specs.Begun.{Tables};
-use super::entry_runs::entries;
-use super::entry_runs::ranges;
+ghost use Rattle.store_check.specs.Begun.{Checkable};
+use super::entry_runs::page1_ok;
 use super::entry_runs::tally;
 use super::head::page0_ok;
 use super::pages::first_unsound;
@@ -25,7 +23,7 @@ fn judge(
     sums: &mut [u32],
     tab: &mut [u8],
 ) -> usize
-    requires { ⌜ Sized z × GoodLength z (now s) × Tables z (now dir) (now counts) (now hashes) (now sums) (now tab) ⌝ }
+    requires { ⌜ Checkable z (now s) (now dir) (now counts) (now hashes) (now sums) (now tab) ⌝ }
     ensures { λ r. ⌜ Judged z fnv (now (s .entry)) r ⌝ }
 {
     let n = s.len() / (8 + z.capacity);
@@ -34,8 +32,7 @@ fn judge(
     }
     let d = words::get32(s, 16) as u32;
     let m = partition::two_to(d);
-    entries(s, z, dir);
-    if !ranges(dir, n as u32, m) {
+    if !page1_ok(s, z, n, m, dir) {
         return 1;
     }
     tally(dir, m, counts);
@@ -43,7 +40,11 @@ fn judge(
     if p < n {
         return p;
     }
-    let q = first_joinable(s, z, n, d, hashes, sums);
+    // no bucket is divided, and none deeper than the directory
+    if d == 0 {
+        return n;
+    }
+    let q = first_joinable(s, z, n, hashes, sums);
     if q < n {
         return q;
     }

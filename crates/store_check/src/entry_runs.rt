@@ -1,21 +1,19 @@
 // The directory, read once, and runs of its entries.
 ghost use mathlib.Core.Path.{_≡_};
-ghost use Prim.Native.Nat.{_*_, _^_, _≤_, _<_};
+ghost use mathlib.Core.Bool.{true};
+ghost use Prim.Native.Nat.{_≤_};
 ghost use lib.ListN.{length};
 ghost use Rattle.ground.specs.Says.{Says};
-ghost use Rattle.words.specs.Zeros.{Zero};
-ghost use Rattle.store_check.specs.Directory.{Entries, AllAre, NoneIs, AllBelow, Counted, Ranges, Named};
+ghost use Rattle.store_check.specs.Directory.{Roomy, Numbered, Entries, EntriesTo, AllAre, NoneIs, AllBelow, InRange, Uncounted, Counted, Tallied, Named};
+ghost use Rattle.store.specs.Accepted.{Page1};
 ghost use Rattle.partition.specs.Bits.{top};
-ghost use Rattle.store.specs.Pages.{size};
-ghost use Rattle.store.specs.Demands.{Sized};
 use partition::Shape;
 
-// The directory's entries.
-pub fn entries(s: &[u8], z: Shape, dir: &mut [u32])
-    requires { ⌜ Sized z × (2 * size z ≤ length (now s)) × (length (now dir) ≡ z .entries) ⌝ }
-    ensures { λ _. ⌜ Entries z (now (s .entry)) (now (dir .exit)) ⌝ }
+// The directory's first m entries.
+fn entries(s: &[u8], z: Shape, m: usize, dir: &mut [u32])
+    requires { ⌜ Roomy z (now s) (now dir) m ⌝ }
+    ensures { λ _. ⌜ EntriesTo z (now (s .entry)) (now (dir .exit)) m ⌝ }
 {
-    let m = z.entries;
     let mut i = 0;
     while i < m {
         dir[i] = words::get32(s, 8 + z.capacity + 4 * i) as u32;
@@ -71,23 +69,34 @@ fn all_below(dir: &[u32], a: usize, b: usize, n: u32) -> bool
     ok
 }
 
-// Whether the entries are in range for n pages, and zero from m on, which is in range.
-pub fn ranges(dir: &[u32], n: u32, m: usize) -> bool
-    requires { ⌜ (m ≤ length (now dir)) × (1 ≤ n) ⌝ }
-    ensures { λ r. ⌜ Says r (Ranges (now (dir .entry)) n m) ⌝ }
+// Whether the entries up to m are in range for n pages.
+fn ranges(dir: &[u32], n: u32, m: usize) -> bool
+    requires { ⌜ m ≤ length (now dir) ⌝ }
+    ensures { λ r. ⌜ Says r (InRange (now (dir .entry)) n m) ⌝ }
 {
     if !none_is(dir, 0, m, 1) {
         return false;
     }
-    if !all_below(dir, 0, m, n) {
+    all_below(dir, 0, m, n)
+}
+
+// Whether page 1 keeps its rules, with m entries in use, and if so the entries: those behind are looked at as bytes, not read.
+pub fn page1_ok(s: &[u8], z: Shape, n: usize, m: usize, dir: &mut [u32]) -> bool
+    requires { ⌜ Numbered z (now s) (now dir) n m ⌝ }
+    ensures says { λ r. ⌜ Says r (Page1 z (now (s .entry))) ⌝ }
+    ensures read { λ r. ⌜ (r ≡ true → Entries z (now (s .entry)) (now (dir .exit))) ⌝ }
+{
+    let size = 8 + z.capacity;
+    if !words::all_zero(&s[size + 4 * m..2 * size]) {
         return false;
     }
-    all_are(dir, m, dir.len(), 0)
+    entries(s, z, m, dir);
+    ranges(dir, n as u32, m)
 }
 
 // How many of the entries up to m name each page.
 pub fn tally(dir: &[u32], m: usize, counts: &mut [u32])
-    requires { ⌜ (m ≤ length (now dir)) × (m ≤ 4096) × AllBelow (now dir) 0 m (length (now counts)) × Zero (now counts) ⌝ }
+    requires { ⌜ Uncounted (now dir) (now counts) m ⌝ }
     ensures { λ _. ⌜ Counted (now (dir .entry)) m (length (now (counts .entry))) (now (counts .exit)) ⌝ }
 {
     let mut i = 0;
@@ -100,7 +109,7 @@ pub fn tally(dir: &[u32], m: usize, counts: &mut [u32])
 
 // Whether page p is named by exactly the entries that the first k bits of the hash x call for, in a directory of depth d: all of them, and as many as name p.
 pub fn named(dir: &[u32], counts: &[u32], d: u32, k: u32, x: u32, p: u32) -> bool
-    requires { ⌜ (2 ^ d ≤ length (now dir)) × (d ≤ 12) × (k ≤ d) × (2 ≤ p) × (p < length (now counts)) × AllAre (now dir) (2 ^ d) (length (now dir)) 0 × Counted (now dir) (2 ^ d) (length (now counts)) (now counts) ⌝ }
+    requires { ⌜ Tallied (now dir) (now counts) d k p ⌝ }
     ensures { λ r. ⌜ Says r (Named (now (dir .entry)) d k (top k x) p) ⌝ }
 {
     let run = partition::run_of(x, k, d);

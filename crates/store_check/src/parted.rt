@@ -1,17 +1,13 @@
 // Pass 2: of a bucket of depth over 0 the rows of the prefix one bit shorter do not fit.
-ghost use mathlib.Core.Path.{_≡_};
-ghost use Prim.Native.Nat.{_+_, _≤_, _<_};
+ghost use Prim.Native.Nat.{_<_};
 ghost use lib.ListN.{length, getD};
 ghost use Rattle.ground.specs.Lists.{total};
 ghost use Rattle.ground.specs.Says.{Says};
 ghost use Rattle.hash.specs.Fnv.{fnv};
 ghost use Rattle.words.specs.Moves.{Span};
-ghost use Rattle.words.specs.Zeros.{Zero};
-ghost use Rattle.store.specs.Pages.{pages, dirDepth};
 ghost use Rattle.store.specs.Accepted.{Parted};
 ghost use Rattle.store_check.specs.First.{FirstBad};
-ghost use Rattle.store_check.specs.Begun.{AllStand};
-ghost use Rattle.store_check.specs.Digest.{Legible, LoadOf, Hashed, Celled, Digest};
+ghost use Rattle.store_check.specs.Digest.{Legible, LoadOf, Celled, Pass2, Digested};
 use partition::Shape;
 
 // What a page's rows need.
@@ -27,7 +23,7 @@ fn page_load(pg: &[u8]) -> u32
 
 // What the pages need together, for each number of the first bits of their first hash.
 fn digest(s: &[u8], z: Shape, n: usize, hashes: &[u32], cells: &mut [u32])
-    requires { ⌜ AllStand z (now s) n × Hashed z (now s) n (now hashes) × (length (now cells) ≡ z .entries + 1) × Zero (now cells) ⌝ }
+    requires { ⌜ Pass2 z (now s) n (now hashes) (now cells) ⌝ }
     ensures { λ _. ⌜ Celled z (now (s .entry)) n (now (cells .exit)) ⌝ }
 {
     let mut p = 2;
@@ -57,7 +53,7 @@ fn add_up(cells: &mut [u32])
 
 // Whether page p keeps pass 2's rule: a prefix's run of cells needs what its rows need.
 fn parted_ok(s: &[u8], z: Shape, hashes: &[u32], sums: &[u32], p: usize) -> bool
-    requires { ⌜ AllStand z (now s) (pages z (now s)) × Digest z (now s) (pages z (now s)) (now hashes) (now sums) × (2 ≤ p) × (p < pages z (now s)) ⌝ }
+    requires { ⌜ Digested z (now s) (now hashes) (now sums) p ⌝ }
     ensures { λ r. ⌜ Says r (Parted z fnv (now (s .entry)) p) ⌝ }
 {
     let d = s[p * (8 + z.capacity) + 1] as u32;
@@ -70,21 +66,11 @@ fn parted_ok(s: &[u8], z: Shape, hashes: &[u32], sums: &[u32], p: usize) -> bool
     z.capacity < (sums[b] - sums[a]) as usize
 }
 
-// The first page that does not keep it, or n. Where the directory's depth d is 0, no bucket has a prefix to shorten.
-pub fn first_joinable(
-    s: &[u8],
-    z: Shape,
-    n: usize,
-    d: u32,
-    hashes: &[u32],
-    sums: &mut [u32],
-) -> usize
-    requires { ⌜ AllStand z (now s) n × Hashed z (now s) n (now hashes) × (length (now sums) ≡ z .entries + 1) × Zero (now sums) × (d ≡ dirDepth (now s)) ⌝ }
+// The first page that does not keep it, or n.
+pub fn first_joinable(s: &[u8], z: Shape, n: usize, hashes: &[u32], sums: &mut [u32]) -> usize
+    requires { ⌜ Pass2 z (now s) n (now hashes) (now sums) ⌝ }
     ensures { λ r. ⌜ FirstBad n (Parted z fnv (now (s .entry))) r ⌝ }
 {
-    if d == 0 {
-        return n;
-    }
     digest(s, z, n, hashes, sums);
     add_up(sums);
     let mut p = 2;

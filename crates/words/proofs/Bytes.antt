@@ -48,6 +48,45 @@ wrote-more {p} {q} {k} {n} {f} v w h e = record {
   old = frame-join k (n + 1) (w .old) (frame-set q (k + n) v) (omega arith) (omega arith) (omega arith) (omega arith);
 }
 
+-- one more from the start
+pub at-start : {p q : List ℕ} {n : ℕ} {f : ℕ → ℕ} (v : ℕ) → Wrote p 0 n f q → n < length q → v ≡ f n → Wrote p 0 (n + 1) f (set q n v)
+at-start {p} {q} {n} {f} v w h e = rw (zero-add n) at (wrote-more {k = 0} v w (omega arith) e)
+
+-- the same bytes by another name
+pub wrote-as : {p q : List ℕ} {k n m : ℕ} {f g : ℕ → ℕ} → n ≡ m → ((i : ℕ) → i < m → f i ≡ g i) → Wrote p k n f q → Wrote p k m g q
+wrote-as {p} {q} {k} {n} {m} e s w = record {
+  new = λ i h. w .new i (omega arith) ∙ s i h;
+  old = record { len = w .old .len; below = w .old .below; above = λ i h. w .old .above i (omega arith) };
+}
+
+-- a second run, which begins in the first or right behind it
+pub wrote-on : {p q r : List ℕ} {n k m : ℕ} {f : ℕ → ℕ} → Wrote p 0 n f q → Wrote q k m (λ j. f (k + j)) r → k ≤ n → n ≤ k + m → Wrote p 0 (k + m) f r
+wrote-on {p} {q} {r} {n} {k} {m} {f} w v h l = record {
+  new = λ i x. ⊎-elim
+      (λ lt. v .old .below (0 + i) (omega arith) ∙ w .new i (omega arith))
+      (λ ge. let e : k + (i - k) ≡ i = omega arith in let z : 0 + i ≡ k + (i - k) = omega arith in ap (λ (j : ℕ). byte r j) z ∙ v .new (i - k) (omega arith) ∙ ap f e)
+      (side i k);
+  old = record {
+    len = v .old .len ∙ w .old .len;
+    below = λ i x. absurd (omega arith);
+    above = λ i x. v .old .above i (omega arith) ∙ w .old .above i (omega arith);
+  };
+}
+
+-- what is written is there, and may be written again with more
+pub wrote-self : {p q : List ℕ} {k n : ℕ} {f : ℕ → ℕ} → Wrote p k n f q → Wrote q k n f q
+wrote-self w = record { new = w .new; old = record { len = refl; below = λ i h. refl; above = λ i h. refl } }
+
+pub wrote-again : {p q r : List ℕ} {n m : ℕ} {f : ℕ → ℕ} → Wrote p 0 n f q → Wrote q 0 m f r → n ≤ m → Wrote p 0 m f r
+wrote-again w v h = record {
+  new = v .new;
+  old = record {
+    len = v .old .len ∙ w .old .len;
+    below = λ i x. absurd (omega arith);
+    above = λ i x. v .old .above i x ∙ w .old .above i (omega arith);
+  };
+}
+
 -- numbers at places where two lists agree
 pub le16-same : (p q : List ℕ) (k : ℕ) → byte q k ≡ byte p k → byte q (k + 1) ≡ byte p (k + 1) → le16 q k ≡ le16 p k
 unfolding le16

@@ -6,19 +6,15 @@ use mathlib.Core.Logic.{_⊎_, inl, inr, ⊎-elim, _↔_}
 use Prim.Native.Nat.{ℕ, _+_, _-_, _≤_, _<_}
 use native.Mathlib.Decide.{ℕ-discrete}
 use native.Mathlib.Omega.{arith}
-use borrow.Author.Count.{below-more}
 use borrow.Author.Tests.{leb-true, leb-false}
-use lib.Bits.{bitOr}
 use lib.Dec.{leb}
 use lib.ListN.{length, take, drop, length-map, List·getD-map}
 use lib.Seq.{ext-getD}
 use Rattle.ground.specs.Lists.{byte, part}
 use Rattle.ground.proofs.Parts.{lent-part, part-is}
-use Rattle.ground.proofs.Sides.{side}
 use Rattle.words.specs.Codes.{GoodCode}
 use Rattle.words.specs.Moves.{Copied}
 use Rattle.words.specs.Folds.{lowered, foldByte, fold, Folded}
-use Rattle.words.proofs.Zeros.{or-zero, zero-or}
 
 -- what foldByte does to a byte
 pub data FoldsTo (b : ℕ) : ℕ → Type 0 where
@@ -46,14 +42,7 @@ byte-kept b = (λ e. to (foldByte b) (folds b) e, λ n. from (foldByte b) (folds
     from c (capital l m) n = absurd (⊎-elim (λ x. omega arith) (λ x. omega arith) n)
     from c (other n) m = refl
 
--- and changed where it is one
-pub byte-changed : (b : ℕ) → (foldByte b ≡ b → ⊥) → (0x41 ≤ b) × (b ≤ 0x5A)
-byte-changed b n = go (foldByte b) (folds b) n
-  where
-    go : (c : ℕ) → FoldsTo b c → (c ≡ b → ⊥) → (0x41 ≤ b) × (b ≤ 0x5A)
-    go c (capital l m) n = (l, m)
-    go c (other m) n = absurd (n refl)
-
+-- and a capital is changed
 pub byte-capital : (b : ℕ) → 0x41 ≤ b → b ≤ 0x5A → foldByte b ≡ b + 0x20
 byte-capital b l m = go (foldByte b) (folds b)
   where
@@ -119,29 +108,3 @@ folded-part p c q w l =
     let e : length c ≡ length (fold c) = sym (fold-length c) in
     lent-part q 0 (length c) (length c) (omega arith) ∙ ap (part q 0) e
     ∙ part-is q 0 (fold c) (omega (arith, e)) (λ i m. w .new i m)
-
--- acc is zero exactly when the first i bytes are folded, and the i bytes from r on
-pub record EndsFolded (s : List ℕ) (r i acc : ℕ) : Type 0 where
-  pub so : acc ≡ 0 → (k : ℕ) → k < i → (foldByte (byte s k) ≡ byte s k) × (foldByte (byte s (r + k)) ≡ byte s (r + k))
-  pub back : Folded s → acc ≡ 0
-
-pub ends-none : (s : List ℕ) (r : ℕ) → EndsFolded s r 0 0
-ends-none s r = record { so = λ _ k l. absurd (omega arith); back = λ _. refl }
-
-pub ends-more : {s : List ℕ} {r i acc : ℕ} (x y : ℕ) → EndsFolded s r i acc → (x ≡ 0) ↔ (foldByte (byte s i) ≡ byte s i) → (y ≡ 0) ↔ (foldByte (byte s (r + i)) ≡ byte s (r + i))
-    → EndsFolded s r (i + 1) (bitOr acc (bitOr x y))
-ends-more {s} {r} {i} {acc} x y e f g = record {
-  so = λ z.
-      let a = or-zero acc (bitOr x y) z in
-      let b = or-zero x y (a .1) in
-      below-more (λ k. (foldByte (byte s k) ≡ byte s k) × (foldByte (byte s (r + k)) ≡ byte s (r + k))) i (e .so (a .0)) (f .0 (b .0), g .0 (b .1));
-  back = λ w. zero-or acc (bitOr x y) (e .back w) (zero-or x y (f .1 (each-folded s w i)) (g .1 (each-folded s w (r + i))));
-}
-
--- a code of at most 2n bytes is folded where its first and its last n are
-pub ends-all : (s : List ℕ) (r n : ℕ) → r + n ≡ length s → length s ≤ n + n
-    → ((k : ℕ) → k < n → (foldByte (byte s k) ≡ byte s k) × (foldByte (byte s (r + k)) ≡ byte s (r + k))) → Folded s
-ends-all s r n e l f = folded-each s (λ k m. ⊎-elim
-    (λ a. f k a .0)
-    (λ (a : n ≤ k). let same : r + (k - r) ≡ k = omega arith in let low : k - r < n = omega arith in rw same at (f (k - r) low .1))
-    (side k n))

@@ -2,13 +2,14 @@
 use mathlib.Core.Path.{_≡_, refl, sym, _∙_}
 use mathlib.Core.Logic.{⊎-elim}
 use mathlib.Core.List.{List}
-use Prim.Native.Nat.{ℕ, _+_, _-_, _<_}
+use Prim.Native.Nat.{ℕ, _+_, _-_, _≤_, _<_}
 use native.Mathlib.Omega.{arith}
 use lib.Seq.{ext-getD}
 use Rattle.ground.specs.Lists.{byte}
 use Rattle.ground.proofs.Sides.{side}
 use Rattle.words.specs.Moves.{Frame, Put16, Put32, Wrote, Span}
 use Rattle.words.specs.Codes.{Ordered}
+use Rattle.words.specs.Zeros.{ZeroRun}
 use Rattle.words.specs.declared.Order.{Order}
 use Rattle.words.specs.declared.Order.the-variants.{Less, Equal, Greater}
 use Rattle.words.proofs.Bytes.{le16-bytes, le32-byte}
@@ -56,3 +57,13 @@ ordered-one s t Equal Greater x y = absurd (irrefl _ (rw x at y))
 ordered-one s t Greater Less x y = absurd (irrefl _ (before-trans x y))
 ordered-one s t Greater Equal x y = absurd (irrefl _ (rw y at x))
 ordered-one s t Greater Greater x y = refl
+
+-- the longer of two runs has a block of zeros where the shorter ends
+run-most : {g : List ℕ} {a b c : ℕ} → ZeroRun g a b → ZeroRun g a c → c ≤ b
+run-most {g} {a} {b} {c} x y = ⊎-elim
+    (λ lt. absurd (x .last (omega (arith, x .from, x .blocks, y .to, y .blocks)) (λ k l h. y .zero k (omega (arith, x .from)) (omega (arith, x .from, x .blocks, y .blocks)))))
+    (λ ge. ge)
+    (side b c)
+
+pub run-one : {g : List ℕ} {a b c : ℕ} → ZeroRun g a b → ZeroRun g a c → b ≡ c
+run-one x y = omega (arith, run-most x y, run-most y x)

@@ -44,6 +44,12 @@ pub record Span (p : List ℕ) (a b : ℕ) (g : ℕ → ℕ) (q : List ℕ) : Ty
 abbrev pub Cleared : List ℕ → ℕ → ℕ → List ℕ → Type 0
 Cleared p a b q = Span p a b (λ x. 0) q
 
+-- from a up to b is in s, and four bytes are below
+pub record MovableUp (s : List ℕ) (a b : ℕ) : Type 0 where
+  pub below : 4 ≤ a
+  pub rising : a ≤ b
+  pub within : b ≤ length s
+
 -- what stood four below, from a up to b
 abbrev pub MovedUp : List ℕ → ℕ → ℕ → List ℕ → Type 0
 MovedUp p a b q = Span p a b (λ x. byte p (x - 4)) q

@@ -4,11 +4,12 @@ ghost use mathlib.Core.Logic.{_↔_};
 ghost use Prim.Native.Nat.{_+_, _*_, _^_, _≤_, _<_, min};
 ghost use lib.ListN.{length};
 ghost use Rattle.ground.specs.Says.{Says};
-ghost use Rattle.words.specs.Le.{le16, le32};
+ghost use Rattle.ground.specs.Lists.{byte};
+ghost use Rattle.words.specs.Le.{le16, le32, Nests};
 ghost use Rattle.words.specs.Codes.{Ordered};
 ghost use Rattle.words.specs.Folds.{foldByte, fold, Folded};
-ghost use Rattle.words.specs.Moves.{Put16, Put32, Copied, MovedDown, Cleared, MovedUp};
-ghost use Rattle.words.specs.Zeros.{Zero, ZeroFrom};
+ghost use Rattle.words.specs.Moves.{Put16, Put32, Wrote, Copied, MovedDown, Span, Cleared, MovableUp, MovedUp};
+ghost use Rattle.words.specs.Zeros.{Zero, ZeroFrom, ZeroRun};
 
 // A byte as a number of the width that the others have.
 pub fn wide(x: u8) -> usize
@@ -19,7 +20,7 @@ pub fn wide(x: u8) -> usize
 
 // q above the k bits of low. Bytes so nested become one load.
 pub fn on(q: usize, k: u32, low: usize) -> usize
-    requires { ⌜ (q < 256) × (k ≤ 56) × (low < 2 ^ k) ⌝ }
+    requires { ⌜ Nests q k low ⌝ }
     ensures { λ r. ⌜ r ≡ q * 2 ^ k + low ⌝ }
 {
     q << k | low
@@ -83,21 +84,29 @@ pub fn move_down(s: &mut [u8], at: usize, n: usize)
     }
 }
 
+// x from a up to b.
+pub fn fill(s: &mut [u8], a: usize, b: usize, x: u8)
+    requires { ⌜ (a ≤ b) × (b ≤ length (now s)) ⌝ }
+    ensures { λ _. ⌜ Span (now (s .entry)) a b (λ _. x) (now (s .exit)) ⌝ }
+{
+    let mut i = a;
+    while i < b {
+        s[i] = x;
+        i += 1;
+    }
+}
+
 // Zeros from a up to b.
 pub fn clear(s: &mut [u8], a: usize, b: usize)
     requires { ⌜ (a ≤ b) × (b ≤ length (now s)) ⌝ }
     ensures { λ _. ⌜ Cleared (now (s .entry)) a b (now (s .exit)) ⌝ }
 {
-    let mut i = a;
-    while i < b {
-        s[i] = 0;
-        i += 1;
-    }
+    fill(s, a, b, 0);
 }
 
 // What stands four below goes to a up to b, from the end.
 pub fn move_up(s: &mut [u8], a: usize, b: usize)
-    requires { ⌜ (4 ≤ a) × (a ≤ b) × (b ≤ length (now s)) ⌝ }
+    requires { ⌜ MovableUp (now s) a b ⌝ }
     ensures { λ _. ⌜ MovedUp (now (s .entry)) a b (now (s .exit)) ⌝ }
 {
     let mut i = b;
@@ -135,18 +144,26 @@ fn zero_rest(s: &[u8], a: usize) -> bool
     acc == 0
 }
 
+// Where the blocks of 1,024 zeros from a on end.
+pub fn zeros_end(s: &[u8], a: usize) -> usize
+    requires { ⌜ a ≤ length (now s) ⌝ }
+    ensures { λ r. ⌜ ZeroRun (now (s .entry)) a r ⌝ }
+{
+    let mut b = a;
+    while 1024 <= s.len() - b {
+        if !zero_block(s, b) {
+            return b;
+        }
+        b += 1024;
+    }
+    b
+}
+
 // Whether every byte is zero: block by block, then the rest.
 pub fn all_zero(s: &[u8]) -> bool
     ensures { λ r. ⌜ Says r (Zero (now (s .entry))) ⌝ }
 {
-    let mut a = 0;
-    while 1024 <= s.len() - a {
-        if !zero_block(s, a) {
-            return false;
-        }
-        a += 1024;
-    }
-    zero_rest(s, a)
+    zero_rest(s, zeros_end(s, 0))
 }
 
 pub enum Order {
@@ -191,9 +208,29 @@ pub fn compare(a: &[u8], b: &[u8]) -> Order
     Order::Equal
 }
 
-// 1 for a byte from 0x41 to 0x5A, else 0.
-fn capital(x: u8) -> u8
-    ensures { λ r. ⌜ (r ≡ 0) ↔ (foldByte x ≡ x) ⌝ }
+// How far a byte lies above 0x41, round 256: below 26 for 0x41 to 0x5A, and for no other.
+pub fn letter(x: u8) -> u8
+    ensures { λ r. ⌜ (26 ≤ r) ↔ (foldByte x ≡ x) ⌝ }
+{
+    if 0x41 <= x {
+        return x - 0x41;
+    }
+    x + 0xBF
+}
+
+// The smaller of two bytes.
+pub fn lesser(x: u8, y: u8) -> u8
+    ensures { λ r. ⌜ r ≡ min x y ⌝ }
+{
+    if y < x {
+        return y;
+    }
+    x
+}
+
+// What is added to a byte where it is folded: 0x20 to one from 0x41 to 0x5A.
+fn shift(x: u8) -> u8
+    ensures { λ r. ⌜ (x + r ≡ foldByte x) × (x + r < 256) ⌝ }
 {
     if x < 0x41 {
         return 0;
@@ -201,21 +238,32 @@ fn capital(x: u8) -> u8
     if 0x5A < x {
         return 0;
     }
-    1
+    0x20
 }
 
 // A byte from 0x41 to 0x5A becomes one from 0x61 to 0x7A.
 fn fold_byte(x: u8) -> u8
     ensures { λ r. ⌜ r ≡ foldByte x ⌝ }
 {
-    if capital(x) == 0 {
-        return x;
-    }
-    x + 0x20
+    x + shift(x)
 }
 
-// The code src, folded, goes to the start of dst.
-pub fn fold_code(dst: &mut [u8], src: &[u8])
+// The eight bytes of src from a on, folded, go to dst at the same index. A fixed number of turns, so that it is a few steps.
+fn fold_eight(dst: &mut [u8], src: &[u8], a: usize)
+    requires { ⌜ (a + 8 ≤ length (now src)) × (length (now src) ≤ length (now dst)) ⌝ }
+    ensures { λ _. ⌜ Wrote (now (dst .entry)) a 8 (λ j. byte (fold (now (src .entry))) (a + j)) (now (dst .exit)) ⌝ }
+{
+    let mut e = [0u8; 8];
+    let mut i = 0;
+    while i < 8 {
+        e[i] = fold_byte(src[a + i]);
+        i += 1;
+    }
+    copy_at(dst, a, &e);
+}
+
+// The same of all bytes, one by one.
+fn fold_each(dst: &mut [u8], src: &[u8])
     requires { ⌜ length (now src) ≤ length (now dst) ⌝ }
     ensures { λ _. ⌜ Copied (now (dst .entry)) 0 (fold (now (src .entry))) (now (dst .exit)) ⌝ }
 {
@@ -226,35 +274,35 @@ pub fn fold_code(dst: &mut [u8], src: &[u8])
     }
 }
 
-// Whether a code of n to 2n bytes has no capital: its first n bytes and its last n. No way out before the end, so that it vectorises.
-fn ends_folded(s: &[u8], n: usize) -> bool
-    requires { ⌜ (n ≤ length (now s)) × (length (now s) ≤ n + n) ⌝ }
-    ensures { λ r. ⌜ Says r (Folded (now (s .entry))) ⌝ }
+// The code src, folded, goes to the start of dst, eight bytes at a time; the last eight may begin among those before.
+pub fn fold_code(dst: &mut [u8], src: &[u8])
+    requires { ⌜ length (now src) ≤ length (now dst) ⌝ }
+    ensures { λ _. ⌜ Copied (now (dst .entry)) 0 (fold (now (src .entry))) (now (dst .exit)) ⌝ }
 {
-    let rest = s.len() - n;
-    let mut acc: u8 = 0;
-    let mut i = 0;
-    while i < n {
-        acc = acc | (capital(s[i]) | capital(s[rest + i]));
-        i += 1;
+    if src.len() < 8 {
+        fold_each(dst, src);
+        return;
     }
-    acc == 0
+    fold_eight(dst, src, 0);
+    let last = src.len() - 8;
+    let mut i = 8;
+    while i < last {
+        fold_eight(dst, src, i);
+        i += 8;
+    }
+    fold_eight(dst, src, last);
 }
 
-// Whether a code has no capital. By a fixed number of turns where it has 8 bytes or more, so that these become one or two looks.
+// Whether a code has no capital.
 pub fn folded(s: &[u8]) -> bool
-    requires { ⌜ length (now s) ≤ 64 ⌝ }
     ensures { λ r. ⌜ Says r (Folded (now (s .entry))) ⌝ }
 {
-    let n = s.len();
-    if n < 8 {
-        return ends_folded(s, n);
+    let mut i = 0;
+    while i < s.len() {
+        if letter(s[i]) < 26 {
+            return false;
+        }
+        i += 1;
     }
-    if n <= 16 {
-        return ends_folded(s, 8);
-    }
-    if n <= 32 {
-        return ends_folded(s, 16);
-    }
-    ends_folded(s, 32)
+    true
 }

@@ -16,13 +16,13 @@ abbrev μ-loop : tie.MeasureT-loop
 μ-loop page first k n acc₀ i₀ acc i = n - i
 
 get16-requires : tie.Need-get16-requires Inv-loop μ-loop
-get16-requires c κs = omega (arith, c .before .pre .0 .rules .least)
+get16-requires c κs = omega (arith, c .before .pre .rules .rules .least)
 
 loop-holds : tie.Need-loop-holds Inv-loop μ-loop
-loop-holds c = let s = c .before .before .pre in (omega (arith, s .0 .some, c .get16 .ensures .0), ored-one _ (s .2) _ _ (s .1))
+loop-holds c = let s = c .before .before .pre in (omega (arith, s .rules .some, c .get16 .ensures .0), ored-one _ (s .bits) _ _ (s .hash))
 
 hash-slot-requires : tie.Need-hash-slot-requires Inv-loop μ-loop
-hash-slot-requires c κs = (c .before .before .before .before .pre .0, omega (arith, c .before .before .get16 .ensures .0))
+hash-slot-requires c κs = (c .before .before .before .before .pre .rules, omega (arith, c .before .before .get16 .ensures .0))
 
 add-i : tie.Need-add-i Inv-loop μ-loop
 add-i c = omega arith
@@ -33,10 +33,10 @@ loop-less c = omega arith
 loop-again : tie.Need-loop-again Inv-loop μ-loop
 loop-again c =
     let s = c .before .before .before .before .before .pre in
-    (omega arith, rw (c .hash-slot .ensures) (ored-more _ (s .2) _ _ _ _ (c .before .before .loop .inv .1)))
+    (omega arith, rw (c .hash-slot .ensures) (ored-more _ (s .bits) _ _ _ _ (c .before .before .loop .inv .1)))
 
 shares-requires : tie.Need-shares-requires Inv-loop μ-loop
-shares-requires c κs = c .before .before .before .before .pre .2
+shares-requires c κs = c .before .before .before .before .pre .bits
 
 returns : tie.Need-returns Inv-loop μ-loop
 returns c =
@@ -45,8 +45,8 @@ returns c =
     let l = c .before .before .loop in
     let e : l .i ≡ count (a .page .now) = omega (arith, c .before .before .before .get16 .ensures .0) in
     let o : Ored (a .k) (λ j. fnv (code (a .page .now) j)) (a .first) (count (a .page .now)) (l .acc) = rw e at (l .inv .1) in
-    let z = top-zero (a .k) (s .pre .2) in
-    says-same (c .shares .result) (c .shares .ensures) (λ t. rw (s .pre .1) at (o .so (sym t ∙ z))) (λ h. z ∙ sym (o .back (rw (s .pre .1) h)))
+    let z = top-zero (a .k) (s .pre .bits) in
+    says-same (c .shares .result) (c .shares .ensures) (λ t. rw (s .pre .hash) at (o .so (sym t ∙ z))) (λ h. z ∙ sym (o .back (rw (s .pre .hash) h)))
 
 pub alike-spec : {M : Type 1} → statement M
 alike-spec =

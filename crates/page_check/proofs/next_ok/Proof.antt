@@ -33,27 +33,20 @@ climbs c = rw (step (c .before .before .before .args .w) (c .before .before .bef
 returns : tie.Need-returns
 returns c = ((λ n. says-false (c .before .rises .result) (not-true _ (c .if1 .taken)) (climbs (c .before)) (n .rises)), ((λ e. untrue e), (λ _. refl)))
 
-slice-read-if2 : tie.Need-slice-read-if2
-slice-read-if2 c = let s = c .before .before .before .before .before .pre in omega (arith, s .sound, s .room, s .same)
-
-returns-2 : tie.Need-returns-2
-returns-2 c = ((λ n. c .if2 .taken (n .vacant)), ((λ e. untrue e), (λ _. refl)))
-
 cast-tab : tie.Need-cast-tab
-cast-tab c = let s = c .before .before .before .before .before .before .pre in record { fits = omega (arith, s .sound) }
+cast-tab c = let s = c .before .before .before .before .pre in record { fits = omega (arith, s .sound) }
 
 slice-write-tab : tie.Need-slice-write-tab
-slice-write-tab c = let s = c .before .before .before .before .before .before .pre in omega (arith, s .sound, s .room, s .same)
+slice-write-tab c = let s = c .before .before .before .before .pre in omega (arith, s .sound, s .room, s .same)
 
 same-length : tie.Need-same-length
 same-length c = search needs
 
-returns-3 : tie.Need-returns-3
-returns-3 c =
-    let d = c .before .before in (
-      record { sound = d .before .before .before .before .pre .sound; rises = says-true (d .before .rises .result) (not-false _ (d .if1 .left)) (climbs (d .before)); vacant = c .if2 .left },
-      ((λ _. refl), (λ e. absurd (true≢false e))),
-    )
+returns-2 : tie.Need-returns-2
+returns-2 c = (
+  record { sound = c .before .before .before .before .pre .sound; rises = says-true (c .before .rises .result) (not-false _ (c .if1 .left)) (climbs (c .before)) },
+  ((λ _. refl), (λ e. absurd (true≢false e))),
+)
 
 pub next-ok-spec : {M : Type 1} → statement M
 next-ok-spec =
@@ -63,9 +56,7 @@ next-ok-spec =
     add-rises-2
     rises-requires
     returns
-    slice-read-if2
-    returns-2
     cast-tab
     slice-write-tab
     same-length
-    returns-3)
+    returns-2)

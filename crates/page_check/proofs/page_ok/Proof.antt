@@ -16,7 +16,7 @@ head-ok-requires : tie.Need-head-ok-requires
 head-ok-requires c κs = search needs
 
 returns : tie.Need-returns
-returns c = ((λ b. says-false (c .before .head-ok .result) (not-true _ (c .if1 .taken)) (c .before .head-ok .ensures) (head-of _ b)), c .before .before .before .before .pre .1)
+returns c = ((λ b. says-false (c .before .head-ok .result) (not-true _ (c .if1 .taken)) (c .before .head-ok .ensures) (head-of _ (b .rules))), c .before .before .before .before .pre .1)
 
 get16-requires : tie.Need-get16-requires
 get16-requires c κs = omega (arith, head c)
@@ -28,27 +28,18 @@ records-ok-requires : tie.Need-records-ok-requires
 records-ok-requires c κs =
     let d = c .before in
     let s = d .before .before .before .before .before .before .pre in
-    (head (d .before .before), d .before .get16 .ensures .0, d .get162 .ensures .0, s .0, s .1)
+    record { head = head (d .before .before); rows = d .before .get16 .ensures .0; front = d .get162 .ensures .0; same = s .0; zero = s .1 }
+
+clear-requires : tie.Need-clear-requires
+clear-requires c κs = omega (arith, head (c .before .before .before .before .before .before .before))
 
 same-length : tie.Need-same-length
 same-length c = search needs
 
 returns-2 : tie.Need-returns-2
 returns-2 c =
-    let r = c .before .before .before .records-ok in
-    (says-true (r .result) (c .if2 .taken) (r .ensures .0), r .ensures .1 .0 (c .if2 .taken))
-
-clear-requires : tie.Need-clear-requires
-clear-requires c κs = omega (arith, head (c .before .before .before .before .before .before .before .before))
-
-same-length-2 : tie.Need-same-length-2
-same-length-2 c = search needs
-
-returns-3 : tie.Need-returns-3
-returns-3 c =
-    let d = c .before .before .before .before in
-    let r = d .before .before .before .records-ok in
-    ((λ b. says-false (r .result) (d .if2 .left) (r .ensures .0) b), cleared _ _ _ (r .ensures .1 .1) (c .before .before .clear .ensures))
+    let r = c .before .before .before .before .before .before .records-ok in
+    (r .ensures .0, cleared _ _ _ (r .ensures .1) (c .before .before .clear .ensures))
 
 pub page-ok-spec : {M : Type 1} → statement M
 page-ok-spec =
@@ -59,8 +50,6 @@ page-ok-spec =
     get16-requires
     get16-requires-2
     records-ok-requires
-    same-length
-    returns-2
     clear-requires
-    same-length-2
-    returns-3)
+    same-length
+    returns-2)

@@ -49,7 +49,7 @@ module _ (c : tie.After-get32 Inv-loop μ-loop) where
   swept = at .loop .inv .6
 
   low : f-of + 4 * start .args .n ≤ length p
-  low = omega (arith, start .pre .0 .room, start .pre .1, start .pre .2)
+  low = omega (arith, start .pre .head .room, start .pre .rows, start .pre .front)
 
   room : f-of ≤ length p
   room = omega (arith, low)
@@ -61,7 +61,7 @@ module _ (c : tie.After-get32 Inv-loop μ-loop) where
   here = omega (arith, low, some, at .loop .inv .1)
 
   high : 8 ≤ k-of
-  high = omega (arith, low, some, here, start .pre .0 .start, start .pre .2)
+  high = omega (arith, low, some, here, start .pre .head .start, start .pre .front)
 
   number : slotOf p k-of ≡ i-of
   number = omega (arith, here)
@@ -69,33 +69,33 @@ module _ (c : tie.After-get32 Inv-loop μ-loop) where
   word-of : c .get32 .result ≡ word p i-of
   word-of = word-is p i-of (c .get32 .result) (c .get32 .ensures .0 ∙ ap (le32 p) (omega (arith, here)))
 
-  follows : SlotsOk p → NextOk p (at .loop .tab) f-of i-of (c .get32 .result)
-  follows h = subst (λ w. NextOk p (at .loop .tab) f-of i-of w) (sym word-of) (next-of p (at .loop .tab) f-of i-of swept (start .pre .2) (omega (arith, some, start .pre .1)) h)
+  follows : SlotsOk p → NextOk p f-of i-of (c .get32 .result)
+  follows h = subst (λ w. NextOk p f-of i-of w) (sym word-of) (next-of p (at .loop .tab) f-of i-of swept (start .pre .front) (omega (arith, some, start .pre .rows)) h)
 
 -- its own rules
 sound : (c : tie.Else1 Inv-loop μ-loop) → let g = c .before .before in WordOk (p g) (f-of g) (g .get32 .result)
 sound c = let g = c .before .before in says-true {P = WordOk (p g) (f-of g) (g .get32 .result)} (c .before .word-ok .result) (not-false _ (c .if1 .left)) (c .before .word-ok .ensures)
 
 mul-end : tie.Need-mul-end Inv-loop μ-loop
-mul-end c = omega (arith, c .before .before .pre .0 .room, c .before .before .pre .0 .most, c .before .before .pre .1)
+mul-end c = omega (arith, c .before .before .pre .head .room, c .before .before .pre .head .most, c .before .before .pre .rows)
 
 sub-end : tie.Need-sub-end Inv-loop μ-loop
-sub-end c = omega (arith, c .before .before .pre .0 .room, c .before .before .pre .1)
+sub-end c = omega (arith, c .before .before .pre .head .room, c .before .before .pre .rows)
 
 loop-holds : tie.Need-loop-holds Inv-loop μ-loop
 unfolding total
 loop-holds c =
     let s = c .before .before in
-    (0, omega arith, omega arith, refl, refl, omega arith, swept-none _ _ _ (s .pre .4), led-none _ (omega (arith, s .pre .0 .least)))
+    (0, omega arith, omega arith, refl, refl, omega arith, swept-none _ _ _ (s .pre .zero), led-none _ (omega (arith, s .pre .head .least)))
 
 sub-k : tie.Need-sub-k Inv-loop μ-loop
-sub-k c = let s = c .before .before .before .before in omega (arith, s .pre .0 .room, s .pre .0 .start, s .pre .1, c .loop-test .taken)
+sub-k c = let s = c .before .before .before .before in omega (arith, s .pre .head .room, s .pre .head .start, s .pre .rows, c .loop-test .taken)
 
 get32-requires : tie.Need-get32-requires Inv-loop μ-loop
-get32-requires c κs = let s = c .before .before .before .before in omega (arith, s .pre .0 .room, s .pre .0 .start, s .pre .1, c .loop-test .taken, c .before .loop .inv .1)
+get32-requires c κs = let s = c .before .before .before .before in omega (arith, s .pre .head .room, s .pre .head .start, s .pre .rows, c .loop-test .taken, c .before .loop .inv .1)
 
 word-ok-requires : tie.Need-word-ok-requires Inv-loop μ-loop
-word-ok-requires c κs = (room c, omega (arith, room c, start c .pre .0 .most))
+word-ok-requires c κs = (room c, omega (arith, room c, start c .pre .head .most))
 
 same-length : tie.Need-same-length Inv-loop μ-loop
 same-length c = search needs
@@ -130,7 +130,7 @@ next-ok-requires c κs =
         lies = record { order = omega (arith, sound e .short); within = omega (arith, sound e .inside, room g) };
         leads = c .before .lead-of .ensures;
       };
-      same = l .inv .3 ∙ start g .pre .3;
+      same = l .inv .3 ∙ start g .pre .same;
     }
 
 same-length-2 : tie.Need-same-length-2 Inv-loop μ-loop
@@ -145,16 +145,16 @@ returns-2 c =
     )
 
 -- the slot that was just taken
-next : (c : tie.Else2 Inv-loop μ-loop) → let g = c .before .before .before .before .before .before .before .before in NextOk (p g) (at g .loop .tab) (f-of g) (i-of g) (g .get32 .result)
+next : (c : tie.Else2 Inv-loop μ-loop) → let g = c .before .before .before .before .before .before .before .before in NextOk (p g) (f-of g) (i-of g) (g .get32 .result)
 next c =
     let g = c .before .before .before .before .before .before .before .before in
-    subst (λ i. NextOk (p g) (at g .loop .tab) (f-of g) i (g .get32 .result)) (number g)
-    (says-true {P = NextOk (p g) (at g .loop .tab) (f-of g) (slotOf (p g) (k-of g)) (g .get32 .result)} (c .before .before .before .next-ok .result) (not-false _ (c .if2 .left)) (c .before .before .before .next-ok .ensures .0))
+    subst (λ i. NextOk (p g) (f-of g) i (g .get32 .result)) (number g)
+    (says-true {P = NextOk (p g) (f-of g) (slotOf (p g) (k-of g)) (g .get32 .result)} (c .before .before .before .next-ok .result) (not-false _ (c .if2 .left)) (c .before .before .before .next-ok .ensures .0))
 
 add-lens : tie.Need-add-lens Inv-loop μ-loop
 add-lens c =
     let g = c .before .before .before .before .before .before .before .before in
-    omega (arith, at g .loop .inv .5, some g, low g, start g .pre .0 .most, next c .sound .long)
+    omega (arith, at g .loop .inv .5, some g, low g, start g .pre .head .most, next c .sound .long)
 
 loop-less : tie.Need-loop-less Inv-loop μ-loop
 loop-less c = let g = c .before .before .before .before .before .before .before .before in omega (arith, high g)
@@ -172,13 +172,13 @@ loop-again c =
       n .kept .1 .0 ∙ l .inv .3,
       omega (arith, needs-more (p g) (i-of g) (g .get32 .result) w, l .inv .4),
       omega (arith, x .sound .long, l .inv .5),
-      swept-more (p g) (l .tab) (f-of g) (i-of g) (swept g) _ (omega (arith, room g, l .inv .3, start g .pre .3))
-          (subst (λ v. NextOk (p g) (l .tab) (f-of g) (i-of g) v) w x) (n .ensures .1 .0 (not-false _ (c .if2 .left)) ∙ ap (λ v. set (l .tab) (offOf v) (lenOf v)) w),
+      swept-more (p g) (l .tab) (f-of g) (i-of g) (swept g) _ (omega (arith, room g, l .inv .3, start g .pre .same))
+          (subst (λ v. NextOk (p g) (f-of g) (i-of g) v) w x) (n .ensures .1 .0 (not-false _ (c .if2 .left)) ∙ ap (λ v. set (l .tab) (offOf v) (lenOf v)) w),
       led-more (p g) (i-of g) (g .get32 .result) (f-of g) _ w (x .sound) (room g) (c .before .before .before .before .before .lead-of .ensures),
     )
 
 get16-requires : tie.Need-get16-requires Inv-loop μ-loop
-get16-requires c κs = omega (arith, c .before .before .before .before .pre .0 .least)
+get16-requires c κs = omega (arith, c .before .before .before .before .pre .head .least)
 
 -- past the last slot
 module _ (c : tie.After-get16 Inv-loop μ-loop) where
@@ -189,22 +189,22 @@ module _ (c : tie.After-get16 Inv-loop μ-loop) where
   last = c .before .before
 
   all : last .loop .inv .0 ≡ count (begun .args .page .now)
-  all = omega (arith, begun .pre .0 .room, begun .pre .1, last .loop .inv .1, last .loop .inv .2, c .before .loop-test .left)
+  all = omega (arith, begun .pre .head .room, begun .pre .rows, last .loop .inv .1, last .loop .inv .2, c .before .loop-test .left)
 
   small : last .loop .lens ≤ 294912
-  small = omega (arith, last .loop .inv .5, all, begun .pre .0 .room, begun .pre .0 .most)
+  small = omega (arith, last .loop .inv .5, all, begun .pre .head .room, begun .pre .head .most)
 
 mul-result : tie.Need-mul-result Inv-loop μ-loop
-mul-result c = omega (arith, begun c .pre .0 .room, begun c .pre .0 .most, begun c .pre .1)
+mul-result c = omega (arith, begun c .pre .head .room, begun c .pre .head .most, begun c .pre .rows)
 
 add-result : tie.Need-add-result Inv-loop μ-loop
-add-result c = omega (arith, begun c .pre .0 .room, begun c .pre .0 .most, begun c .pre .1, c .get16 .ensures .1)
+add-result c = omega (arith, begun c .pre .head .room, begun c .pre .head .most, begun c .pre .rows, c .get16 .ensures .1)
 
 add-result-2 : tie.Need-add-result-2 Inv-loop μ-loop
-add-result-2 c = omega (arith, begun c .pre .0 .room, begun c .pre .0 .most, begun c .pre .1, c .get16 .ensures .1, small c)
+add-result-2 c = omega (arith, begun c .pre .head .room, begun c .pre .head .most, begun c .pre .rows, c .get16 .ensures .1, small c)
 
 sub-result : tie.Need-sub-result Inv-loop μ-loop
-sub-result c = omega (arith, begun c .pre .0 .least)
+sub-result c = omega (arith, begun c .pre .head .least)
 
 same-length-3 : tie.Need-same-length-3 Inv-loop μ-loop
 same-length-3 c = search needs
@@ -216,8 +216,8 @@ returns-3 c =
     let l = last c .loop in
     let u : l .lens + 4 * count q ≡ total (need q) (count q) = subst (λ i. l .lens + 4 * i ≡ total (need q) i) (all c) (l .inv .4) in
     let w : Swept q (count q) (s .args .f) (l .tab) = subst (λ i. Swept q i (s .args .f) (l .tab)) (all c) (l .inv .6) in (
-      says-eqb {P = SlotsOk q} (c .get16 .result + 4 * s .args .n + l .lens) (length q - 8) (λ z. slots-all q (l .tab) (s .args .f) (s .pre .2) w (omega (arith, z, u, c .get16 .ensures .0, s .pre .1))) (λ h. omega (arith, h .unused, u, c .get16 .ensures .0, s .pre .1)),
-      ((λ _. rw (s .pre .1) (w .table)), inside-of _ _ _ _ (w .table)),
+      says-eqb {P = SlotsOk q} (c .get16 .result + 4 * s .args .n + l .lens) (length q - 8) (λ z. slots-all q (l .tab) (s .args .f) (s .pre .front) w (omega (arith, z, u, c .get16 .ensures .0, s .pre .rows))) (λ h. omega (arith, h .unused, u, c .get16 .ensures .0, s .pre .rows)),
+      ((λ _. rw (s .pre .rows) (w .table)), inside-of _ _ _ _ (w .table)),
     )
 
 pub slots-ok-spec : {M : Type 1} → statement M

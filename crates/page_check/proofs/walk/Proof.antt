@@ -1,113 +1,191 @@
 -- `page_check::walk` meets its contract. Assumes nothing.
-use Prim.Native.Nat.{ℕ, _+_, _-_}
-use mathlib.Core.Path.{_≡_, refl}
+use Prim.Native.Nat.{ℕ, _+_, _-_, _≤_}
+use mathlib.Core.Path.{_≡_, refl, sym, subst, _∙_}
 use mathlib.Core.Logic.{⊎-elim}
+use mathlib.Core.List.{List}
 use native.Mathlib.Omega.{arith}
 use borrow.Author.Needs.{needs}
-use lib.ListN.{length, length-set, set}
+use lib.ListN.{length, set}
 use Rattle.ground.specs.Lists.{byte}
 use Rattle.ground.proofs.Sides.{side}
 use Rattle.ground.proofs.Tests.{says-ltb, untrue}
-use Rattle.page_check.proofs.Walked.{Walked, Gap, walked-none, walked-hole, walked-record, inside-still, emptied, laid-of, met-all, end-top}
+use Rattle.page_check.specs.Table.{entries, Table, Laid}
+use Rattle.page_check.proofs.Walked.{Passed, Exact, Walked, Marking, Gap, passed-none, passed-hole, passed-record, ends-within, distinct-of, walked-none, walked-hole, walked-record, marking-none, marking-hole, marking-record, marked-all, laid-of, met-all, end-top}
 use Rattle.page_check.proofs.walk.Statement.{statement}
 use Rattle.page_check.proofs.walk.Tie as tie
 
+-- of the table the entries left are to come; where no two records start at one byte, the last one met ends at end
 abbrev Inv-loop : tie.InvT-loop
-Inv-loop page tab₀ n f pos₀ gap₀ met₀ acc₀ tab pos gap met acc = (length tab ≡ length tab₀) × (end : ℕ) × Walked page n f tab₀ tab pos end met acc × Gap gap pos end
+Inv-loop page tab₀ n f pos₀ gap₀ met₀ acc₀ tab pos gap met acc =
+    (length tab ≡ length tab₀) × (left : List ℕ) × Passed tab₀ f left pos met tab × (entries tab₀ ≡ n → (end : ℕ) × Walked page n f tab₀ left pos end met acc × Gap gap pos end × Marking page n left pos tab)
 
 abbrev μ-loop : tie.MeasureT-loop
 μ-loop page tab₀ n f pos₀ gap₀ met₀ acc₀ tab pos gap met acc = f - pos
 
--- past the record at pos
-jump : (c : tie.Else1 Inv-loop μ-loop) → let a = c .before .before .before .before .args in let l = c .before .before .before .loop in
-    Walked (a .page .now) (a .n) (a .f) (a .tab .now) (set (l .tab) (l .pos) 0) (l .pos + byte (l .tab) (l .pos)) (l .pos + byte (l .tab) (l .pos)) (l .met + 1) (l .acc)
-jump c = walked-record _ _ _ _ (c .before .before .before .before .pre .3) _ _ _ _ _ (c .before .before .before .loop .inv .2) (omega arith) _ (omega (arith, c .if1 .left)) refl
+-- the record at pos
+module _ (c : tie.Else1 Inv-loop μ-loop) where
+  abbrev start : tie.Start Inv-loop μ-loop
+  start = c .before .before .before .before .before .before
+
+  abbrev turn : tie.At-loop Inv-loop μ-loop
+  turn = c .before .before .before
+
+  abbrev table : Table (start .args .page .now) (start .args .n) (start .args .f) (start .args .tab .now)
+  table = start .pre .table
+
+  abbrev left-of : List ℕ
+  left-of = turn .loop .inv .1
+
+  abbrev pos-of : ℕ
+  pos-of = turn .loop .pos
+
+  entry : byte (turn .loop .tab) pos-of ≡ byte left-of pos-of
+  entry = turn .loop .inv .2 .ahead pos-of (omega arith) ∙ sym (turn .loop .inv .2 .later pos-of (omega arith))
+
+  some : 1 ≤ byte (turn .loop .tab) pos-of
+  some = omega (arith, c .if1 .left)
+
+  room : (9 ≤ byte (turn .loop .tab) pos-of) × (pos-of + byte (turn .loop .tab) pos-of ≤ start .args .f)
+  room = ends-within _ _ _ _ table _ _ _ _ (turn .loop .inv .2) (omega arith) some
 
 -- at the frontier
-over : (c : tie.After-loop Inv-loop μ-loop) → let a = c .before .before .args in let l = c .before .loop in Walked (a .page .now) (a .n) (a .f) (a .tab .now) (l .tab) (a .f) (l .inv .1) (l .met) (l .acc)
-over c =
-    let e : c .before .loop .pos ≡ c .before .before .args .f = omega (arith, c .before .loop .inv .2 .to) in
-    rw e at (c .before .loop .inv .2)
+module _ (c : tie.After-loop Inv-loop μ-loop) where
+  abbrev first : tie.Start Inv-loop μ-loop
+  first = c .before .before .before .before
+
+  abbrev last : tie.At-loop Inv-loop μ-loop
+  last = c .before
+
+  ended : last .loop .pos ≡ first .args .f
+  ended = omega (arith, last .loop .inv .2 .to, c .loop-test .left)
+
+  -- records that lie apart have an entry each
+  all-of : Laid (first .args .page .now) (first .args .n) (first .args .f) → entries (first .args .tab .now) ≡ first .args .n
+  all-of d = first .pre .table .full (distinct-of _ _ _ _ (first .pre .table) d)
+
+  module _ (e : entries (first .args .tab .now) ≡ first .args .n) where
+    exact : Exact (first .args .page .now) (first .args .n) (first .args .f) (first .args .tab .now)
+    exact = record { table = first .pre .table; all = e }
+
+    over : Walked (first .args .page .now) (first .args .n) (first .args .f) (first .args .tab .now) (last .loop .inv .1) (first .args .f) (last .loop .inv .3 e .0) (last .loop .met) (last .loop .acc)
+    over = subst (λ y. Walked (first .args .page .now) (first .args .n) (first .args .f) (first .args .tab .now) (last .loop .inv .1) y (last .loop .inv .3 e .0) (last .loop .met) (last .loop .acc)) ended (last .loop .inv .3 e .1)
+
+    marks : Marking (first .args .page .now) (first .args .n) (last .loop .inv .1) (first .args .f) (last .loop .tab)
+    marks = subst (λ y. Marking (first .args .page .now) (first .args .n) (last .loop .inv .1) y (last .loop .tab)) ended (last .loop .inv .3 e .3)
 
 loop-holds : tie.Need-loop-holds Inv-loop μ-loop
-loop-holds c = (refl, 8, walked-none _ _ _ _ (c .pre .3) (omega (arith, c .pre)), record { to = omega arith; met = λ h. absurd (omega arith); none = λ h. absurd (omega arith) })
+loop-holds c =
+    let s = c .before .before in (
+      refl,
+      s .args .tab .now,
+      passed-none _ _ _ _ (s .pre .table) (omega (arith, s .pre .start)),
+      (λ e. (
+        8,
+        walked-none _ _ _ _ (record { table = s .pre .table; all = e }) (omega (arith, s .pre .start)),
+        record { to = omega arith; met = λ h. absurd (omega arith); none = λ h. absurd (omega arith) },
+        marking-none _ _ _ _ (record { table = s .pre .table; all = e }),
+      )),
+    )
 
 slice-read-l : tie.Need-slice-read-l Inv-loop μ-loop
-slice-read-l c = omega arith
+slice-read-l c = let s = c .before .before .before .before .before .pre in omega (arith, s .within, s .same)
 
 cast-l : tie.Need-cast-l Inv-loop μ-loop
-cast-l c = record { fits = omega (arith, c .slice-known .given (c .before .before .loop .pos)) }
-
-slice-write-tab : tie.Need-slice-write-tab Inv-loop μ-loop
-slice-write-tab c = omega arith
+cast-l c = record { fits = omega (arith, c .slice-known2 .given (c .before .before .loop .pos)) }
 
 shared-slice-read-acc : tie.Need-shared-slice-read-acc Inv-loop μ-loop
-shared-slice-read-acc c = omega arith
+shared-slice-read-acc c = search needs
 
 add-pos : tie.Need-add-pos Inv-loop μ-loop
-add-pos c = omega arith
+add-pos c = search needs
 
 loop-less : tie.Need-loop-less Inv-loop μ-loop
 loop-less c = omega arith
 
 loop-again : tie.Need-loop-again Inv-loop μ-loop
 loop-again c =
-    let l = c .before .before .before .before .loop in (
-      simp length-set (l .inv .0),
+    let t = c .before .before .before .before in
+    let l = t .loop in
+    let b = t .before .before .before .pre .table in (
+      l .inv .0,
       l .inv .1,
-      walked-hole _ _ _ _ (c .before .before .before .before .before .pre .3) _ _ _ _ _ (l .inv .2) (omega arith) _ (c .before .if1 .taken) refl,
-      record { to = omega arith; met = λ h. absurd (omega arith); none = λ _ _. omega (arith, l .inv .2 .till) },
+      passed-hole _ _ _ _ b _ _ _ _ (l .inv .2) (omega arith),
+      (λ e.
+          let i = l .inv .3 e in (
+            i .0,
+            walked-hole _ _ _ _ (record { table = b; all = e }) _ _ _ _ _ (i .1) (omega arith) (omega (arith, l .inv .2 .later (l .pos) (omega arith), l .inv .2 .ahead (l .pos) (omega arith), c .before .if1 .taken)),
+            record { to = omega arith; met = λ h. absurd (omega arith); none = λ _ _. omega (arith, i .1 .till) },
+            marking-hole _ _ _ _ (record { table = b; all = e }) _ _ _ _ _ (i .1) (omega arith) _ (i .3),
+          )),
     )
 
+add-fill : tie.Need-add-fill Inv-loop μ-loop
+add-fill c = omega (arith, room (c .before))
+
+fill-requires : tie.Need-fill-requires Inv-loop μ-loop
+fill-requires c κs = let e = c .before in (omega arith, omega (arith, room e, start e .pre .within, start e .pre .same, turn e .loop .inv .0))
+
 add-pos-2 : tie.Need-add-pos-2 Inv-loop μ-loop
-add-pos-2 c = omega (arith, jump c .to)
+add-pos-2 c = omega (arith, room (c .before .before .before .before))
+
+-- past it
+passed : (c : tie.After-slice-known3 Inv-loop μ-loop) → let e = c .before .before .before .before in
+    Passed (start e .args .tab .now) (start e .args .f) (set (left-of e) (pos-of e) 0) (pos-of e + byte (turn e .loop .tab) (pos-of e)) (turn e .loop .met + 1) (c .before .before .fill .last .0)
+passed c = let e = c .before .before .before .before in passed-record _ _ _ _ (table e) _ _ _ _ (turn e .loop .inv .2) (omega arith) _ (some e) (c .before .before .fill .ensures)
 
 add-met : tie.Need-add-met Inv-loop μ-loop
-add-met c = omega (arith, jump c .left)
+add-met c = omega (arith, passed c .left, table (c .before .before .before .before) .most)
 
 loop-less-2 : tie.Need-loop-less-2 Inv-loop μ-loop
-loop-less-2 c = omega (arith, c .if1 .left)
+loop-less-2 c = omega (arith, room (c .before .before .before .before))
 
 loop-again-2 : tie.Need-loop-again-2 Inv-loop μ-loop
 loop-again-2 c =
-    let l = c .before .before .before .loop in (
-      simp length-set (l .inv .0),
-      l .pos + byte (l .tab) (l .pos),
-      jump c,
-      record { to = omega (arith, l .inv .3 .to); met = λ _. refl; none = λ _ h. absurd (omega (arith, l .inv .3 .to, c .if1 .left)) },
+    let e = c .before .before .before .before in
+    let l = turn e .loop in
+    let s : 1 ≤ byte (left-of e) (pos-of e) = omega (arith, entry e, some e) in (
+      c .before .before .fill .ensures .len ∙ l .inv .0,
+      set (l .inv .1) (l .pos) 0,
+      passed c,
+      (λ x.
+          let i = l .inv .3 x in (
+            l .pos + byte (l .tab) (l .pos),
+            rw (entry e) (walked-record _ _ _ _ (record { table = table e; all = x }) _ _ _ _ _ (i .1) (omega arith) _ s refl),
+            record { to = omega (arith, i .2 .to); met = λ _. refl; none = λ _ h. absurd (omega (arith, i .2 .to, room e)) },
+            rw (entry e) (marking-record _ _ _ _ (record { table = table e; all = x }) _ _ _ _ _ (i .1) (omega arith) _ _ s (i .3) (c .before .before .fill .ensures)),
+          )),
     )
 
 same-length : tie.Need-same-length Inv-loop μ-loop
 same-length c = search needs
 
 returns : tie.Need-returns Inv-loop μ-loop
-returns c =
-    let w = over (c .before) in
-    ((λ d. c .if2 .taken (w .clear d)), ((λ e. untrue e), inside-still _ _ _ _ (c .before .before .before .pre .3) _ _ _ _ w))
+returns c = let a = c .before in ((λ d. c .if2 .taken (over a (all-of a d) .clear d)), ((λ e. untrue e), last a .loop .inv .2 .inside))
 
 same-length-2 : tie.Need-same-length-2 Inv-loop μ-loop
 same-length-2 c = search needs
 
 returns-2 : tie.Need-returns-2 Inv-loop μ-loop
-returns-2 c =
-    let w = over (c .before .before) in
-    let b = c .before .before .before .before .pre .3 in
-    ((λ d. c .if3 .taken (met-all _ _ _ _ b _ _ _ _ w d)), ((λ e. untrue e), inside-still _ _ _ _ b _ _ _ _ w))
+returns-2 c = let a = c .before .before in ((λ d. c .if3 .taken (met-all _ _ _ _ (exact a (all-of a d)) _ _ _ _ (over a (all-of a d)) d)), ((λ e. untrue e), last a .loop .inv .2 .inside))
 
 same-length-3 : tie.Need-same-length-3 Inv-loop μ-loop
 same-length-3 c = search needs
 
 returns-3 : tie.Need-returns-3 Inv-loop μ-loop
 returns-3 c =
-    let w = over (c .before .before) in
-    let s = c .before .before .before .before .pre in
-    let f = c .before .before .before .before .args .f in
-    let l = c .before .before .before .loop in
-    let x : l .pos ≡ f = omega (arith, l .inv .2 .to, c .before .before .loop-test .left) in (
+    let a = c .before .before in
+    let s = first a .pre in
+    let f = first a .args .f in
+    let l = last a .loop in
+    let e : entries (first a .args .tab .now) ≡ first a .args .n = omega (arith, l .inv .2 .left, c .if3 .left, s .table .most) in
+    let b = exact a e in
+    let w = over a e in
+    let g = l .inv .3 e .2 in
+    let x : l .pos ≡ f = ended a in (
       says-ltb (l .gap) f
-          (λ h. laid-of _ _ _ _ (s .3) _ _ _ _ w (s .0) (c .before .if2 .left) (c .if3 .left) (omega (arith, l .inv .3 .met (omega (arith, h, x)), x)))
-          (λ d. ⊎-elim (λ h. h) (λ h. absurd (omega (arith, end-top _ _ _ _ (s .3) _ _ _ _ w d, l .inv .3 .none (omega (arith, s .0, x)) (omega (arith, h, x, l .inv .3 .to)), x))) (side (l .gap) f)),
-      ((λ _. emptied _ _ _ _ (s .3) _ _ _ _ w (c .if3 .left)), inside-still _ _ _ _ (s .3) _ _ _ _ w),
+          (λ h. laid-of _ _ _ _ b _ _ _ _ w (s .start) (c .before .if2 .left) (c .if3 .left) (omega (arith, g .met (omega (arith, h, x)), x)))
+          (λ d. ⊎-elim (λ h. h) (λ h. absurd (omega (arith, end-top _ _ _ _ b _ _ _ _ w d, g .none (omega (arith, s .start, x)) (omega (arith, h, x, g .to)), x))) (side (l .gap) f)),
+      ((λ _. marked-all _ _ _ _ b _ _ _ _ w _ (marks a e) (c .if3 .left)), l .inv .2 .inside),
     )
 
 pub walk-spec : {M : Type 1} → statement M
@@ -119,11 +197,12 @@ walk-spec =
     loop-holds
     slice-read-l
     cast-l
-    slice-write-tab
     shared-slice-read-acc
     add-pos
     loop-less
     loop-again
+    add-fill
+    fill-requires
     add-pos-2
     add-met
     loop-less-2

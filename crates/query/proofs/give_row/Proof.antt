@@ -35,13 +35,13 @@ module _ (b : tie.After-p) where
   here = subst (Listed S store n) (b .p .given .1) (b .before .before .nth-row .ensures)
 
 nth-row-requires : tie.Need-nth-row-requires
-nth-row-requires c κs = let p = c .before .before .pre in (p .0, p .1)
+nth-row-requires c κs = let p = c .before .before .pre in (p .sized, p .accepted)
 
 enum-known-p : tie.Need-enum-known-p
 enum-known-p c = search needs
 
 read-row-requires : tie.Need-read-row-requires
-read-row-requires c κs = let b = c .before .before in (here b .0, b .before .before .before .before .before .pre .2)
+read-row-requires c κs = let b = c .before .before in (here b .0, b .before .before .before .before .before .pre .room)
 
 enum-told : tie.Need-enum-told
 enum-told c = search needs

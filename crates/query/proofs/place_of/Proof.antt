@@ -44,7 +44,7 @@ hash-requires : tie.Need-hash-requires
 hash-requires c κs = search needs
 
 find-row-requires : tie.Need-find-row-requires
-find-row-requires c κs = let z = c .before .before .before in (z .pre .0, z .pre .1, c .hash .ensures)
+find-row-requires c κs = let z = c .before .before .before in record { sized = z .pre .0; accepted = z .pre .1; hash = c .hash .ensures }
 
 enum-known-p : tie.Need-enum-known-p
 enum-known-p c = search needs

@@ -81,7 +81,7 @@ returns-3 c =
 give-row-requires : tie.Need-give-row-requires
 give-row-requires c κs =
     let f = c .before .before .before in
-    (sized (f .before .before), f .first-bad .ensures .sound (c .before .if2 .left), f .before .if1 .left)
+    record { sized = sized (f .before .before); accepted = f .first-bad .ensures .sound (c .before .if2 .left); room = f .before .if1 .left }
 
 same-length : tie.Need-same-length
 same-length c = search needs

@@ -18,7 +18,7 @@ use ghost.Atoms.{Atoms, sem}
 use contract.Monad.{Fun, fact}
 use contract.Running.{givenOf, tables, tablesOf}
 use types.Kit.{Given, ‵, raw, _⊛_, some, later, ⋆, _$_, _∵_, !, qed, by, move, keep, drop, use1, use2, use3, split, join, pick, fsplit, fjoin, fpick, fpack, feqL, feqI, rewrite, suffices, frame, await, done}
-use types.Run.{look, lit, addr, assigns, init, forget, stop, from, load, and-then, no-more, land, returns, enter, alloc1, alloc0, params1, pass1, pass0, free1, free0}
+use types.Run.{look, addr, assigns, init, forget, stop, from, load, and-then, no-more, land, returns, enter, alloc1, alloc0, params1, pass1, pass0, free1, free0}
 use types.Part.{agg, rep}
 use types.SemTy.{cells, Arr}
 use types.Share.{arr-parts}
@@ -51,7 +51,7 @@ use Rattle.ground.specs.Ladder.{Answers}
 use Rattle.hash.specs.Fnv.{fnv}
 use Rattle.partition.specs.Sizes.{shapeOf}
 use Rattle.report.specs.declared.Outcome.{Outcome}
-use Rattle.report.specs.Numbers.{spreadFrom, numbersTable}
+use Rattle.report.specs.Numbers.{outside, spreadFrom, numbersTable}
 use Rattle.report.specs.Report.{reported, reportTable}
 use Rattle.report.proofs.Refines.{refines}
 use Rattle.report.proofs.Big.{big-lit}
@@ -98,20 +98,20 @@ module _ {M : Type 1} (𝓤 : URA M) (H : Heap 𝓤) (A : Atoms 𝓤) (mem : Mem
 
 -- ---- a local array of n words
 module _ {M : Type 1} (𝓤 : URA M) (H : Heap 𝓤) (A : Atoms 𝓤) (W : Given 𝓤 H A) (n : ℕ) where
-  abbrev zero-val : Val
-  zero-val = vstruct (ofList (replicate n (vint w64 0)))
+  abbrev fresh-val : Val
+  fresh-val = vstruct (ofList (replicate n (vint w64 outside)))
 
-  zeros-own : ent 𝓤 (sem 𝓤 H A ftrue) (sem 𝓤 H A (Array u64 n .own (replicate n 0) (zero-val ∷ [])))
-  zeros-own = qed W (‵ ftrue ∷ []) ∵ owned ! u64 (Is u64) (uint-makes 𝓤 H A W w64) 0 _ (refl, lit< tt) $ move ! (1 ∷ []) $ drop ! $ by ! (array-repeat 𝓤 H A W u64 (uint-copy 𝓤 H A W w64) n 0 (vint w64 0))
+  fresh-own : ent 𝓤 (sem 𝓤 H A ftrue) (sem 𝓤 H A (Array u64 n .own (replicate n outside) (fresh-val ∷ [])))
+  fresh-own = qed W (‵ ftrue ∷ []) ∵ owned ! u64 (Is u64) (uint-makes 𝓤 H A W w64) outside _ (refl, lit< tt) $ move ! (1 ∷ []) $ drop ! $ by ! (array-repeat 𝓤 H A W u64 (uint-copy 𝓤 H A W w64) n outside (vint w64 outside))
 
   -- an array in a local is a row of words in memory
-  in-memory : (l : ℕ) → ent 𝓤 (sem 𝓤 H A (fat fullShare (tyArray word n) l 0 zero-val)) (sem 𝓤 H A (cells (mem u64) (replicate n 0) l 0))
+  in-memory : (l : ℕ) → ent 𝓤 (sem 𝓤 H A (fat fullShare (tyArray word n) l 0 fresh-val)) (sem 𝓤 H A (cells (mem u64) (replicate n outside) l 0))
   unfolding partOf
   in-memory l =
-      qed W (‵ (fat fullShare (tyArray word n) l 0 zero-val) ∷ []) ∵ use1 W (‵ (cellAt fullShare (Array u64 n .mir) (zero-val ∷ []) l 0)) (W .laws .at-raw fullShare (tyArray word n) l 0 zero-val) $
-      nothing ! $ use1 W (‵ (Array u64 n .own (replicate n 0) (zero-val ∷ []))) zeros-own $ move ! (1 ∷ 0 ∷ []) $ fjoin ! $
-      fpack ! (List Val) (λ vs. fsep (cellAt fullShare (Array u64 n .mir) vs l 0) (Array u64 n .own (replicate n 0) vs)) (zero-val ∷ []) $
-      use1 W (‵ (arr-parts (shares u64) n .part fullShare (replicate n 0) l 0)) (array-apart 𝓤 H A W u64 fullShare tt n (replicate n 0) l 0) $ fsplit ! $ drop ! $ by ! (whole-in 𝓤 H A W u64 (replicate n 0) l 0)
+      qed W (‵ (fat fullShare (tyArray word n) l 0 fresh-val) ∷ []) ∵ use1 W (‵ (cellAt fullShare (Array u64 n .mir) (fresh-val ∷ []) l 0)) (W .laws .at-raw fullShare (tyArray word n) l 0 fresh-val) $
+      nothing ! $ use1 W (‵ (Array u64 n .own (replicate n outside) (fresh-val ∷ []))) fresh-own $ move ! (1 ∷ 0 ∷ []) $ fjoin ! $
+      fpack ! (List Val) (λ vs. fsep (cellAt fullShare (Array u64 n .mir) vs l 0) (Array u64 n .own (replicate n outside) vs)) (fresh-val ∷ []) $
+      use1 W (‵ (arr-parts (shares u64) n .part fullShare (replicate n outside) l 0)) (array-apart 𝓤 H A W u64 fullShare tt n (replicate n outside) l 0) $ fsplit ! $ drop ! $ by ! (whole-in 𝓤 H A W u64 (replicate n outside) l 0)
 
   -- and back: the local is room
   to-room : (xs : List ℕ) (l : ℕ) → ent 𝓤 (sem 𝓤 H A (arr-parts (shares u64) n .part fullShare xs l 0)) (sem 𝓤 H A (froom (tyArray word n) l 0))
@@ -121,7 +121,7 @@ module _ {M : Type 1} (𝓤 : URA M) (H : Heap 𝓤) (A : Atoms 𝓤) (W : Given
       peeks ! (Array u64 n) (Is (Array u64 n)) (shows 𝓤 H A (Array u64 n)) xs vs (λ is. drop ! $ rewrite ! 0 (λ (ws : List Val). ‵ (cellAt fullShare (Array u64 n .mir) ws l 0)) (array-tells u64 (uint-vals w64) (uint-tells w64) n xs vs is) refl $
       use1 W (‵ (fat fullShare (tyArray word n) l 0 (only (array-vals (uint-vals w64) xs)))) (W .laws .raw-at fullShare (tyArray word n) l 0 (only (array-vals (uint-vals w64) xs))) $ forget ! 0 refl $ done !))
 
-module _ {M : Type 1} (𝓤 : URA M) (H : Heap 𝓤) (A : Atoms 𝓤) (W : Given 𝓤 H A) (at-mem : Memory → SProp 𝓤) (run : Routine → Fun 𝓤) (κ₁ κ₂ : Lft) (q₁ q₂ : Share) (ls : RefT (List ℕ)) (sh : RefT (List SheetRow)) (zeros : List ℕ) where
+module _ {M : Type 1} (𝓤 : URA M) (H : Heap 𝓤) (A : Atoms 𝓤) (W : Given 𝓤 H A) (at-mem : Memory → SProp 𝓤) (run : Routine → Fun 𝓤) (κ₁ κ₂ : Lft) (q₁ q₂ : Share) (ls : RefT (List ℕ)) (sh : RefT (List SheetRow)) (fresh : List ℕ) where
   abbrev v₁ : Val
   v₁ = sliceVal (ls .ptr) (length (ls .now))
 
@@ -162,10 +162,10 @@ module _ {M : Type 1} (𝓤 : URA M) (H : Heap 𝓤) (A : Atoms 𝓤) (W : Given
     s ws = sliceVal (l, 0) (length ws)
 
     abbrev to-spread : ℕ → GName → Spread 𝓤 H A at-mem run .Ghost
-    to-spread α γ = (((κ₂, (α ∷ [], tt)), (q₂, (fullShare, tt)), tt, (sh, (x γ zeros, tt)), (v₂ ∷ [], (s zeros ∷ [], tt))), tt)
+    to-spread α γ = (((κ₂, (α ∷ [], tt)), (q₂, (fullShare, tt)), tt, (sh, (x γ fresh, tt)), (v₂ ∷ [], (s fresh ∷ [], tt))), tt)
 
-    asks-spread : (α : ℕ) (γ : GName) → ent 𝓤 (onEntry 𝓤 H A spread.signature (κ₂, (α ∷ [], tt)) (q₂, (fullShare, tt)) (sh, (x γ zeros, tt)) (v₂ ∷ [], (s zeros ∷ [], tt))) (Spread 𝓤 H A at-mem run .pre (to-spread α γ))
-    asks-spread α γ = qed W ((‵ (flft κ₂ q₂) ⊛ ‵ (flft (α ∷ []) fullShare) ⊛ ‵ ftrue) ∷ ‵ (owns (ShrSlice (named 0) κ₂ R ∷ MutSlice (named 1) (α ∷ []) u64 ∷ []) (sh, (x γ zeros, tt)) (v₂ ∷ [], (s zeros ∷ [], tt))) ∷ []) ∵ join ! $ frame ! $ done !
+    asks-spread : (α : ℕ) (γ : GName) → ent 𝓤 (onEntry 𝓤 H A spread.signature (κ₂, (α ∷ [], tt)) (q₂, (fullShare, tt)) (sh, (x γ fresh, tt)) (v₂ ∷ [], (s fresh ∷ [], tt))) (Spread 𝓤 H A at-mem run .pre (to-spread α γ))
+    asks-spread α γ = qed W ((‵ (flft κ₂ q₂) ⊛ ‵ (flft (α ∷ []) fullShare) ⊛ ‵ ftrue) ∷ ‵ (owns (ShrSlice (named 0) κ₂ R ∷ MutSlice (named 1) (α ∷ []) u64 ∷ []) (sh, (x γ fresh, tt)) (v₂ ∷ [], (s fresh ∷ [], tt))) ∷ []) ∵ join ! $ frame ! $ done !
 
     abbrev to-judge : ℕ → GName → List ℕ → ℕ → Val → Judge 𝓤 H A at-mem run .Ghost
     to-judge β δ ws m v = (((κ₁, (β ∷ [], tt)), (q₁, (fullShare, tt)), tt, (ls, (x δ ws, (m, tt))), (v₁ ∷ [], (s ws ∷ [], (v ∷ [], tt)))), tt)
@@ -178,39 +178,39 @@ module _ {M : Type 1} (𝓤 : URA M) (H : Heap 𝓤) (A : Atoms 𝓤) (W : Given
     judged β δ ws m r = exE 𝓤 _ (λ us. snd∗ 𝓤 (sem 𝓤 H A (lasts judge.ended (κ₁, (β ∷ [], tt)) (ls, (x δ ws, (m, tt))) us)) (fact 𝓤 (Numbered ws m r)))
 
   module _ (C : Calls 𝓤 H) (Λ : Loops 𝓤 H) (fm : FmC 𝓤 H (W .laws) C) (known-spread : Triple 𝓤 (C #report·spread) (Spread 𝓤 H A at-mem run)) (known-judge : Triple 𝓤 (C #report·judge) (Judge 𝓤 H A at-mem run)) where
-    walk : zeros ≡ replicate 400000 0 → length zeros ≡ 400000 → Room u8 (length (ls .now)) → Room R (length (sh .now))
+    walk : fresh ≡ replicate 400000 outside → length fresh ≡ 400000 → Room u8 (length (ls .now)) → Room R (length (sh .now))
         → ent 𝓤 (onEntry 𝓤 H A f.signature (κ₁, (κ₂, tt)) (q₁, (q₂, tt)) (ls, (sh, tt)) at) (WpFn 𝓤 H C Λ code.function (v₁ ∷ v₂ ∷ []) Post)
     walk are len gl gs =
         qed W ((‵ (flft κ₁ q₁) ⊛ ‵ (flft κ₂ q₂) ⊛ ‵ ftrue) ∷ ‵ (owns (ShrSlice (named 0) κ₁ u8 ∷ ShrSlice (named 1) κ₂ R ∷ []) (ls, (sh, tt)) at) ∷ []) ∵ enter ! C Λ code.function (v₁ ∷ v₂ ∷ []) _ $
         alloc1 ! (λ l₀. alloc1 ! (λ l₁. alloc1 ! (λ l₂. alloc1 ! (λ l₃. alloc1 ! (λ l₄. alloc1 ! (λ l₅. alloc1 ! (λ l₆. alloc1 ! (λ l₇. alloc1 ! (λ l₈. alloc0 ! $ params1 ! $
         pass1 ! (init ! 14 refl (tt, (tt, (record { fits = gl .0 }, tt)))) $ pass1 ! (init ! 12 refl (tt, (tt, (record { fits = gs .0 }, tt)))) $ pass0 ! $
         -- [_8; …; _7; …; _6; …; _5; …; _4; …; _3; …; _2; …; _1; …; room for _0; …; the tokens; what the parameters own]
-        nothing ! $ use1 W (‵ (Array u64 400000 .own (replicate 400000 0) (zero-val 𝓤 H A W 400000 ∷ []))) (zeros-own 𝓤 H A W 400000) $
-        peeks ! (Array u64 400000) (Is (Array u64 400000)) (shows 𝓤 H A (Array u64 400000)) (replicate 400000 0) (zero-val 𝓤 H A W 400000 ∷ []) (λ is₀. drop ! $
-        assigns ! (rep ! 400000 (lit ! tt)) (from ! (stop !)) (init ! 10 refl (array-lawful 𝓤 H A W u64 (uint-lawful 𝓤 H A W w64) 400000 .typed (replicate 400000 0) _ is₀ .0)) $
+        nothing ! $ use1 W (‵ (Array u64 400000 .own (replicate 400000 outside) (fresh-val 𝓤 H A W 400000 ∷ []))) (fresh-own 𝓤 H A W 400000) $
+        peeks ! (Array u64 400000) (Is (Array u64 400000)) (shows 𝓤 H A (Array u64 400000)) (replicate 400000 outside) (fresh-val 𝓤 H A W 400000 ∷ []) (λ is₀. drop ! $
+        assigns ! (rep ! 400000 (big-lit ! (record { fits = lit< tt }))) (from ! (stop !)) (init ! 10 refl (array-lawful 𝓤 H A W u64 (uint-lawful 𝓤 H A W w64) 400000 .typed (replicate 400000 outside) _ is₀ .0)) $
         assigns ! (addr ! (from ! (stop !))) (from ! (stop !)) (init ! 6 refl (tt, tt)) $
         assigns ! (agg ! (and-then ! (load ! (from ! (stop !)) (look ! 6 refl)) (and-then ! (big-lit ! (record { fits = lit< tt })) (no-more !)))) (from ! (stop !)) (init ! 4 refl (tt, (tt, (record { fits = lit< tt }, tt)))) $
         rewrite ! 4 (λ (m : ℕ). ‵ (fat fullShare lent-mut l₆ 0 (sliceVal (l₃, 0) m))) (sym len) refl $
-        move ! (10 ∷ []) $ use1 W (‵ (cells (mem u64) (replicate 400000 0) l₃ 0)) (in-memory 𝓤 H A W 400000 l₃) $ rewrite ! 0 (λ (ws : List ℕ). ‵ (cells (mem u64) ws l₃ 0)) (sym are) refl $
+        move ! (10 ∷ []) $ use1 W (‵ (cells (mem u64) (replicate 400000 outside) l₃ 0)) (in-memory 𝓤 H A W 400000 l₃) $ rewrite ! 0 (λ (ws : List ℕ). ‵ (cells (mem u64) ws l₃ 0)) (sym are) refl $
         -- a copy of each lent run, and the tokens apart
         move ! (19 ∷ []) $ fsplit ! $ use1 W (‵ Store ⊛ ‵ Store) (shr-slice-copy 𝓤 H A W (named 0) κ₁ u8 .twice ls (v₁ ∷ [])) $ split ! $
         move ! (2 ∷ []) $ fsplit ! $ use1 W (‵ Sheet ⊛ ‵ Sheet) (shr-slice-copy 𝓤 H A W (named 1) κ₂ R .twice sh (v₂ ∷ [])) $ split ! $
         move ! (23 ∷ []) $ split ! $ move ! (1 ∷ []) $ split ! $ keep ! (8 ∷ 3 ∷ 4 ∷ 6 ∷ 7 ∷ 2 ∷ 0 ∷ 9 ∷ 10 ∷ 11 ∷ 12 ∷ 13 ∷ 14 ∷ 15 ∷ 16 ∷ 17 ∷ 18 ∷ 19 ∷ 20 ∷ 21 ∷ 22 ∷ 23 ∷ 24 ∷ 25 ∷ []) $
         -- [the words; the sheet, twice; the store, twice; κ₁'s token; κ₂'s; _8; …; _7; …; _6; …; _5; …; _4; …; that _3 dies; _2; …; _1; …; _0; …]
         lft-new ! tt (λ α. move ! (1 ∷ []) $
-        use1 W (later (some (λ (γ : GName). ‵ (MutSlice (named 1) (α ∷ []) u64 .own (x l₃ γ zeros) (s l₃ zeros ∷ [])) ⊛ ‵ (flent (α ∷ []) (Held u64 (length zeros) l₃ 0 γ))))) (lends-slice 𝓤 H A W u64 (named 1) (α ∷ []) zeros l₃ 0 (room zeros len)) $ await ! tt $ pick ! (λ γ. split ! $
+        use1 W (later (some (λ (γ : GName). ‵ (MutSlice (named 1) (α ∷ []) u64 .own (x l₃ γ fresh) (s l₃ fresh ∷ [])) ⊛ ‵ (flent (α ∷ []) (Held u64 (length fresh) l₃ 0 γ))))) (lends-slice 𝓤 H A W u64 (named 1) (α ∷ []) fresh l₃ 0 (room fresh len)) $ await ! tt $ pick ! (λ γ. split ! $
         nothing ! $ move ! (3 ∷ 0 ∷ []) $ join ! $ move ! (8 ∷ 0 ∷ []) $ join ! $ nothing ! $ move ! (2 ∷ 0 ∷ []) $ fjoin ! $ move ! (3 ∷ 0 ∷ []) $ fjoin ! $
         move ! (1 ∷ 0 ∷ []) $ use2 W (raw (Spread 𝓤 H A at-mem run .pre (to-spread l₃ α γ))) (asks-spread l₃ α γ) $
         -- [what the callee asks; the loan; the sheet; the store, twice; κ₁'s token; _8; …; _7; …; _6; …; _5; …; _4; …; that _3 dies; _2; …; _1; …; _0; …]
         calls-at ! fm (Spread 𝓤 H A at-mem run) known-spread (to-spread l₃ α γ) (and-then ! (load ! (from ! (stop !)) (look ! 17 refl)) (and-then ! (load ! (from ! (stop !)) (look ! 10 refl)) (no-more !))) (λ v.
-        use1 W (later (some (λ (r : ℕ). ((‵ (flft κ₂ q₂) ⊛ ‵ (flft (α ∷ []) fullShare) ⊛ ‵ ftrue) ⊛ ‵ (usize .own r (v ∷ []))) ⊛ raw (ensured 𝓤 H A spread.ended (spread.clauses 𝓤 H A at-mem run) (κ₂, (α ∷ [], tt)) (sh, (x l₃ γ zeros, tt)) tt r)))) (id⊢ 𝓤 _) $ await ! tt $ pick ! (λ r.
-        split ! $ move ! (1 ∷ []) $ use1 W (some (λ (zs : Unit {0} × (List ℕ × Unit {0})). ‵ (lasts spread.ended (κ₂, (α ∷ [], tt)) (sh, (x l₃ γ zeros, tt)) zs) ⊛ raw (fact 𝓤 ((r ≡ length (sh .now)) × (zs .1 .0 ≡ spreadFrom 0 (sh .now) zeros))))) (id⊢ 𝓤 _) $ pick ! (λ zs.
-        split ! $ move ! (1 ∷ []) $ heard ! ((r ≡ length (sh .now)) × (zs .1 .0 ≡ spreadFrom 0 (sh .now) zeros)) (λ e. fsplit ! $ move ! (1 ∷ []) $ fsplit ! $ fsplit ! $ move ! (1 ∷ []) $ feqL ! (λ same.
+        use1 W (later (some (λ (r : ℕ). ((‵ (flft κ₂ q₂) ⊛ ‵ (flft (α ∷ []) fullShare) ⊛ ‵ ftrue) ⊛ ‵ (usize .own r (v ∷ []))) ⊛ raw (ensured 𝓤 H A spread.ended (spread.clauses 𝓤 H A at-mem run) (κ₂, (α ∷ [], tt)) (sh, (x l₃ γ fresh, tt)) tt r)))) (id⊢ 𝓤 _) $ await ! tt $ pick ! (λ r.
+        split ! $ move ! (1 ∷ []) $ use1 W (some (λ (zs : Unit {0} × (List ℕ × Unit {0})). ‵ (lasts spread.ended (κ₂, (α ∷ [], tt)) (sh, (x l₃ γ fresh, tt)) zs) ⊛ raw (fact 𝓤 ((r ≡ length (sh .now)) × (zs .1 .0 ≡ spreadFrom 0 (sh .now) fresh))))) (id⊢ 𝓤 _) $ pick ! (λ zs.
+        split ! $ move ! (1 ∷ []) $ heard ! ((r ≡ length (sh .now)) × (zs .1 .0 ≡ spreadFrom 0 (sh .now) fresh)) (λ e. fsplit ! $ move ! (1 ∷ []) $ fsplit ! $ fsplit ! $ move ! (1 ∷ []) $ feqL ! (λ same.
         move ! (3 ∷ []) $ split ! $ move ! (1 ∷ []) $ peeks ! usize (Is usize) (shows 𝓤 H A usize) r (v ∷ []) (λ is.
         land ! (from ! (stop !)) (init ! 18 refl (uint-lawful 𝓤 H A W w64 .typed r _ is .0)) $
         -- the lifetime ends, and the words come back at the callee's list
         move ! (1 ∷ []) $ split ! $ move ! (1 ∷ []) $ split ! $ lft-end ! tt $ move ! (0 ∷ 7 ∷ 4 ∷ []) $
-        use3 W (later (‵ (Arr (mem u64) (length zeros) .lies (zs .1 .0) l₃ 0))) (slice-back 𝓤 H A W u64 (α ∷ []) γ (zs .1 .0) (length zeros) l₃ 0) $ await ! tt $ fsplit ! $ drop ! $
+        use3 W (later (‵ (Arr (mem u64) (length fresh) .lies (zs .1 .0) l₃ 0))) (slice-back 𝓤 H A W u64 (α ∷ []) γ (zs .1 .0) (length fresh) l₃ 0) $ await ! tt $ fsplit ! $ drop ! $
         use1 W (‵ (row u64 fullShare (zs .1 .0) l₃ 0)) (whole-out 𝓤 H A W u64 (zs .1 .0) l₃ 0) $ feqI ! ℕ (length (zs .1 .0)) (length (zs .1 .0)) refl $ fjoin ! $
         -- [the words; true; κ₂'s token; what n owns; true; true; the sheet; the store, twice; κ₁'s token; _8; …; _7; …]
         assigns ! (addr ! (from ! (stop !))) (from ! (stop !)) (init ! 12 refl (tt, tt)) $
@@ -237,7 +237,7 @@ module _ {M : Type 1} (𝓤 : URA M) (H : Heap 𝓤) (A : Atoms 𝓤) (W : Given
         room : (ws : List ℕ) → length ws ≡ 400000 → Room u64 (length ws)
         room ws e = subst (Room u64) (sym e) (lit< tt, lit< tt)
 
-        told : (r : ℕ) (ws : List ℕ) (r′ : Outcome) → (r ≡ length (sh .now)) × (ws ≡ spreadFrom 0 (sh .now) zeros) → Numbered ws r r′ → Answers (reportTable (shapeOf (ls .now)) fnv (ls .now) (sh .now)) (reported r′)
+        told : (r : ℕ) (ws : List ℕ) (r′ : Outcome) → (r ≡ length (sh .now)) × (ws ≡ spreadFrom 0 (sh .now) fresh) → Numbered ws r r′ → Answers (reportTable (shapeOf (ls .now)) fnv (ls .now) (sh .now)) (reported r′)
         told r ws r′ e a = refines (shapeOf (ls .now)) fnv (ls .now) (sh .now) (reported r′)
             (subst (λ (zs : List ℕ). Numbered (spreadFrom 0 (sh .now) zs) (length (sh .now)) r′) are (subst (λ (vs : List ℕ). Numbered vs (length (sh .now)) r′) (e .1) (subst (λ (m : ℕ). Numbered ws m r′) (e .0) a)))
 
@@ -245,7 +245,7 @@ module _ {M : Type 1} (𝓤 : URA M) (H : Heap 𝓤) (A : Atoms 𝓤) (W : Given
   report-walks : (C : Calls 𝓤 H) (Λ : Loops 𝓤 H) → FmC 𝓤 H (W .laws) C → Triple 𝓤 (C #report·spread) (Spread 𝓤 H A mem run) → Triple 𝓤 (C #report·judge) (Judge 𝓤 H A mem run)
       → Walks 𝓤 H A f.ended stayed (WpFn 𝓤 H C Λ code.function) (f.clauses 𝓤 H A mem run)
   report-walks C Λ fm known-spread known-judge = walked 𝓤 H A f.ended stayed (f.clauses 𝓤 H A mem run) (WpFn 𝓤 H C Λ code.function) (λ κs. (slice-vals, (slice-vals, tt))) (λ κs. (shr-slice-tells (named 0) (κs .0) u8, (shr-slice-tells (named 1) (κs .1 .0) R, tt)))
-      (λ κs qs bounds a g are. via 𝓤 _ (fst∗ 𝓤 _ (emp 𝓤)) (walk 𝓤 H A W mem run (κs .0) (κs .1 .0) (qs .0) (qs .1 .0) (a .0) (a .1 .0) (replicate 400000 0) C Λ fm known-spread known-judge refl (length-replicate {A = ℕ} 400000 0) (are .0 .0 .1) (are .1 .0 .0 .1)))
+      (λ κs qs bounds a g are. via 𝓤 _ (fst∗ 𝓤 _ (emp 𝓤)) (walk 𝓤 H A W mem run (κs .0) (κs .1 .0) (qs .0) (qs .1 .0) (a .0) (a .1 .0) (replicate 400000 outside) C Λ fm known-spread known-judge refl (length-replicate {A = ℕ} 400000 outside) (are .0 .0 .1) (are .1 .0 .0 .1)))
 
 report-meets : {M : Type 1} (𝓤 : URA M) (H : Heap 𝓤) (A : Atoms 𝓤) (W : Given 𝓤 H A) (mem : Memory → SProp 𝓤) (run : Routine → Fun 𝓤) (𝓣 : Tables 𝓤 H) → Triple 𝓤 (𝓣 .C #report·spread) (Spread 𝓤 H A mem run) → Triple 𝓤 (𝓣 .C #report·judge) (Judge 𝓤 H A mem run)
     → Meets 𝓤 H A f.signature (WpFn 𝓤 H (𝓣 .C) (𝓣 .Λ) code.function) (f.spec 𝓤 H A mem run)

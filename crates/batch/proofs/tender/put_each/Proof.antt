@@ -9,7 +9,7 @@ use Rattle.store.specs.Accepted.{Accepted}
 use mathlib.Core.List.{List}
 use Rattle.batch.specs.PlaceWords.{wordPlace}
 use Rattle.batch.specs.Batch.{sum, wanted, OnePut}
-use Rattle.batch.proofs.Sums.{sum-from, sum-past}
+use Rattle.batch.proofs.Sums.{sum-from}
 use Rattle.batch.proofs.Chains.{left-from, nth, first-left, nothing-left, Made-to, made-more, made-all, one-again}
 use Rattle.batch.proofs.tender.put_each.Statement.{statement}
 use Rattle.batch.proofs.tender.put_each.Tie as tie

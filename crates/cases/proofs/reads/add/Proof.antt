@@ -50,10 +50,10 @@ insert-row-requires c κs =
     let e = f .before in
     let s = e .before .before .before .before .before .before in (
       record {
-        page = s .pre .0;
+        page = s .pre .page;
         belongs = rw (g .1) at (f .find-code .ensures);
         natural = record { long = refl; page = lit< tt; slot = lit< tt; volume = lit< tt };
-        good = s .pre .2;
+        good = s .pre .good;
         fits = omega arith;
       },
       omega arith,

@@ -1,22 +1,23 @@
 -- `commands::add_signed` meets its contract. Assumes nothing.
+use Prim.Native.Nat.{_<_}
 use native.Mathlib.Omega.{arith}
 use borrow.Author.Needs.{needs}
-use Rattle.commands.proofs.Signs.{is-below, is-from, size-is}
-use Rattle.commands.proofs.Adding.{then, as-text, minus-text, plain-text}
+use borrow.Author.Tests.{not-true}
+use Rattle.commands.proofs.Signs.{whole, is-from, is-small, size-is}
+use Rattle.commands.proofs.Adding.{as-text, plain-text}
 use Rattle.commands.proofs.answers.add_signed.Statement.{statement}
 use Rattle.commands.proofs.answers.add_signed.Tie as tie
 
 size-of-requires : tie.Need-size-of-requires
 size-of-requires c κs = search needs
 
-slice-aggregate-add : tie.Need-slice-aggregate-add
-slice-aggregate-add c = search needs
-
-add-requires : tie.Need-add-requires
-add-requires c κs = search needs
-
-add-number-requires : tie.Need-add-number-requires
-add-number-requires c κs = let a = c .before .before .before in omega (arith, a .add .ensures .next, a .add .ensures .long)
+add-small-requires : tie.Need-add-small-requires
+add-small-requires c κs =
+    let z = c .before in
+    let i = z .before .before in
+    let s = i .before .before in
+    let n : z .size-of .result < 10000 = is-small (s .args .z) (s .pre .1) (not-true _ (i .if1 .taken)) 10000 _ (z .before .if2 .taken) (size-is (s .args .z) (s .pre .1) _ (z .size-of .ensures)) in
+    (omega (arith, s .pre .0), n)
 
 same-length : tie.Need-same-length
 same-length c = search needs
@@ -24,16 +25,13 @@ same-length c = search needs
 returns : tie.Need-returns
 returns c =
     let n = c .before .before in
-    let a = n .before .before .before .before in
-    let i = a .before .before .before in
-    let z = i .before in
-    let s = z .before .before in (
-      as-text (minus-text _ _ (size-is (s .args .z) (s .pre .1) _ (z .size-of .ensures)) (is-below (s .args .z) (s .pre .1) (i .if1 .taken))) (then (a .add .ensures) (n .add-number .ensures .0)),
-      omega (arith, a .add .ensures .next, n .add-number .ensures .1),
-    )
+    let z = n .before .before in
+    let i = z .before .before in
+    let s = i .before .before in
+    (as-text (plain-text _ _ (size-is (s .args .z) (s .pre .1) _ (z .size-of .ensures)) (is-from (s .args .z) (s .pre .1) (not-true _ (i .if1 .taken)))) (n .add-small .ensures .0), omega (arith, n .add-small .ensures .1))
 
-add-small-requires : tie.Need-add-small-requires
-add-small-requires c κs = search needs
+add-long-requires : tie.Need-add-long-requires
+add-long-requires c κs = search needs
 
 same-length-2 : tie.Need-same-length-2
 same-length-2 c = search needs
@@ -41,38 +39,10 @@ same-length-2 c = search needs
 returns-2 : tie.Need-returns-2
 returns-2 c =
     let n = c .before .before in
-    let i = n .before .before .before in
-    let z = i .before in
-    let s = z .before .before in
-    (as-text (plain-text _ _ (size-is (s .args .z) (s .pre .1) _ (z .size-of .ensures)) (is-from (s .args .z) (s .pre .1) (i .if1 .left))) (n .add-small .ensures .0), omega (arith, n .add-small .ensures .1))
-
-add-number-requires-2 : tie.Need-add-number-requires-2
-add-number-requires-2 c κs = search needs
-
-same-length-3 : tie.Need-same-length-3
-same-length-3 c = search needs
-
-returns-3 : tie.Need-returns-3
-returns-3 c =
-    let n = c .before .before in
-    let i = n .before .before .before in
-    let z = i .before in
-    let s = z .before .before in
-    (as-text (plain-text _ _ (size-is (s .args .z) (s .pre .1) _ (z .size-of .ensures)) (is-from (s .args .z) (s .pre .1) (i .if1 .left))) (n .add-number2 .ensures .0), omega (arith, n .add-number2 .ensures .1))
+    let s = n .before .before .before .before in
+    rw (whole (s .args .z) (s .pre .1)) at (n .add-long .ensures)
 
 pub add-signed-spec : {M : Type 1} → statement M
 add-signed-spec =
     tie.close
-    (tie.spec
-    size-of-requires
-    slice-aggregate-add
-    add-requires
-    add-number-requires
-    same-length
-    returns
-    add-small-requires
-    same-length-2
-    returns-2
-    add-number-requires-2
-    same-length-3
-    returns-3)
+    (tie.spec size-of-requires add-small-requires same-length returns add-long-requires same-length-2 returns-2)

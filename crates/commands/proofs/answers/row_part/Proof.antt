@@ -38,7 +38,7 @@ returns-2 c =
     let x = c .before .before in
     let i = x .before .before in
     let s = i .before .before .before in
-    (as-text (ap (λ (w : List ℕ). rowed w (s .args .p)) (sym (take-all (s .args .n) (s .args .code .now) (omega (arith, i .if1 .left))))) (x .row-text2 .ensures .0), x .row-text2 .ensures .1)
+    (as-text (ap (λ (w : List ℕ). rowed w (s .args .p)) (sym (take-all (s .args .n) (s .args .code .now) (omega (arith, i .if1 .left))))) (x .row-text2 .ensures .0), omega (arith, x .row-text2 .ensures .1))
 
 pub row-part-spec : {M : Type 1} → statement M
 row-part-spec =

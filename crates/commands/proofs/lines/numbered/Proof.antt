@@ -38,7 +38,7 @@ returns-2 : tie.Need-returns-2
 returns-2 c =
     let e = c .before .before .before in
     let s = e .before .before .before .before .before in
-    no-number (s .args .word .now) (s .args .rest .now) (s .pre .0) (s .pre .1) (s .pre .2)
+    no-number (s .args .word .now) (s .args .rest .now) (s .pre .whole) (s .pre .spoken) (s .pre .uncoded)
     (λ x. untrue (sym (e .if1 .left) ∙ e .before .same .ensures .1 x))
     (λ n h d _. subst (ReadsNumber _) (c .enum-told .given .1) (c .before .before .read-number .ensures) n h d)
 
@@ -68,7 +68,7 @@ returns-5 : tie.Need-returns-5
 returns-5 c =
     let e = c .before .before .before .before .before .before .before .before .before .before in
     let s = e .before .before .before .before .before in
-    no-number (s .args .word .now) (s .args .rest .now) (s .pre .0) (s .pre .1) (s .pre .2)
+    no-number (s .args .word .now) (s .args .rest .now) (s .pre .whole) (s .pre .spoken) (s .pre .uncoded)
     (λ x. untrue (sym (e .if1 .left) ∙ e .before .same .ensures .1 x))
     (λ n h d. ⊎-elim (λ x. untrue (sym (c .before .before .before .if2 .left) ∙ c .before .before .before .before .same2 .ensures .1 x)) (λ x. untrue (sym (c .if3 .left) ∙ c .before .same3 .ensures .1 x)))
 

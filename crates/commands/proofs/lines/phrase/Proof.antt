@@ -105,16 +105,16 @@ numbered-requires : tie.Need-numbered-requires
 numbered-requires c κs =
     let r = c .before .before .before in
     let m = r .before .before .before .before .before .before in
-    let s = m .before .before .before .before .before in (
-      s .pre .0,
-      s .pre .1,
-      record {
+    let s = m .before .before .before .before .before in record {
+      whole = s .pre .0;
+      spoken = s .pre .1;
+      uncoded = record {
         put = m .before .put-mode .ensures .1 (omega (arith, m .if1 .left));
         lookup = λ e. untrue (sym (r .before .before .before .if2 .left) ∙ r .before .before .before .before .same .ensures .1 e);
         remove = λ e. untrue (sym (r .if3 .left) ∙ r .before .same2 .ensures .1 e);
         report = λ e. untrue (sym (c .if4 .left) ∙ c .before .same3 .ensures .1 e);
-      },
-    )
+      };
+    }
 
 returns-7 : tie.Need-returns-7
 returns-7 c = c .numbered .ensures _

@@ -1,19 +1,15 @@
 -- `directory::name_page` meets its contract: a bucket's run is set, another page's is not. Assumes nothing.
 use borrow.Author.Needs.{needs}
-use Prim.Native.Nat.{ℕ, _+_, _*_, _^_, _≤_}
+use Prim.Native.Nat.{ℕ, _+_, _*_}
 use mathlib.Core.Path.{_≡_, sym, ap, _∙_}
 use mathlib.Core.List.{List}
 use native.Mathlib.Omega.{arith}
 use native.Mathlib.Nat.{mul-le-mul-right}
-use lib.Pow.{pow-mono}
 use denote.Ref.{now}
 use Rattle.ground.specs.Lists.{byte}
 use Rattle.hash.specs.Fnv.{fnv}
 use Rattle.page.specs.Page.{depth, code}
-use Rattle.partition.specs.Bits.{top}
-use Rattle.partition.specs.Partition.{first, after}
 use Rattle.partition.specs.declared.Shape.{Shape}
-use Rattle.partition.proofs.Sizes.{twelve}
 use Rattle.store.specs.Pages.{size, page}
 use Rattle.store.proofs.Paging.Depths.{page-byte, kind-byte}
 use Rattle.store.proofs.Paging.Views.{page-lent}

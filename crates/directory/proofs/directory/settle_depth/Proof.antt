@@ -1,6 +1,6 @@
 -- `directory::settle_depth` meets its contract. Assumes nothing.
 use borrow.Author.Needs.{needs}
-use mathlib.Core.Path.{_≡_, sym, subst, _∙_}
+use mathlib.Core.Path.{_≡_, sym, subst}
 use native.Mathlib.Omega.{arith}
 use denote.Ref.{now}
 use Rattle.hash.specs.Fnv.{fnv}
@@ -19,7 +19,7 @@ cast-write-directory c = search needs
 write-directory-requires : tie.Need-write-directory-requires
 write-directory-requires c κs =
     let z = c .before .before .before .before .before in
-    (z .pre .0, subst (λ d. Directable (z .args .z) (now (z .args .s)) (z .args .n) d) (sym (c .before .before .deepest .ensures .0)) (directable (z .args .z) (now (z .args .s)) (z .args .n) (z .pre .1)))
+    (z .pre .0 .sized, subst (λ d. Directable (z .args .z) (now (z .args .s)) (z .args .n) d) (sym (c .before .before .deepest .ensures .0)) (directable (z .args .z) (now (z .args .s)) (z .args .n) (z .pre .0 .pages)))
 
 same-length : tie.Need-same-length
 same-length c = search needs
@@ -36,7 +36,7 @@ returns-2 : tie.Need-returns-2
 returns-2 c =
     let z = c .before .before .before .before in
     let e : deepestIn (contents (z .args .z) (now (z .args .s))) ≡ z .args .d = omega (arith, c .before .deepest .ensures .0, c .if1 .left) in
-    subst (λ d. Directed (z .args .z) fnv (now (z .args .s)) d (z .args .n) (now (z .args .s))) (sym e) (z .pre .2 e)
+    subst (λ d. Directed (z .args .z) fnv (now (z .args .s)) d (z .args .n) (now (z .args .s))) (sym e) (z .pre .1 e)
 
 pub settle-depth-spec : {M : Type 1} → statement M
 settle-depth-spec =

@@ -1,13 +1,19 @@
 -- `lots::bid::tell` meets its contract. Assumes nothing.
-use mathlib.Core.Path.{subst}
+use Prim.Native.Nat.{ℕ}
+use mathlib.Core.Path.{_≡_, subst}
+use native.Mathlib.Omega.{arith}
 use denote.Ref.{now}
 use Rattle.ground.specs.Ladder.{Answers}
 use Rattle.hash.specs.Fnv.{fnv}
 use Rattle.partition.specs.Sizes.{shapeOf}
 use Rattle.report.specs.declared.Outcome.{Outcome}
 use Rattle.report.specs.Numbers.{numbersTable}
-use Rattle.report.specs.Report.{reported}
+use Rattle.report.specs.Report.{reported, summed}
 use Rattle.report.proofs.Told.{summed-over}
+use Rattle.report.specs.declared.Sums.{Sums}
+use Rattle.partition.proofs.Sizes.{sized-of}
+use Rattle.lots.specs.Reports.{Reports}
+use Rattle.lots.proofs.Reporting.{sums-of, untold}
 use borrow.Author.Needs.{needs}
 use Rattle.lots.proofs.bid.tell.Statement.{statement}
 use Rattle.lots.proofs.bid.tell.Tie as tie
@@ -40,7 +46,10 @@ enum-known-p : tie.Need-enum-known-p
 enum-known-p c = search needs
 
 tell-not-there-requires : tie.Need-tell-not-there-requires
-tell-not-there-requires c κs = search needs
+tell-not-there-requires c κs =
+    let j = c .before .before .before in
+    let s = j .before .before .before in
+    record { room = s .pre; answers = subst (λ (r : Outcome). Answers (numbersTable (shapeOf (now (s .args .s))) fnv (now (s .args .s)) (now (s .args .flat)) (s .args .n)) (reported r)) (c .before .p .given .1) (j .judge .ensures) }
 
 passed-requires-3 : tie.Need-passed-requires-3
 passed-requires-3 c κs = search needs
@@ -48,33 +57,57 @@ passed-requires-3 c κs = search needs
 enum-known-x : tie.Need-enum-known-x
 enum-known-x c = search needs
 
+-- the sums, once they are answered
+module _ (c : tie.After-known-told3) where
+  abbrev start : tie.Start
+  start = c .before .before .before .before .before .before
+
+  abbrev sums : Sums
+  sums = c .before .x .given .0 .0
+
+  answered : Answers (numbersTable (shapeOf (now (start .args .s))) fnv (now (start .args .s)) (now (start .args .flat)) (start .args .n)) (summed sums)
+  answered = subst (λ (r : Outcome). Answers (numbersTable (shapeOf (now (start .args .s))) fnv (now (start .args .s)) (now (start .args .flat)) (start .args .n)) (reported r)) (c .before .x .given .1) (c .before .before .before .judge .ensures)
+
 tell-named-requires : tie.Need-tell-named-requires
 tell-named-requires c κs =
-    let j = c .before .before .before in
-    let s = j .before .before .before in
+    let s = start c in
     let S = shapeOf (now (s .args .s)) in
-    summed-over S fnv (now (s .args .s)) (now (s .args .flat)) (s .args .n) _ (s .pre) (subst (λ (r : Outcome). Answers (numbersTable S fnv (now (s .args .s)) (now (s .args .flat)) (s .args .n)) (reported r)) (c .before .x .given .1) (j .judge .ensures))
+    let o = summed-over S fnv (now (s .args .s)) (now (s .args .flat)) (s .args .n) (sums c) (s .pre) (answered c) in
+    record {
+      markable = record { sized = sized-of (now (s .args .s)); accepted = o .0; laid = o .1 };
+      sums = sums c;
+      summed = sums-of S (now (s .args .s)) (now (s .args .flat)) (s .args .n) (sums c) (answered c);
+    }
 
 returns : tie.Need-returns
-returns c = search needs
+returns c = record { reads = tt; rows = λ n e. absurd (let f : _≡_ {A = ℕ} 0 1 = cc in omega (arith, f)) }
 
 tell-sums-requires : tie.Need-tell-sums-requires
-tell-sums-requires c κs = search needs
+tell-sums-requires c κs = record { room = start (c .before .before) .pre; answers = answered (c .before .before) }
 
 returns-2 : tie.Need-returns-2
-returns-2 c = search needs
+returns-2 c = record { reads = tt; rows = λ n e. absurd (let f : _≡_ {A = ℕ} 0 1 = cc in omega (arith, f)) }
 
 returns-3 : tie.Need-returns-3
-returns-3 c = search needs
+returns-3 c = untold _ (c .passed .result) (c .passed .ensures)
 
 returns-4 : tie.Need-returns-4
-returns-4 c = search needs
+returns-4 c = untold _ (c .passed2 .result) (c .passed2 .ensures)
 
 returns-5 : tie.Need-returns-5
-returns-5 c = search needs
+returns-5 c = untold _ (c .passed3 .result) (c .passed3 .ensures)
 
+-- After-tell-sums, Else1, After-tell-named stand between
 returns-6 : tie.Need-returns-6
-returns-6 c = search needs
+returns-6 c =
+    let k = c .before .before .before .before in
+    let s = start k in
+    record {
+      reads = tt;
+      rows = λ n e.
+          let f : s .args .n ≡ n = cc in
+          (now (s .args .flat), (sums k, subst (λ m. Reports (now (s .args .s)) (now (s .args .flat)) m (summed (sums k))) f (record { room = s .pre; answers = answered k })));
+    }
 
 pub tell-spec : {M : Type 1} → statement M
 tell-spec =

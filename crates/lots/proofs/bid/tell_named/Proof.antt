@@ -1,20 +1,19 @@
 -- `lots::bid::tell_named` meets its contract. Assumes nothing.
 use mathlib.Core.Path.{sym, subst}
 use denote.Ref.{now}
-use Rattle.hash.specs.Fnv.{fnv}
-use Rattle.store.specs.Accepted.{Accepted}
+use Rattle.lots.specs.Reports.{Summable}
 use Rattle.lots.proofs.Leaving.{numbered}
 use borrow.Author.Needs.{needs}
 use Rattle.lots.proofs.bid.tell_named.Statement.{statement}
 use Rattle.lots.proofs.bid.tell_named.Tie as tie
 
 shape-of-requires : tie.Need-shape-of-requires
-shape-of-requires c κs = numbered _ (c .before .before .pre .0)
+shape-of-requires c κs = numbered _ (c .before .before .pre .markable .accepted)
 
 tell-fresh-requires : tie.Need-tell-fresh-requires
 tell-fresh-requires c κs =
     let s = c .before .before .before in
-    record { sized = c .shape-of .ensures .1; accepted = subst (λ S. Accepted S fnv (now (s .args .s))) (sym (c .shape-of .ensures .0)) (s .pre .0); laid = s .pre .1 }
+    subst (λ S. Summable S (now (s .args .s)) (now (s .args .flat)) (s .args .n)) (sym (c .shape-of .ensures .0)) (s .pre)
 
 returns : tie.Need-returns
 returns c = search needs

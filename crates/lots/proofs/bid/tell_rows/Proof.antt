@@ -1,30 +1,23 @@
 -- `lots::bid::tell_rows` meets its contract. Assumes nothing.
 use Prim.Native.Nat.{_-_, _≤_}
-use lib.ListN.{length}
 use borrow.Author.Needs.{needs}
 use Rattle.lots.proofs.bid.tell_rows.Statement.{statement}
 use Rattle.lots.proofs.bid.tell_rows.Tie as tie
 
 abbrev Inv-loop : tie.InvT-loop
-Inv-loop flat counts i₀ i = i ≤ length counts
+Inv-loop s z flat counts n i₀ i = i ≤ n
 
 abbrev μ-loop : tie.MeasureT-loop
-μ-loop flat counts i₀ i = length counts - i
+μ-loop s z flat counts n i₀ i = n - i
 
 loop-holds : tie.Need-loop-holds Inv-loop μ-loop
 loop-holds c = search needs
 
-named-row-requires : tie.Need-named-row-requires Inv-loop μ-loop
-named-row-requires c κs = search needs
-
-tell-row-requires : tie.Need-tell-row-requires Inv-loop μ-loop
-tell-row-requires c κs = search needs
+tell-next-requires : tie.Need-tell-next-requires Inv-loop μ-loop
+tell-next-requires c κs = search needs
 
 returns : tie.Need-returns Inv-loop μ-loop
 returns c = search needs
-
-add-i : tie.Need-add-i Inv-loop μ-loop
-add-i c = search needs
 
 loop-less : tie.Need-loop-less Inv-loop μ-loop
 loop-less c = search needs
@@ -36,16 +29,4 @@ returns-2 : tie.Need-returns-2 Inv-loop μ-loop
 returns-2 c = search needs
 
 pub tell-rows-spec : {M : Type 1} → statement M
-tell-rows-spec =
-    tie.close
-    (tie.spec
-    Inv-loop
-    μ-loop
-    loop-holds
-    named-row-requires
-    tell-row-requires
-    returns
-    add-i
-    loop-less
-    loop-again
-    returns-2)
+tell-rows-spec = tie.close (tie.spec Inv-loop μ-loop loop-holds tell-next-requires returns loop-less loop-again returns-2)

@@ -1,5 +1,6 @@
 -- `lots::ask_format` meets its contract. Assumes nothing.
 use mathlib.Core.Bool.{true≢false}
+use mathlib.Core.Logic.{inl, inr}
 use mathlib.Core.Path.{refl, sym, _∙_}
 use Rattle.lots.proofs.Leaving.{taken-in}
 use borrow.Author.Needs.{needs}
@@ -19,7 +20,7 @@ returns : tie.Need-returns
 returns c =
     let a = c .after .ensures in
     let t = c .before .before in
-    (taken-in a (λ l. refl) (t .before .before .before .pre), a .fill, λ due h. absurd (true≢false (sym (t .if1 .taken) ∙ t .before .held-back .ensures due)))
+    (taken-in a (λ l. refl) (t .before .before .before .pre), a .fill, inr (λ due. absurd (true≢false (sym (t .if1 .taken) ∙ t .before .held-back .ensures (due .0))), refl, a .len))
 
 lacks-room-requires : tie.Need-lacks-room-requires
 lacks-room-requires c κs = search needs
@@ -34,7 +35,7 @@ returns-2 : tie.Need-returns-2
 returns-2 c =
     let a = c .after2 .ensures in
     let t = c .before .before in
-    (taken-in a (λ l. refl) (t .before .before .before .before .before .pre), a .fill, λ due h. absurd (true≢false (sym (t .if2 .taken) ∙ t .before .lacks-room .ensures h)))
+    (taken-in a (λ l. refl) (t .before .before .before .before .before .pre), a .fill, inr (λ due. absurd (true≢false (sym (t .if2 .taken) ∙ t .before .lacks-room .ensures (due .1))), refl, a .len))
 
 format-requires : tie.Need-format-requires
 format-requires c κs = search needs
@@ -43,7 +44,7 @@ same-length : tie.Need-same-length
 same-length c = search needs
 
 returns-3 : tie.Need-returns-3
-returns-3 c = let f = c .before .before .format .ensures in (f .0, f .1, λ due h. f .2)
+returns-3 c = let f = c .before .before .format .ensures in (f .0, f .1, inl (f .2))
 
 pub ask-format-spec : {M : Type 1} → statement M
 ask-format-spec =

@@ -1,12 +1,40 @@
 -- `lots::command` meets its contract. Assumes nothing.
 use Prim.Native.Nat.{_-_}
+use mathlib.Core.List.{[], _∷_}
+use mathlib.Core.Logic.{inl, inr}
 use mathlib.Core.Path.{subst, sym, refl}
+use native.Mathlib.Omega.{arith}
+use lib.Dec.{ltb}
+use lib.ListN.{length, take}
+use denote.Enum.Declared.{tagOf}
+use denote.Ref.{now}
+use types.Run.{OneOf}
 use lib.Seq.{length-take-le}
+use Rattle.lots.specs.declared.Outcome.{Outcome}
+use Rattle.lots.specs.declared.Outcome.the-variants.{Silent, Unknown, Told, Changed, Listed, Format, Stopped}
+use Rattle.lots.specs.Runs.{Done}
 use Rattle.lots.specs.Sessions.{Leaves}
+use Rattle.lots.proofs.Outcome.{the-type}
 use Rattle.lots.proofs.Leaving.{leaves, lent-known, part-back, still-holds, taken-in, then}
+use Rattle.lots.proofs.Running.{without, formats-did, obeyed-did}
 use borrow.Author.Needs.{needs}
 use Rattle.lots.proofs.input.command.Statement.{statement}
 use Rattle.lots.proofs.input.command.Tie as tie
+
+-- an outcome that is no format
+done : (o : Outcome) → OneOf (0 ∷ 1 ∷ 2 ∷ 3 ∷ 4 ∷ 6 ∷ []) (tagOf the-type o) → Done o
+done Silent k = tt
+done Unknown k = tt
+done (Told x) k = tt
+done (Changed x) k = tt
+done (Listed n) k = tt
+done Stopped k = tt
+done (Format n size) (inl e) = omega (arith, e)
+done (Format n size) (inr (inl e)) = omega (arith, e)
+done (Format n size) (inr (inr (inl e))) = omega (arith, e)
+done (Format n size) (inr (inr (inr (inl e)))) = omega (arith, e)
+done (Format n size) (inr (inr (inr (inr (inl e))))) = omega (arith, e)
+done (Format n size) (inr (inr (inr (inr (inr e))))) = omega (arith, e)
 
 before-anew-requires : tie.Need-before-anew-requires
 before-anew-requires c κs = search needs
@@ -21,7 +49,7 @@ part-obey-end : tie.Need-part-obey-end
 part-obey-end c = search needs
 
 slice-aggregate-obey : tie.Need-slice-aggregate-obey
-slice-aggregate-obey c = sym (length-take-le _ _ (c .before .before .before-anew .ensures))
+slice-aggregate-obey c = sym (length-take-le _ _ (c .before .before .before-anew .ensures .within))
 
 obey-requires : tie.Need-obey-requires
 obey-requires c κs = lent-known (c .before .before .before .before .before .pre)
@@ -40,7 +68,14 @@ returns c =
     let f = c .before .before .ask-format .ensures in
     let o = c .before .before .before .before .before .o .given in
     let b = c .before .before .before .before .before .before .before .before .before .obey .ensures in
-    (then (record { quiet = λ q. q; same = λ q. part-back _ _ 0 (c .before .before .before .before .before .before .before .before .before .before .before .before .before .before .before .args .z .len - 0) (leaves b (subst Leaves (sym (o .1)) tt)); long = λ q. refl; holds = still-holds (c .before .before .before .before .before .before .before .before .before .before .before .before .before .before .before .pre) b (search needs) }) (f .0), f .1)
+    let a = c .before .before .before .before .before .before .before .before .before .before .before .before .before-anew in
+    let s = c .before .before .before .before .before .before .before .before .before .before .before .before .before .before .before in
+    let l = now (s .args .line) in
+    record {
+      kept = then (record { quiet = λ q. q; same = λ q. part-back _ _ 0 (s .args .z .len - 0) (leaves b (subst Leaves (sym (o .1)) tt)); long = λ q. refl; holds = still-holds (s .pre) b (search needs) }) (f .0);
+      fill = f .1;
+      did = formats-did l (take (a .result) l) (ltb (a .result) (length l)) (s .pre) (without l (a .result) (a .ensures)) b (o .1) (f .2);
+    }
 
 after-requires : tie.Need-after-requires
 after-requires c κs = search needs
@@ -52,7 +87,14 @@ returns-2 : tie.Need-returns-2
 returns-2 c =
     let a = c .after .ensures in
     let b = c .before .before .before .before .obey .ensures in
-    (taken-in a (λ l. part-back _ _ 0 (c .before .before .before .before .before .before .before .before .before .before .args .z .len - 0) (leaves b l)) (still-holds (c .before .before .before .before .before .before .before .before .before .before .pre) b (search needs)), a .fill)
+    let n = c .before .before .before .before .before .before .before .before-anew in
+    let s = c .before .before .before .before .before .before .before .before .before .before in
+    let l = now (s .args .line) in
+    record {
+      kept = taken-in a (λ x. part-back _ _ 0 (s .args .z .len - 0) (leaves b x)) (still-holds (s .pre) b (search needs));
+      fill = a .fill;
+      did = obeyed-did l (take (n .result) l) (ltb (n .result) (length l)) (c .after .result .len) (s .pre) (search needs) (without l (n .result) (n .ensures)) b (done (c .before .before .before .before .obey .result) (c .before .match .keys2)) (a .len);
+    }
 
 pub command-spec : {M : Type 1} → statement M
 command-spec =

@@ -2,6 +2,7 @@
 use mathlib.Core.Path.{refl, _∙_}
 use native.Mathlib.Omega.{arith}
 use Rattle.lots.proofs.Leaving.{beside, holds-as, taken-in, then}
+use Rattle.lots.proofs.Running.{stays, one-line}
 use borrow.Author.Needs.{needs}
 use Rattle.lots.proofs.input.end_line.Statement.{statement}
 use Rattle.lots.proofs.input.end_line.Tie as tie
@@ -35,7 +36,7 @@ returns c =
     let a = c .after .ensures in
     let n = c .before .before .before .before .before .before .next-line .ensures in
     let h = c .before .before .before .before .before .before .before .before .before .pre .0 in
-    (then (beside (n .0) h) (taken-in a (λ l. refl) (holds-as (n .0 .len) (n .0 .known) h)), a .fill ∙ n .1)
+    (stays (then (beside (n .0) h) (taken-in a (λ l. refl) (holds-as (n .0 .len) (n .0 .known) h))) (a .len ∙ n .0 .len) refl, a .fill ∙ n .1)
 
 sub-turn : tie.Need-sub-turn
 sub-turn c = omega (arith, c .before .before .text-start .ensures, c .before .before .before .text-end .ensures, c .before .before .before .before .before .before .before .pre .1)
@@ -56,7 +57,7 @@ returns-2 : tie.Need-returns-2
 returns-2 c =
     let t = c .before .before .turn .ensures in
     let n = c .before .before .before .before .before .before .before .before .next-line .ensures in
-    (then (beside (n .0) (c .before .before .before .before .before .before .before .before .before .before .before .pre .0)) (t .0), t .1 ∙ n .1)
+    (one-line (n .0 .len) (then (beside (n .0) (c .before .before .before .before .before .before .before .before .before .before .before .pre .0)) (t .kept)) t, t .fill ∙ n .1)
 
 pub end-line-spec : {M : Type 1} → statement M
 end-line-spec =

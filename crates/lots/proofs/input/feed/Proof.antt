@@ -3,19 +3,19 @@ use Prim.Native.Nat.{_-_, _≤_}
 use mathlib.Core.Path.{_≡_, refl}
 use lib.ListN.{length}
 use borrow.Author.Needs.{needs}
-use Rattle.lots.specs.Sessions.{Kept}
-use Rattle.lots.proofs.Leaving.{beside, then}
+use Rattle.lots.specs.Runs.{Went}
+use Rattle.lots.proofs.Running.{stays-beside, go-on}
 use Rattle.lots.proofs.input.feed.Statement.{statement}
 use Rattle.lots.proofs.input.feed.Tie as tie
 
 abbrev Inv-loop : tie.InvT-loop
-Inv-loop store₀ line₀ piece y₀ i₀ store line y i = Kept y₀ store₀ y store × (y .fill ≤ length line) × (length store ≡ length store₀) × (length line ≡ length line₀) × (i ≤ length piece)
+Inv-loop store₀ line₀ piece y₀ i₀ store line y i = Went y₀ store₀ y store × (y .fill ≤ length line) × (length store ≡ length store₀) × (length line ≡ length line₀) × (i ≤ length piece)
 
 abbrev μ-loop : tie.MeasureT-loop
 μ-loop store₀ line₀ piece y₀ i₀ store line y i = length piece - i
 
 loop-holds : tie.Need-loop-holds Inv-loop μ-loop
-loop-holds c = (beside (record { len = refl; known = refl; changed = refl; stopped = refl }) (search needs), search needs, refl, refl, search needs)
+loop-holds c = (stays-beside (record { len = refl; known = refl; changed = refl; stopped = refl }) (search needs), search needs, refl, refl, search needs)
 
 same-length : tie.Need-same-length Inv-loop μ-loop
 same-length c = search needs
@@ -42,7 +42,7 @@ loop-again : tie.Need-loop-again Inv-loop μ-loop
 loop-again c =
     let t = c .before .before .before .before .take .ensures in
     let v = c .before .before .before .before .before .before .before .before .before .before .loop .inv in
-    (then (v .0) (t .0), t .1, search needs, search needs, search needs)
+    (go-on (v .2) (v .0) (t .0), t .1, search needs, search needs, search needs)
 
 same-length-3 : tie.Need-same-length-3 Inv-loop μ-loop
 same-length-3 c = search needs

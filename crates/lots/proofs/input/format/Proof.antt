@@ -56,6 +56,7 @@ returns c =
       a .fill,
       record {
         len = n .result;
+        within = n .ensures .0;
         long = n .ensures .1;
         answer = meaning (f .result);
         left = f .last .0;
@@ -80,6 +81,7 @@ returns-2 c =
       a .fill,
       record {
         len = n .result;
+        within = n .ensures .0;
         long = n .ensures .1;
         answer = meaning (f .result);
         left = f .last .0;

@@ -2,6 +2,7 @@
 use mathlib.Core.Path.{refl}
 use borrow.Author.Needs.{needs}
 use mathlib.Core.Bool.{true≢false}
+use Rattle.lots.proofs.Running.{stays, stays-beside}
 use Rattle.lots.proofs.input.read.Statement.{statement}
 use Rattle.lots.proofs.input.read.Tie as tie
 
@@ -24,10 +25,10 @@ fail-requires : tie.Need-fail-requires
 fail-requires c κs = search needs
 
 returns : tie.Need-returns
-returns c = (record { quiet = λ q. absurd (true≢false (q .1)); same = λ q. refl; long = λ q. refl; holds = search needs }, search needs)
+returns c = (stays (record { quiet = λ q. absurd (true≢false (q .1)); same = λ q. refl; long = λ q. refl; holds = search needs }) refl refl, search needs)
 
 returns-2 : tie.Need-returns-2
-returns-2 c = search needs
+returns-2 c = (stays-beside (record { len = refl; known = refl; changed = refl; stopped = refl }) (c .before .before .before .before .before .before .before .before .before .pre .0), search needs)
 
 slice-aggregate-count : tie.Need-slice-aggregate-count
 slice-aggregate-count c = search needs

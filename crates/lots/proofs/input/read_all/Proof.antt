@@ -3,19 +3,19 @@ use Prim.Native.Nat.{_≤_}
 use mathlib.Core.Path.{_≡_, refl}
 use lib.ListN.{length}
 use borrow.Author.Needs.{needs}
-use Rattle.lots.specs.Sessions.{Kept}
-use Rattle.lots.proofs.Leaving.{beside, then}
+use Rattle.lots.specs.Runs.{Went}
+use Rattle.lots.proofs.Running.{stays-beside, go-on}
 use Rattle.lots.proofs.input.read_all.Statement.{statement}
 use Rattle.lots.proofs.input.read_all.Tie as tie
 
 abbrev Inv-loop : tie.InvT-loop
-Inv-loop store₀ line₀ y₀ turns₀ store line y turns = Kept y₀ store₀ y store × (y .fill ≤ length line) × (length store ≡ length store₀) × (length line ≡ length line₀)
+Inv-loop store₀ line₀ y₀ turns₀ store line y turns = Went y₀ store₀ y store × (y .fill ≤ length line) × (length store ≡ length store₀) × (length line ≡ length line₀)
 
 abbrev μ-loop : tie.MeasureT-loop
 μ-loop store₀ line₀ y₀ turns₀ store line y turns = turns
 
 loop-holds : tie.Need-loop-holds Inv-loop μ-loop
-loop-holds c = (beside (record { len = refl; known = refl; changed = refl; stopped = refl }) (search needs), search needs, refl, refl)
+loop-holds c = (stays-beside (record { len = refl; known = refl; changed = refl; stopped = refl }) (search needs), search needs, refl, refl)
 
 same-length : tie.Need-same-length Inv-loop μ-loop
 same-length c = search needs
@@ -48,7 +48,7 @@ loop-again : tie.Need-loop-again Inv-loop μ-loop
 loop-again c =
     let t = c .before .before .before .before .read .ensures in
     let v = c .before .before .before .before .before .before .before .before .before .before .loop .inv in
-    (then (v .0) (t .0), t .1, search needs, search needs)
+    (go-on (v .2) (v .0) (t .0), t .1, search needs, search needs)
 
 same-length-5 : tie.Need-same-length-5 Inv-loop μ-loop
 same-length-5 c = search needs

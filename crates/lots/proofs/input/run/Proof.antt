@@ -1,6 +1,7 @@
 -- `lots::run` meets its contract. Assumes nothing.
 use borrow.Author.Needs.{needs}
-use Rattle.lots.proofs.Leaving.{begun, ran, then}
+use Rattle.lots.proofs.Leaving.{begun}
+use Rattle.lots.proofs.Running.{go-on, ran}
 use Rattle.lots.proofs.input.run.Statement.{statement}
 use Rattle.lots.proofs.input.run.Tie as tie
 
@@ -53,7 +54,7 @@ same-length-3 : tie.Need-same-length-3
 same-length-3 c = search needs
 
 returns-3 : tie.Need-returns-3
-returns-3 c = ran (c .before .before .before .before .before .before .before .before .before .before .before .before .before .begin .ensures .0) (then (c .before .before .before .before .before .before .before .before .before .before .before .read-all .ensures .0) (c .before .before .end-line .ensures .0))
+returns-3 c = ran (c .before .before .before .before .before .before .before .before .before .before .before .before .before .begin .ensures .0) (go-on (search needs) (c .before .before .before .before .before .before .before .before .before .before .before .read-all .ensures .0) (c .before .before .end-line .ensures .0))
 
 pub run-spec : {M : Type 1} → statement M
 run-spec =

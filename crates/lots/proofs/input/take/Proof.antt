@@ -1,12 +1,12 @@
 -- `lots::take` meets its contract. Assumes nothing.
 use mathlib.Core.Path.{refl}
-use Rattle.lots.proofs.Leaving.{beside}
+use Rattle.lots.proofs.Running.{stays-beside}
 use borrow.Author.Needs.{needs}
 use Rattle.lots.proofs.input.take.Statement.{statement}
 use Rattle.lots.proofs.input.take.Tie as tie
 
 returns : tie.Need-returns
-returns c = (beside (record { len = refl; known = refl; changed = refl; stopped = refl }) (c .before .before .before .pre .0), search needs)
+returns c = (stays-beside (record { len = refl; known = refl; changed = refl; stopped = refl }) (c .before .before .before .pre .0), search needs)
 
 end-line-requires : tie.Need-end-line-requires
 end-line-requires c κs = search needs
@@ -30,7 +30,7 @@ same-length-3 : tie.Need-same-length-3
 same-length-3 c = search needs
 
 returns-3 : tie.Need-returns-3
-returns-3 c = (beside (c .before .before .push-blank .ensures .0) (c .before .before .before .before .before .before .before .before .before .before .pre .0), c .before .before .push-blank .ensures .1)
+returns-3 c = (stays-beside (c .before .before .push-blank .ensures .0) (c .before .before .before .before .before .before .before .before .before .before .pre .0), c .before .before .push-blank .ensures .1)
 
 push-requires : tie.Need-push-requires
 push-requires c κs = search needs
@@ -39,7 +39,7 @@ same-length-4 : tie.Need-same-length-4
 same-length-4 c = search needs
 
 returns-4 : tie.Need-returns-4
-returns-4 c = (beside (c .before .before .push .ensures .0) (c .before .before .before .before .before .before .before .before .before .before .pre .0), c .before .before .push .ensures .1)
+returns-4 c = (stays-beside (c .before .before .push .ensures .0) (c .before .before .before .before .before .before .before .before .before .before .pre .0), c .before .before .push .ensures .1)
 
 pub take-spec : {M : Type 1} → statement M
 take-spec =

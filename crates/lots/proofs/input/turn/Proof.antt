@@ -1,5 +1,9 @@
 -- `lots::turn` meets its contract. Assumes nothing.
-use mathlib.Core.Path.{refl}
+use mathlib.Core.Logic.{inl, inr}
+use mathlib.Core.Path.{refl, ap}
+use lib.ListN.{take}
+use denote.Ref.{now}
+use Rattle.lots.specs.Runs.{aside}
 use Rattle.lots.proofs.Leaving.{beside, taken-in}
 use borrow.Author.Needs.{needs}
 use Rattle.lots.proofs.input.turn.Statement.{statement}
@@ -12,7 +16,11 @@ same-requires : tie.Need-same-requires
 same-requires c κs = search needs
 
 returns : tie.Need-returns
-returns c = (beside (record { len = refl; known = refl; changed = refl; stopped = refl }) (c .before .before .before .before .before .pre), refl)
+returns c = record {
+  kept = beside (record { len = refl; known = refl; changed = refl; stopped = refl }) (c .before .before .before .before .before .pre);
+  fill = refl;
+  did = aside (inl (c .before .same .ensures .0 (c .if1 .taken))) refl;
+}
 
 slice-aggregate-same-2 : tie.Need-slice-aggregate-same-2
 slice-aggregate-same-2 c = search needs
@@ -27,7 +35,13 @@ after-requires : tie.Need-after-requires
 after-requires c κs = search needs
 
 returns-2 : tie.Need-returns-2
-returns-2 c = let a = c .after .ensures in (taken-in a (λ l. refl) (c .before .before .before .before .before .before .before .before .before .before .pre), a .fill)
+returns-2 c =
+    let a = c .after .ensures in
+    record {
+      kept = taken-in a (λ l. refl) (c .before .before .before .before .before .before .before .before .before .before .pre);
+      fill = a .fill;
+      did = aside (inr (c .before .before .before .same2 .ensures .0 (c .before .before .if2 .taken))) (ap (λ m. take m (now (c .before .before .before .before .before .before .before .before .before .before .args .store))) (a .len));
+    }
 
 command-requires : tie.Need-command-requires
 command-requires c κs = search needs

@@ -34,7 +34,7 @@ shape-of-requires : tie.Need-shape-of-requires
 shape-of-requires c κs = numbered _ (sound c)
 
 give-row-requires : tie.Need-give-row-requires
-give-row-requires c κs = let b = c .before in (b .shape-of .ensures .1, at-own b, b .before .before .before .before .pre .1)
+give-row-requires c κs = let b = c .before in record { sized = b .shape-of .ensures .1; accepted = at-own b; room = b .before .before .before .before .pre .1 }
 
 same-length-2 : tie.Need-same-length-2
 same-length-2 c = search needs

@@ -61,19 +61,29 @@ count-rows-requires c κs =
     let g = at-own (c .before) .long in
     (omega (arith, div-add-mod' (length (now (c .before .before .before .before .before .before .args .s))) (size (z .result)), g .whole), omega (arith, g .least), omega (arith, g .most, z .ensures .1 .whole, z .ensures .1 .most))
 
+buffer-requires : tie.Need-buffer-requires
+buffer-requires c κs = search needs
+
+slice-aggregate-list-rows : tie.Need-slice-aggregate-list-rows
+slice-aggregate-list-rows c = search needs
+
 list-rows-requires : tie.Need-list-rows-requires
-list-rows-requires c κs = let b = c .before .before in record { sized = b .shape-of .ensures .1; accepted = at-own b; rows = c .count-rows .ensures }
+list-rows-requires c κs =
+    let n = c .before .before in
+    let b = n .before .before in
+    (record { sized = b .shape-of .ensures .1; accepted = at-own b; rows = n .count-rows .ensures }, omega (arith, c .before .buffer .ensures))
 
 returns-2 : tie.Need-returns-2
 returns-2 c =
-    let b = c .before .before .before in
+    let l = c .before in
+    let b = l .before .before .before .before .before in
     let k = b .before .before .before .check-known in
     let s = now (b .before .before .before .before .before .args .s) in
     record {
       answer = meaning (k .result);
       made = (k .ensures, refl);
       refused = λ e. absurd (true≢false (sym (good (b .before)) ∙ e));
-      rows = λ _. subst (λ S. Numbers (length (listing S fnv (rowsHeld S s))) (c .list-rows .result)) (b .shape-of .ensures .0) (c .list-rows .ensures);
+      rows = λ _. subst (λ S. Numbers (length (listing S fnv (rowsHeld S s))) (l .list-rows .result)) (b .shape-of .ensures .0) (l .list-rows .ensures);
     }
 
 pub list-spec : {M : Type 1} → statement M
@@ -88,5 +98,7 @@ list-spec =
     add-count-rows
     div-count-rows
     count-rows-requires
+    buffer-requires
+    slice-aggregate-list-rows
     list-rows-requires
     returns-2)

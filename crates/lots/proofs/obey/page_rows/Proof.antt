@@ -1,6 +1,9 @@
 -- `lots::page_rows` meets its contract. Assumes nothing.
 use Prim.Native.Nat.{_-_, _≤_}
+use mathlib.Core.Path.{_≡_, subst}
+use native.Mathlib.Omega.{arith}
 use borrow.Author.Needs.{needs}
+use Rattle.lots.specs.Obeys.{Numbers}
 use Rattle.lots.proofs.obey.page_rows.Statement.{statement}
 use Rattle.lots.proofs.obey.page_rows.Tie as tie
 
@@ -19,9 +22,6 @@ page-row-requires c κs = search needs
 returns : tie.Need-returns Inv-loop μ-loop
 returns c = search needs
 
-add-i : tie.Need-add-i Inv-loop μ-loop
-add-i c = search needs
-
 loop-less : tie.Need-loop-less Inv-loop μ-loop
 loop-less c = search needs
 
@@ -32,7 +32,9 @@ listed-requires : tie.Need-listed-requires Inv-loop μ-loop
 listed-requires c κs = search needs
 
 returns-2 : tie.Need-returns-2 Inv-loop μ-loop
-returns-2 c = search needs
+returns-2 c =
+    let e : c .before .before .loop .i ≡ c .before .before .before .before .args .n = omega (arith, c .before .before .loop .inv, c .before .loop-test .left) in
+    subst (λ m. Numbers m (c .listed .result)) e (c .listed .ensures)
 
 pub page-rows-spec : {M : Type 1} → statement M
 page-rows-spec =
@@ -43,7 +45,6 @@ page-rows-spec =
     loop-holds
     page-row-requires
     returns
-    add-i
     loop-less
     loop-again
     listed-requires

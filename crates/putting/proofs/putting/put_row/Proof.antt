@@ -48,7 +48,7 @@ entry-of-requires : tie.Need-entry-of-requires
 entry-of-requires c κs =
     let z = c .before .before .before .before .before in
     let P = z .pre in
-    (P .sized, omega (arith, long-enough (z .args .z) (P .sized) (now (z .args .s)) (P .accepted)), opened (z .args .z) fnv (now (z .args .s)) (P .accepted) .page0 .depth)
+    record { sized = P .sized; long = omega (arith, long-enough (z .args .z) (P .sized) (now (z .args .s)) (P .accepted)); deep = opened (z .args .z) fnv (now (z .args .s)) (P .accepted) .page0 .depth }
 
 same-length : tie.Need-same-length
 same-length c = search needs

@@ -18,7 +18,7 @@ use lib.Pow.{pow-mono}
 use lib.ListN.{length}
 use native.Mathlib.Omega.{arith}
 use mathlib.Core.List.{List, map}
-use mathlib.Core.Path.{_≡_, refl, sym, ap, subst, _∙_}
+use mathlib.Core.Path.{_≡_, refl, sym, ap, _∙_}
 use Prim.Native.Nat.{ℕ, _+_, _*_, _-_, _^_, _≤_, _<_}
 use borrow.Fn.Kinds.{In}
 use borrow.Fn.PlainCycle.{Measures, is, falls, and}
@@ -216,12 +216,12 @@ write-below-name-bucket-requires t c κs =
     let f = c .before .before .before in
     let b = b2 t f in
     let p = taken t (paged t f) in
-    let Z = W t b .prefix .sized in (
-      W t b .prefix,
-      rw (given-back (S t b) (s t b) p (q t f))
-          (record { sized = Z; long = omega (arith, whole t f, within (S t b) (s t b) 1 (omega (arith, W t b .long .least))); deep = deep t b }),
-      omega (arith, there t (paged t f), W t b .long .most, Z .whole, Z .most),
-    )
+    let Z = W t b .prefix .sized in record {
+      prefix = W t b .prefix;
+      directory = rw (given-back (S t b) (s t b) p (q t f))
+          (record { sized = Z; long = omega (arith, whole t f, within (S t b) (s t b) 1 (omega (arith, W t b .long .least))); deep = deep t b });
+      word = omega (arith, there t (paged t f), W t b .long .most, Z .whole, Z .most);
+    }
 
 write-below-same-length : (t : ℕ) → write-below-lts.Need-same-length (told t) (write-below-at t) write-below.Post
 write-below-same-length t c = search Needs.needs

@@ -9,12 +9,12 @@ use Rattle.putting.proofs.split.name_bucket.Statement.{statement}
 use Rattle.putting.proofs.split.name_bucket.Tie as tie
 
 hash-under-requires : tie.Need-hash-under-requires
-hash-under-requires c κs = let z = c .before .before .before in (omega (arith, z .pre .0 .deep, twelve (z .args .z) (z .pre .0 .sized)), z .pre .0 .bits)
+hash-under-requires c κs = let z = c .before .before .before in (omega (arith, z .pre .prefix .deep, twelve (z .args .z) (z .pre .prefix .sized)), z .pre .prefix .bits)
 
 name-prefix-requires : tie.Need-name-prefix-requires
 name-prefix-requires c κs =
     let z = c .before .before .before .before in
-    (z .pre .0 .sized, record { long = z .pre .1 .long; low = omega (arith, c .before .before .if1 .taken); deep = z .pre .1 .deep; word = z .pre .2 })
+    (z .pre .prefix .sized, record { long = z .pre .directory .long; low = omega (arith, c .before .before .if1 .taken); deep = z .pre .directory .deep; word = z .pre .word })
 
 same-length : tie.Need-same-length
 same-length c = search needs

@@ -385,8 +385,10 @@ settle-depth-requires c κs =
     let f = fine (d4 w) in
     let n = x .write-below .result in
     let q = depth-read (m6 (y7 x)) in (
-      P .sized,
-      settling (S z) (P .sized) fnv fnv-lt (s z) (P .accepted) (t7 x) (split-kept (S z) fnv fnv-lt (s z) (p z) (i z) (key z) (place z) (C z) f (room w) (s₁ (y7 x)) (freed (y7 x)) (t7 x) n (wrote x)),
+      record {
+        sized = P .sized;
+        pages = settling (S z) (P .sized) fnv fnv-lt (s z) (P .accepted) (t7 x) (split-kept (S z) fnv fnv-lt (s z) (p z) (i z) (key z) (place z) (C z) f (room w) (s₁ (y7 x)) (freed (y7 x)) (t7 x) n (wrote x));
+      },
       (λ e. subst (λ d. Directed (S z) fnv (t7 x) d (pages (S z) (s z)) (t7 x)) (sym q)
           (split-directed (S z) fnv fnv-lt (s z) (p z) (i z) (key z) (place z) (C z) f (room w) (s₁ (y7 x)) (freed (y7 x)) (t7 x) n (wrote x) (e ∙ q))),
     )

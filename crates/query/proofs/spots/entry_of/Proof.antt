@@ -19,7 +19,7 @@ is c = c .top-bits .ensures ∙ ap (λ d. top d (c .before .before .before .args
 small : (c : tie.After-top-bits) → c .top-bits .result < c .before .before .before .args .z .entries
 small c =
     let z = c .before .before .before in
-    omega (arith, is c, entry-inside (z .args .z) (z .pre .0) (dirDepth (now (z .args .s))) (z .args .x) (z .pre .2) (z .fits .x .fits))
+    omega (arith, is c, entry-inside (z .args .z) (z .pre .sized) (dirDepth (now (z .args .s))) (z .args .x) (z .pre .deep) (z .fits .x .fits))
 
 get32-requires : tie.Need-get32-requires
 get32-requires c κs = search needs
@@ -28,7 +28,7 @@ cast-d : tie.Need-cast-d
 cast-d c = search needs
 
 top-bits-requires : tie.Need-top-bits-requires
-top-bits-requires c κs = let z = c .before .before in omega (arith, c .get32 .ensures .0, twelve (z .args .z) (z .pre .0))
+top-bits-requires c κs = let z = c .before .before in omega (arith, c .get32 .ensures .0, twelve (z .args .z) (z .pre .sized))
 
 add-get32 : tie.Need-add-get32
 add-get32 c = search needs

@@ -25,7 +25,7 @@ use Rattle.query.proofs.spots.find_row.Tie as tie
 entry : (c : tie.After-entry-of) → c .entry-of .result ≡ entryOf (c .before .before .before .args .z) fnv (now (c .before .before .before .args .s)) (now (c .before .before .before .args .key))
 entry c =
     let z = c .before .before .before in
-    c .entry-of .ensures .0 ∙ ap (λ x. entryAt (z .args .z) (now (z .args .s)) (top (dirDepth (now (z .args .s))) x)) (z .pre .2)
+    c .entry-of .ensures .0 ∙ ap (λ x. entryAt (z .args .z) (now (z .args .s)) (top (dirDepth (now (z .args .s))) x)) (z .pre .hash)
 
 -- what stands where the entry is not zero
 module _ (c : tie.Else1) where
@@ -45,25 +45,26 @@ module _ (c : tie.Else1) where
   some-entry e = c .if1 .left (entry (c .before) ∙ e)
 
   on-it : (c .before .entry-of .result) * size S + size S ≤ length s
-  on-it = subst (λ p. p * size S + size S ≤ length s) (sym (entry (c .before))) (inside S (start .pre .0) s (start .pre .1) key some-entry)
+  on-it = subst (λ p. p * size S + size S ≤ length s) (sym (entry (c .before))) (inside S (start .pre .sized) s (start .pre .accepted) key some-entry)
 
   bucket : BucketPage (page S s (c .before .entry-of .result))
-  bucket = subst (λ p. BucketPage (page S s p)) (sym (entry (c .before))) (keeps S (start .pre .0) s (start .pre .1) key some-entry)
+  bucket = subst (λ p. BucketPage (page S s p)) (sym (entry (c .before))) (keeps S (start .pre .sized) s (start .pre .accepted) key some-entry)
 
   stands-at : (i : ℕ) → i < count (page S s (c .before .entry-of .result)) → code (page S s (c .before .entry-of .result)) i ≡ key → StandsAt S s key (Here (c .before .entry-of .result) i)
   stands-at i l e =
-      subst (λ p. (i : ℕ) → i < count (page S s p) → code (page S s p) i ≡ key → StandsAt S s key (Here p i)) (sym (entry (c .before))) (here S (start .pre .0) s (start .pre .1) key some-entry) i l e
+      subst (λ p. (i : ℕ) → i < count (page S s p) → code (page S s p) i ≡ key → StandsAt S s key (Here p i)) (sym (entry (c .before))) (here S (start .pre .sized) s (start .pre .accepted) key some-entry) i l e
 
   stands-not : (i : ℕ) → Belongs (page S s (c .before .entry-of .result)) i key → StandsAt S s key Nowhere
-  stands-not i b = nowhere S (start .pre .0) s (start .pre .1) key some-entry i (subst (λ p. Belongs (page S s p) i key) (entry (c .before)) b)
+  stands-not i b = nowhere S (start .pre .sized) s (start .pre .accepted) key some-entry i (subst (λ p. Belongs (page S s p) i key) (entry (c .before)) b)
 
 entry-of-requires : tie.Need-entry-of-requires
 entry-of-requires c κs = let z = c .before .before in
-    (z .pre .0, omega (arith, long-enough (z .args .z) (z .pre .0) (now (z .args .s)) (z .pre .1)), shallow (z .args .z) (z .pre .0) (now (z .args .s)) (z .pre .1))
+    let P = z .pre in
+    record { sized = P .sized; long = omega (arith, long-enough (z .args .z) (P .sized) (now (z .args .s)) (P .accepted)); deep = shallow (z .args .z) (P .sized) (now (z .args .s)) (P .accepted) }
 
 returns : tie.Need-returns
 returns c = let z = c .before .before .before .before in
-    not-named (z .args .z) (z .pre .0) (now (z .args .s)) (z .pre .1) (now (z .args .key)) (sym (entry (c .before)) ∙ c .if1 .taken)
+    not-named (z .args .z) (z .pre .sized) (now (z .args .s)) (z .pre .accepted) (now (z .args .key)) (sym (entry (c .before)) ∙ c .if1 .taken)
 
 add-size : tie.Need-add-size
 add-size c = omega (arith, on-it (c .before))

@@ -14,10 +14,10 @@ use Rattle.store.specs.Demands.{Sized}
 use Rattle.store.specs.Pages.{size, dirDepth, entryAt}
 use Rattle.store.specs.Accepted.{Accepted}
 use Rattle.query.specs.Spots.{Listed}
-use Rattle.query.specs.Cursors.{At}
+use Rattle.query.specs.Cursors.{At, Along}
 use Rattle.query.specs.declared.Spot.the-variants.{Here}
 use Rattle.partition.proofs.Sizes.{twelve}
-use Rattle.query.proofs.Finds.{long-enough, shallow, From, at-from, at-next, from-end, from-none, entry-low, page-inside, page-deep, from-here, from-past}
+use Rattle.query.proofs.Finds.{long-enough, shallow, From, at-from, at-next, from-end, from-none, entry-low, page-inside, page-deep, from-here, from-along, from-past}
 use Rattle.query.proofs.spots.next_row.Statement.{statement}
 use Rattle.query.proofs.spots.next_row.Tie as tie
 
@@ -39,17 +39,17 @@ module _ (b : tie.At-loop Inv-loop μ-loop) where
   s = now (start .args .s)
 
   sz : Sized S
-  sz = start .pre .0
+  sz = start .pre .sized
 
   acc : Accepted S fnv s
-  acc = start .pre .1
+  acc = start .pre .accepted
 
   -- a place before which the cursor stands
   abbrev n : ℕ
-  n = start .pre .2 .0
+  n = start .pre .place
 
   now-from : From S s n (b .loop .i) (b .loop .left)
-  now-from = b .loop .inv n (start .pre .2 .1)
+  now-from = b .loop .inv n (start .pre .at)
 
   depth-is : b .before .before .get32 .result ≡ dirDepth s
   depth-is = b .before .before .get32 .ensures .0
@@ -81,13 +81,13 @@ module _ (e : tie.Else1 Inv-loop μ-loop) where
   )
 
 get32-requires : tie.Need-get32-requires Inv-loop μ-loop
-get32-requires c κs = let q = c .before in omega (arith, long-enough _ (q .pre .0) _ (q .pre .1))
+get32-requires c κs = let q = c .before in omega (arith, long-enough _ (q .pre .sized) _ (q .pre .accepted))
 
 cast-d : tie.Need-cast-d Inv-loop μ-loop
 cast-d c = omega (arith, c .get32 .ensures .1)
 
 two-to-requires : tie.Need-two-to-requires Inv-loop μ-loop
-two-to-requires c κs = let q = c .before .before in omega (arith, c .get32 .ensures .0, shallow _ (q .pre .0) _ (q .pre .1), twelve _ (q .pre .0))
+two-to-requires c κs = let q = c .before .before in omega (arith, c .get32 .ensures .0, shallow _ (q .pre .sized) _ (q .pre .accepted), twelve _ (q .pre .sized))
 
 loop-holds : tie.Need-loop-holds Inv-loop μ-loop
 loop-holds c = let q = c .before .before .before in λ n a. at-from (q .args .z) (now (q .args .s)) n (q .args .c) a
@@ -131,13 +131,16 @@ returns c = λ n a. let e = c .before .before in
     let f : b .loop .left < le16 (s b) (e .before .get322 .result * size (S b) + 2) → Listed (S b) (s b) n (Here (e .before .get322 .result) (b .loop .left)) =
     subst (λ p. b .loop .left < le16 (s b) (p * size (S b) + 2) → Listed (S b) (s b) n (Here p (b .loop .left))) (sym (its e))
     (from-here (S b) (sz b) (s b) (acc b) n (b .loop .i) (b .loop .left) (below b (e .before .before .before .loop-test .taken)) (not-zero e) (b .loop .inv n a)) in
-    (f (omega (arith, c .if2 .taken, c .before .get16 .ensures .0)), at-next (S b) (sz b) (s b) (acc b) n (b .loop .i) (b .loop .left) _ (omega arith) (b .loop .inv n a))
+    let g : Along (S b) (s b) n (e .before .get322 .result) (b .loop .left) =
+    subst (λ p. Along (S b) (s b) n p (b .loop .left)) (sym (its e))
+    (from-along (S b) (sz b) (s b) (acc b) n (b .loop .i) (b .loop .left) (below b (e .before .before .before .loop-test .taken)) (not-zero e) (b .loop .inv n a)) in
+    (f (omega (arith, c .if2 .taken, c .before .get16 .ensures .0)), at-next (S b) (sz b) (s b) (acc b) n (b .loop .i) (b .loop .left) _ (omega arith) (b .loop .inv n a), g, omega arith)
 
 entries-of-requires : tie.Need-entries-of-requires Inv-loop μ-loop
 entries-of-requires c κs = let e = c .before .before in
     let w = at-page e in
     let b = e .before .before .before .before in
-    (omega (arith, w .0), omega (arith, w .1, depth-is b), omega (arith, depth-is b, shallow (S b) (sz b) (s b) (acc b), twelve (S b) (sz b)))
+    record { there = omega (arith, w .0); low = omega (arith, w .1, depth-is b); deep = omega (arith, depth-is b, shallow (S b) (sz b) (s b) (acc b), twelve (S b) (sz b)) }
 
 -- past a page
 past : (c : tie.After-entries-of Inv-loop μ-loop) (n : ℕ) → At (S (c .before .before .before .before .before .before .before)) (s (c .before .before .before .before .before .before .before)) n (start (c .before .before .before .before .before .before .before) .args .c)
@@ -157,7 +160,7 @@ add-i-2 : tie.Need-add-i-2 Inv-loop μ-loop
 add-i-2 c =
     let b = c .before .before .before .before .before .before .before in
     let m : 2 ^ dirDepth (s b) ≤ 2 ^ S b .deepest = pow-mono (shallow (S b) (sz b) (s b) (acc b)) in
-    omega (arith, past c (n b) (start b .pre .2 .1) .most, m, sz b)
+    omega (arith, past c (n b) (start b .pre .at) .most, m, sz b)
 
 loop-less-2 : tie.Need-loop-less-2 Inv-loop μ-loop
 loop-less-2 c =

@@ -10,7 +10,7 @@ cursor-at-requires : tie.Need-cursor-at-requires
 cursor-at-requires c κs = c .before .pre
 
 next-row-requires : tie.Need-next-row-requires
-next-row-requires c κs = let q = c .before .before in (q .pre .0, q .pre .1, (q .args .n, c .cursor-at .ensures))
+next-row-requires c κs = let q = c .before .before in record { sized = q .pre .0; accepted = q .pre .1; place = q .args .n; at = c .cursor-at .ensures }
 
 enum-known-p : tie.Need-enum-known-p
 enum-known-p c = search needs

@@ -138,7 +138,7 @@ mul-a c = omega (arith, at-page c .inside)
 
 entries-of-requires : tie.Need-entries-of-requires Inv-loop μ-loop
 entries-of-requires c κs = let r = c .before .before .before .before .before in
-    (omega (arith, at-page c .inside), omega (arith, at-page c .deep, deep r), omega (arith, deep r, shallow (S r) (sized r) _ (acc r), twelve (S r) (sized r)))
+    record { there = omega (arith, at-page c .inside); low = omega (arith, at-page c .deep, deep r); deep = omega (arith, deep r, shallow (S r) (sized r) _ (acc r), twelve (S r) (sized r)) }
 
 add-get16 : tie.Need-add-get16 Inv-loop μ-loop
 add-get16 c = omega (arith, at-page (c .before) .inside)

@@ -49,13 +49,13 @@ module _ (d : tie.After-p) where
   leaving : Leaving S fnv s p i key
   leaving =
       let o = stands .0 in
-      record { accepted = z .pre .1; from = o .from; to = page-below S s p (o .within); rules = o .rules; slot = o .slot; coded = stands .1; known = stands .2 }
+      record { sized = z .pre .0; accepted = z .pre .1; from = o .from; to = page-below S s p (o .within); rules = o .rules; slot = o .slot; coded = stands .1; known = stands .2 }
 
 hash-requires : tie.Need-hash-requires
 hash-requires c κs = search needs
 
 find-row-requires : tie.Need-find-row-requires
-find-row-requires c κs = let z = c .before .before .before .before in (z .pre .0, z .pre .1, c .before .hash .ensures)
+find-row-requires c κs = let z = c .before .before .before .before in record { sized = z .pre .0; accepted = z .pre .1; hash = c .before .hash .ensures }
 
 enum-told : tie.Need-enum-told
 enum-told c = search needs
@@ -85,7 +85,7 @@ read-place-requires : tie.Need-read-place-requires
 read-place-requires c κs = let d = c .before .before .before .before in rw (page-lent (S d) (s d) (p d)) (stands d .0 .rules .rules, stands d .0 .slot)
 
 take-out-requires : tie.Need-take-out-requires
-take-out-requires c κs = let d = c .before .before .before .before .before .before in (z d .pre .0, leaving d, d .before .before .before .before .hash .ensures)
+take-out-requires c κs = let d = c .before .before .before .before .before .before in (leaving d, d .before .before .before .before .hash .ensures)
 
 same-length : tie.Need-same-length
 same-length c = search needs

@@ -48,10 +48,10 @@ module _ (z : tie.Start) where
   S = z .args .z
 
   sized : Sized S
-  sized = z .pre .0
+  sized = z .pre .0 .sized
 
   L : Leaving S fnv s p (z .args .i) key
-  L = z .pre .1
+  L = z .pre .0
 
   abbrev g : List ℕ
   g = page S s p
@@ -86,7 +86,7 @@ module _ (b : tie.After-climb) where
   j = b .climb .result
 
   climbed : Climbed (S z₁) fnv (rowsHeld (S z₁) (s z₁)) (fnv (key z₁)) (depth (g z₁)) (12 + length (key z₁)) j
-  climbed = subst₂ (λ x k. Climbed (S z₁) fnv (rowsHeld (S z₁) (s z₁)) x k (12 + length (key z₁)) j) (z₁ .pre .2) (sym (deep z₁)) (b .climb .ensures)
+  climbed = subst₂ (λ x k. Climbed (S z₁) fnv (rowsHeld (S z₁) (s z₁)) x k (12 + length (key z₁)) j) (z₁ .pre .1) (sym (deep z₁)) (b .climb .ensures)
 
   fits : Fits (S z₁) fnv (s z₁) (key z₁) j
   fits = climbed-fits (S z₁) (sized z₁) fnv fnv-lt (s z₁) (p z₁) (z₁ .args .i) (key z₁) (L z₁) (12 + length (key z₁)) j refl climbed
@@ -149,7 +149,7 @@ climb-requires c κs = let z = c .before .before .before .before .before in (
   sized z,
   record {
     accepted = L z .accepted;
-    is = subst₂ (λ x k. IsBucket (S z) fnv (rowsHeld (S z) (s z)) k (top k x)) (sym (z .pre .2)) (deep z) (its-bucket (S z) (sized z) fnv fnv-lt (s z) (p z) (z .args .i) (key z) (L z));
+    is = subst₂ (λ x k. IsBucket (S z) fnv (rowsHeld (S z) (s z)) k (top k x)) (sym (z .pre .1)) (deep z) (its-bucket (S z) (sized z) fnv fnv-lt (s z) (p z) (z .args .i) (key z) (L z));
     one = omega (arith, short z);
   },
 )
@@ -175,7 +175,7 @@ join-lent-requires : tie.Need-join-lent-requires
 join-lent-requires c κs =
     let b = b₃ (c .before .before) in
     let z = z₁ b in
-    subst (λ x. Joinable (S z) fnv (s z) (n z) x (j b) (key z)) (sym (z .pre .2))
+    subst (λ x. Joinable (S z) fnv (s z) (n z) x (j b) (key z)) (sym (z .pre .1))
     (joinable (S z) (sized z) fnv fnv-lt (s z) (p z) (z .args .i) (key z) (L z) (j b) (fits b) (less b (c .before .if1 .taken)))
 
 -- the rows joined
@@ -199,7 +199,7 @@ module _ (e : tie.After-join-lent) where
   fewer = less b₄ (e .before .before .if1 .taken)
 
   rejoined : Rejoined (S z₄) fnv (s z₄) (n z₄) (j b₄) v₄ (key z₄) low (e .join-lent .last .0)
-  rejoined = subst (λ x. Rejoined (S z₄) fnv (s z₄) (n z₄) (j b₄) (top (j b₄) x) (key z₄) low (e .join-lent .last .0)) (z₄ .pre .2) (e .join-lent .ensures)
+  rejoined = subst (λ x. Rejoined (S z₄) fnv (s z₄) (n z₄) (j b₄) (top (j b₄) x) (key z₄) low (e .join-lent .last .0)) (z₄ .pre .1) (e .join-lent .ensures)
 
   its-low : (2 ≤ low) × (low < pages (S z₄) (s z₄))
   its-low = (
@@ -224,7 +224,7 @@ module _ (y : tie.After-name-prefix) where
   named : PrefixNamed (S z₅) (e₅ .join-lent .last .0) (dirDepth (s z₅)) (j b₅) (v₄ e₅) (low e₅) t₅
   named =
       subst (λ d. PrefixNamed (S z₅) (e₅ .join-lent .last .0) d (j b₅) (v₄ e₅) (low e₅) t₅) (deep-read (d₄ e₅))
-      (subst (λ x. PrefixNamed (S z₅) (e₅ .join-lent .last .0) (d₄ e₅ .get32 .result) (j b₅) (top (j b₅) x) (low e₅) t₅) (z₅ .pre .2) (y .name-prefix .ensures))
+      (subst (λ x. PrefixNamed (S z₅) (e₅ .join-lent .last .0) (d₄ e₅ .get32 .result) (j b₅) (top (j b₅) x) (low e₅) t₅) (z₅ .pre .1) (y .name-prefix .ensures))
 
   kept : Rewritten (S z₅) (s z₅) t₅
   kept = join-kept (S z₅) (sized z₅) fnv fnv-lt (s z₅) (p z₅) (z₅ .args .i) (key z₅) (L z₅) (j b₅) (fits b₅) (fewer e₅) (rejoined e₅) named
@@ -253,8 +253,7 @@ settle-depth-requires c κs =
     let z = z₅ y in
     let b = b₅ y in
     let q = deep-read (d₄ (e₅ y)) in (
-      sized z,
-      settling (S z) (sized z) fnv fnv-lt (s z) (L z .accepted) (t₅ y) (kept y),
+      record { sized = sized z; pages = settling (S z) (sized z) fnv fnv-lt (s z) (L z .accepted) (t₅ y) (kept y) },
       (λ _. subst (λ d. Directed (S z) fnv (t₅ y) d (pages (S z) (s z)) (t₅ y)) (sym q)
           (join-directed (S z) (sized z) fnv fnv-lt (s z) (p z) (z .args .i) (key z) (L z) (j b) (fits b) (fewer (e₅ y)) (rejoined (e₅ y)) (named y))),
     )
@@ -344,7 +343,7 @@ module _ (y : tie.After-name-prefix2) where
       subst (λ q. PrefixNamed (S z₇) q (dirDepth (s z₇)) (depth (g z₇)) (top (depth (g z₇)) (fnv (key z₇))) 0 u₇) (cleared k₇)
       (subst (λ d. PrefixNamed (S z₇) (s₆ k₇) d (depth (g z₇)) (top (depth (g z₇)) (fnv (key z₇))) 0 u₇) (deep-read (e₆ k₇))
       (subst (λ k. PrefixNamed (S z₇) (s₆ k₇) (e₆ k₇ .get32 .result) k (top k (fnv (key z₇))) 0 u₇) (sym (deep z₇))
-      (subst (λ x. PrefixNamed (S z₇) (s₆ k₇) (e₆ k₇ .get32 .result) deep-byte (top deep-byte x) 0 u₇) (z₇ .pre .2) (y .name-prefix2 .ensures))))
+      (subst (λ x. PrefixNamed (S z₇) (s₆ k₇) (e₆ k₇ .get32 .result) deep-byte (top deep-byte x) 0 u₇) (z₇ .pre .1) (y .name-prefix2 .ensures))))
 
   kept₇ : Rewritten (S z₇) (s z₇) u₇
   kept₇ = clear-kept (S z₇) (sized z₇) fnv fnv-lt (s z₇) (p z₇) (z₇ .args .i) (key z₇) (L z₇) (j b₇) (fits b₇) (own (d₆ k₇)) (one-row k₇) unnamed
@@ -372,8 +371,7 @@ settle-depth-requires-2 c κs =
     let y = c .before .before .before in
     let z = z₇ y in
     let b = b₇ y in (
-      sized z,
-      settling (S z) (sized z) fnv fnv-lt (s z) (L z .accepted) (u₇ y) (kept₇ y),
+      record { sized = sized z; pages = settling (S z) (sized z) fnv fnv-lt (s z) (L z .accepted) (u₇ y) (kept₇ y) },
       (λ _. subst (λ d. Directed (S z) fnv (u₇ y) d (pages (S z) (s z)) (u₇ y)) (sym (deep-read (e₆ (k₇ y))))
           (clear-directed (S z) (sized z) fnv fnv-lt (s z) (p z) (z .args .i) (key z) (L z) (j b) (fits b) (own (d₆ (k₇ y))) (one-row (k₇ y)) (unnamed y))),
     )

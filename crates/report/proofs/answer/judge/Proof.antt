@@ -158,7 +158,11 @@ accepted c = c .before .before .first-bad .ensures .sound (c .if3 .left)
 
 told-fresh-requires : tie.Need-told-fresh-requires
 told-fresh-requires c κs = let d = e1 (past-2 c) in
-    (sized (e d), accepted c, subst (SoundSheet (ranksOf (flat (e d)) (n (e d)))) (sym (raised-here d)) (record { sound = sound-here (past-2 c); paired = same-long d; most = omega (arith, ranks-here d, d .if1 .left) }))
+    record {
+      sized = sized (e d);
+      accepted = accepted c;
+      sheet = subst (SoundSheet (ranksOf (flat (e d)) (n (e d)))) (sym (raised-here d)) (record { sound = sound-here (past-2 c); paired = same-long d; most = omega (arith, ranks-here d, d .if1 .left) });
+    }
 
 returns-5 : tie.Need-returns-5
 unfolding numbersTable

@@ -14,17 +14,17 @@ use Rattle.report.proofs.answer.told_fresh.Statement.{statement}
 use Rattle.report.proofs.answer.told_fresh.Tie as tie
 
 array-borrow-prefix-counts : tie.Need-array-borrow-prefix-counts
-array-borrow-prefix-counts c = let s = c .before .before .before in prefix-le (length (now (s .args .ranks))) limit (s .pre .2 .most)
+array-borrow-prefix-counts c = let s = c .before .before .before in prefix-le (length (now (s .args .ranks))) limit (s .pre .sheet .most)
 
 slice-aggregate-told : tie.Need-slice-aggregate-told
-slice-aggregate-told c = let s = c .before .before .before .before in sym (prefix-length (length (now (s .args .ranks))) limit (s .pre .2 .most))
+slice-aggregate-told c = let s = c .before .before .before .before in sym (prefix-length (length (now (s .args .ranks))) limit (s .pre .sheet .most))
 
 told-requires : tie.Need-told-requires
-told-requires c κs = let s = c .before .before .before .before in (s .pre .0, s .pre .1, s .pre .2, prefix-length (length (now (s .args .ranks))) limit (s .pre .2 .most))
+told-requires c κs = let s = c .before .before .before .before in (s .pre, take-replicate (length (now (s .args .ranks))) limit 0 (s .pre .sheet .most))
 
 returns : tie.Need-returns
 returns c = let s = c .before .before .before .before .before .before in
-    subst (λ (cs : List ℕ). ToldBy (now (s .args .ranks)) (now (s .args .raised)) (listing (s .args .z) fnv (rowsHeld (s .args .z) (now (s .args .s)))) cs (reported (c .before .told .result))) (take-replicate (length (now (s .args .ranks))) limit 0 (s .pre .2 .most)) (c .before .told .ensures)
+    subst (λ (cs : List ℕ). ToldBy (now (s .args .ranks)) (now (s .args .raised)) (listing (s .args .z) fnv (rowsHeld (s .args .z) (now (s .args .s)))) cs (reported (c .before .told .result))) (take-replicate (length (now (s .args .ranks))) limit 0 (s .pre .sheet .most)) (c .before .told .ensures)
 
 pub told-fresh-spec : {M : Type 1} → statement M
 told-fresh-spec = tie.close (tie.spec array-borrow-prefix-counts slice-aggregate-told told-requires returns)

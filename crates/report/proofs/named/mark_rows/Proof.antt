@@ -33,8 +33,10 @@ tally-requires c κs =
     let s = c .before .before .before .before .before .before in
     let fl = now (s .args .flat) in
     let n = length (now (s .args .counts)) in
-    let w = s .pre .laid in
-    (s .pre .sized, s .pre .accepted, subst (λ (q : List ℕ). SoundSheet (ranksOf fl n) q) (sym (raised-is fl n (w .room) (w .most))) (w .sheet), sym (ranks-length fl n (w .room) (w .most)))
+    let w = s .pre .laid in (
+      record { sized = s .pre .sized; accepted = s .pre .accepted; sheet = subst (λ (q : List ℕ). SoundSheet (ranksOf fl n) q) (sym (raised-is fl n (w .room) (w .most))) (w .sheet) },
+      sym (ranks-length fl n (w .room) (w .most)),
+    )
 
 same-length : tie.Need-same-length
 same-length c = search needs

@@ -1,32 +1,43 @@
--- `report::pack` meets its contract. Assumes nothing.
-use borrow.Author.Needs.{needs}
-use Rattle.report.proofs.Ranks.{pack-a, pack-b, pack-c, pack-in}
+-- `report::rows::rank_parts` meets its contract. Assumes nothing.
+use mathlib.Core.Path.{ap, _∙_}
+use Prim.Native.Nat.{ℕ, _<_}
+use lib.IntN.{natAbs}
+use mir.Syntax.{w16, w32, w64}
+use mir.Facts.{toZ-pos}
+use Rattle.report.proofs.Joined.{joined, wide-fits, page-fits, slot-fits, low, high, natural, Ranked, ranked-is}
 use Rattle.report.proofs.rows.rank_parts.Statement.{statement}
 use Rattle.report.proofs.rows.rank_parts.Tie as tie
 
+cast-w : tie.Need-cast-w
+cast-w c = wide-fits w32 (c .args .a) tt (c .fits .a)
+
+mul-w : tie.Need-mul-w
+mul-w c = page-fits (c .args .a) (c .fits .a)
+
+cast-w-2 : tie.Need-cast-w-2
+cast-w-2 c = wide-fits w16 (c .args .b) tt (c .fits .b)
+
+mul-w-2 : tie.Need-mul-w-2
+mul-w-2 c = slot-fits (c .args .b) (c .fits .b)
+
+cast-w-3 : tie.Need-cast-w-3
+cast-w-3 c = wide-fits w16 (c .args .c) tt (c .fits .c)
+
+-- the word, and what it says
+abbrev W : tie.Start → ℕ
+W s = joined (s .args .a) (s .args .b) (s .args .c)
+
+is : (s : tie.Start) → Ranked (s .args .a) (s .args .b) (s .args .c) (s .fits .a) (s .fits .b) (s .fits .c)
+is s = ranked-is (s .args .a) (s .args .b) (s .args .c) (s .fits .a) (s .fits .b) (s .fits .c)
+
 returns : tie.Need-returns
-returns c = pack-a (c .before .args .a) (c .before .args .b) (c .before .args .c) (c .if1 .taken)
+returns c = is (c .before) .none (high (W (c .before)) (c .if1 .taken))
+
+cast-result : tie.Need-cast-result
+cast-result c = natural (W (c .before)) (low (W (c .before)) (c .if1 .left))
 
 returns-2 : tie.Need-returns-2
-returns-2 c = pack-b (c .before .before .args .a) (c .before .before .args .b) (c .before .before .args .c) (c .before .if1 .left) (c .if2 .taken)
-
-returns-3 : tie.Need-returns-3
-returns-3 c = pack-c (c .before .before .before .args .a) (c .before .before .before .args .b) (c .before .before .before .args .c) (c .before .before .if1 .left) (c .before .if2 .left) (c .if3 .taken)
-
-mul-result : tie.Need-mul-result
-mul-result c = search needs
-
-mul-result-2 : tie.Need-mul-result-2
-mul-result-2 c = search needs
-
-add-result : tie.Need-add-result
-add-result c = search needs
-
-add-result-2 : tie.Need-add-result-2
-add-result-2 c = search needs
-
-returns-4 : tie.Need-returns-4
-returns-4 c = pack-in (c .before .before .before .args .a) (c .before .before .before .args .b) (c .before .before .before .args .c) (c .before .before .if1 .left) (c .before .if2 .left) (c .if3 .left)
+returns-2 c = let l : W (c .before) < 9223372036854775808 = low (W (c .before)) (c .if1 .left) in ap natAbs (toZ-pos w64 l) ∙ is (c .before) .some l
 
 pub rank-parts-spec : {M : Type 1} → statement M
-rank-parts-spec = tie.close (tie.spec returns returns-2 returns-3 mul-result mul-result-2 add-result add-result-2 returns-4)
+rank-parts-spec = tie.close (tie.spec cast-w mul-w cast-w-2 mul-w-2 cast-w-3 returns cast-result returns-2)

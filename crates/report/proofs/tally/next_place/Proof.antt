@@ -11,7 +11,7 @@ use Rattle.partition.specs.declared.Shape.{Shape}
 use Rattle.store.specs.Pages.{page, asRow}
 use Rattle.store.proofs.Paging.Views.{page-lent}
 use Rattle.query.specs.declared.Cursor.{Cursor}
-use Rattle.query.specs.declared.Step.the-variants.{Given}
+use Rattle.query.specs.declared.Step.the-variants.{Handed}
 use Rattle.query.specs.Cursors.{At, Stepped}
 use Rattle.report.proofs.tally.next_place.Statement.{statement}
 use Rattle.report.proofs.tally.next_place.Tie as tie
@@ -36,14 +36,14 @@ module _ (b : tie.After-p) where
   abbrev behind : Cursor
   behind = b .p .given .0 .1 .1 .0
 
-  stepped : (n : ℕ) → At S store n (start .args .c) → Stepped S store n (Given page-no slot-no behind)
+  stepped : (n : ℕ) → At S store n (start .args .c) → Stepped S store n (Handed page-no slot-no behind)
   stepped n a = subst (Stepped S store n) (b .p .given .1) (b .before .before .next-row .ensures n a)
 
-  here : Stepped S store (start .pre .2 .0) (Given page-no slot-no behind)
-  here = stepped (start .pre .2 .0) (start .pre .2 .1)
+  here : Stepped S store (start .pre .place) (Handed page-no slot-no behind)
+  here = stepped (start .pre .place) (start .pre .at)
 
 next-row-requires : tie.Need-next-row-requires
-next-row-requires c κs = search needs
+next-row-requires c κs = c .before .pre
 
 enum-known-p : tie.Need-enum-known-p
 enum-known-p c = search needs

@@ -14,10 +14,11 @@ use Rattle.store.specs.Demands.{Sized}
 use Rattle.store.specs.Pages.{size, pages, dirDepth}
 use Rattle.store.specs.Accepted.{GoodLength, Page0, Page1, Stands, Parted}
 use Rattle.store.proofs.Accepted.Unique.{within}
-use Rattle.store_check.specs.Directory.{Ranges, Counted}
-use Rattle.store_check.proofs.Heads.{to-page1, of-page1, whole-long, begun, standing}
+use Rattle.store_check.specs.Begun.{AllStand}
+use Rattle.store_check.specs.Directory.{Entries, Ranges, Counted}
+use Rattle.store_check.proofs.Heads.{of-page1, whole-long, begun, standing}
 use Rattle.store_check.proofs.Naming.{room}
-use Rattle.store_check.proofs.Parting.{hashed-all}
+use Rattle.store_check.proofs.Parting.{hashed-all, undivided, level}
 use Rattle.store_check.proofs.Stops.{none-bad, bad-0, bad-1, bad-up, bad-again, bad-last, all-sound}
 use Rattle.store_check.proofs.checks.judge.Statement.{statement}
 use Rattle.store_check.proofs.checks.judge.Tie as tie
@@ -34,10 +35,10 @@ module _ (c : tie.After-struct-known) where
   store = start .args .s .now
 
   abbrev sized : Sized S
-  sized = start .pre .0
+  sized = start .pre .sized
 
   abbrev good : GoodLength S store
-  good = start .pre .1
+  good = start .pre .long
 
   three : 2 < pages S store
   three = omega (arith, good .least)
@@ -70,9 +71,9 @@ module _ (c : tie.After-two-to) where
   power = c .two-to .ensures ∙ ap (λ k. 2 ^ k) deep-is
 
 -- page 1's test, with what it was made of
-module _ (c : tie.After-ranges) where
+module _ (c : tie.After-page1-ok) where
   abbrev at : tie.After-two-to
-  at = c .before .before .before .before .before .before
+  at = c .before .before
 
   abbrev top : tie.After-struct-known
   top = top-of at
@@ -81,27 +82,24 @@ module _ (c : tie.After-ranges) where
   many = at .two-to .result
 
   abbrev dir : List ℕ
-  dir = c .before .before .before .before .entries .last .1 .1 .0
-
-  to-1 : Ranges dir (pages (S top) (store top)) many → Page1 (S top) (store top)
-  to-1 = to-page1 (S top) (store top) dir (pages (S top) (store top)) many (c .before .before .before .before .entries .ensures) refl (good top .least) (power at)
-
-  of-1 : Page1 (S top) (store top) → Ranges dir (pages (S top) (store top)) many
-  of-1 = of-page1 (S top) (store top) dir (pages (S top) (store top)) many (c .before .before .before .before .entries .ensures) refl (good top .least) (power at)
+  dir = c .page1-ok .last .1 .1 .1 .1 .0
 
   zero : Page0 (S top) (store top)
   zero = zeroth (at .before .before)
 
 -- past page 1
 module _ (c : tie.Else2) where
-  abbrev test : tie.After-ranges
-  test = c .before
-
-  ranged : Ranges (dir test) (pages (S (top test)) (store (top test))) (many test)
-  ranged = says-true {P = Ranges (dir test) (pages (S (top test)) (store (top test))) (many test)} (test .ranges .result) (not-false _ (c .if2 .left)) (test .ranges .ensures)
+  abbrev test : tie.After-page1-ok
+  test = c .before .before .before
 
   first : Page1 (S (top test)) (store (top test))
-  first = to-1 test ranged
+  first = says-true {P = Page1 (S (top test)) (store (top test))} (test .page1-ok .result) (not-false _ (c .if2 .left)) (test .page1-ok .ensures .0)
+
+  decoded : Entries (S (top test)) (store (top test)) (dir test)
+  decoded = test .page1-ok .ensures .1 (not-false _ (c .if2 .left))
+
+  ranged : Ranges (dir test) (pages (S (top test)) (store (top test))) (many test)
+  ranged = of-page1 (S (top test)) (store (top test)) (dir test) (pages (S (top test)) (store (top test))) (many test) decoded refl (good (top test) .least) (power (at test)) first
 
 abbrev past-1 : tie.After-first-unsound → tie.Else2
 past-1 c = c .before .before .before .before .before .before .before .before .before .before
@@ -116,15 +114,21 @@ pass-1 c = c .before .before .before .before .before
 stands : (c : tie.Else3) → let b = base (pass-1 c) in (q : ℕ) → 2 ≤ q → q < pages (S b) (store b) → Stands (S b) fnv (store b) q
 stands c = none-bad _ _ (pass-1 c .first-unsound .result) (pass-1 c .first-unsound .ensures .0) (c .if3 .left)
 
+all-stand : (c : tie.Else3) → let b = base (pass-1 c) in AllStand (S b) (store b) (pages (S b) (store b))
+all-stand c =
+    let y = pass-1 c in
+    let b = base y in
+    standing (S b) (sized b) (store b) (good b) (zero (test (past-1 y))) (stands c)
+
 -- past pass 2
-abbrev pass-2 : tie.Else4 → tie.After-first-joinable
+abbrev pass-2 : tie.Else5 → tie.After-first-joinable
 pass-2 c = c .before .before .before
 
 abbrev after-1 : tie.After-first-joinable → tie.Else3
-after-1 c = c .before .before .before
+after-1 c = c .before .before .before .before
 
-parted : (c : tie.Else4) → let b = base (pass-1 (after-1 (pass-2 c))) in (q : ℕ) → 2 ≤ q → q < pages (S b) (store b) → Parted (S b) fnv (store b) q
-parted c = none-bad _ _ (pass-2 c .first-joinable .result) (pass-2 c .first-joinable .ensures) (c .if4 .left)
+parted : (c : tie.Else5) → let b = base (pass-1 (after-1 (pass-2 c))) in (q : ℕ) → 2 ≤ q → q < pages (S b) (store b) → Parted (S b) fnv (store b) q
+parted c = none-bad _ _ (pass-2 c .first-joinable .result) (pass-2 c .first-joinable .ensures) (c .if5 .left)
 
 add-n : tie.Need-add-n
 add-n c = omega (arith, sized c .most)
@@ -147,34 +151,38 @@ cast-d c = search needs
 two-to-requires : tie.Need-two-to-requires
 two-to-requires c κs = let b = head (c .before) in omega (arith, c .get32 .ensures .0, zeroth (c .before) .depth, twelve (S b) (sized b))
 
-entries-requires : tie.Need-entries-requires
-entries-requires c κs = let b = top-of (c .before) in (sized b, omega (arith, within (S b) (store b) 1 (omega (arith, three b))), start b .pre .2 .dir-long)
-
-cast-ranges : tie.Need-cast-ranges
-cast-ranges c = let b = top-of (c .before .before .before .before .before) in record { fits = omega (arith, good b .most, few b) }
-
-ranges-requires : tie.Need-ranges-requires
-ranges-requires c κs =
-    let b = top-of (c .before .before .before .before .before) in
-    (omega (arith, fits (c .before .before .before .before .before), c .before .before .before .entries .ensures .long), omega (arith, good b .least))
+page1-ok-requires : tie.Need-page1-ok-requires
+page1-ok-requires c κs =
+    let b = top-of (c .before) in
+    record {
+      room = record { sized = sized b; long = omega (arith, within (S b) (store b) 1 (omega (arith, three b))); few = fits (c .before); room = start b .pre .tables .dir-long; none = start b .pre .tables .no-dir };
+      number = refl;
+      least = good b .least;
+      most = good b .most;
+      power = power (c .before);
+    }
 
 same-length : tie.Need-same-length
 same-length c = search needs
 
 returns-2 : tie.Need-returns-2
 returns-2 c =
-    let x = c .before in
-    bad-1 (S (top x)) fnv (store (top x)) (good (top x)) (zero x)
-    (λ r. says-false {P = Ranges (dir x) (pages (S (top x)) (store (top x))) (many x)} (x .ranges .result) (not-true _ (c .if2 .taken)) (x .ranges .ensures) (of-1 x r))
+    let x = c .before .before .before in
+    bad-1 (S (top x)) fnv (store (top x)) (good (top x)) (zero x) (says-false {P = Page1 (S (top x)) (store (top x))} (x .page1-ok .result) (not-true _ (c .if2 .taken)) (x .page1-ok .ensures .0))
 
 tally-requires : tie.Need-tally-requires
 tally-requires c κs =
     let e = c .before .before in
     let x = test e in
     let b = top x in
-    let l = x .before .before .before .before .entries .ensures .long in
+    let l = decoded e .long in
     let m = fits (at x) in
-    (omega (arith, m, l), omega (arith, m, few b), (λ i a h. omega (arith, ranged e .below i a (omega (arith, m, l)), good b .most, start b .pre .2 .counts-long)), start b .pre .2 .no-counts)
+    record {
+      inside = omega (arith, m, l);
+      few = omega (arith, m, few b);
+      below = λ i a h. omega (arith, ranged e .below i a (omega (arith, m, l)), good b .most, start b .pre .tables .counts-long);
+      none = start b .pre .tables .no-counts;
+    }
 
 until : (dir counts : List ℕ) (m n a b : ℕ) → m ≡ n → a ≡ b → Counted dir m a counts → Counted dir n b counts
 until dir counts m n a b e f c = subst₂ (λ x y. Counted dir x y counts) e f c
@@ -184,13 +192,16 @@ first-unsound-requires c κs =
     let y = c .before .before .before .before .before .before in
     let e = c .before .before .before .before .before .before .before .before .before in
     let x = test e in
-    let b = top x in (
-      begun (S b) (sized b) (store b) (good b) (zero x) (dir x) (deep (at x)) (deep-is (at x)) (x .before .before .before .before .entries .ensures) (ranged e .below) (λ i l. ranged e .beyond i (omega (arith, at x .two-to .ensures))),
-      until (dir x) _ _ _ _ _ (at x .two-to .ensures) (start b .pre .2 .counts-long) (y .tally .ensures),
-      start b .pre .2 .tab-long,
-      start b .pre .2 .no-tab,
-      start b .pre .2 .hashes-long,
-    )
+    let b = top x in
+    record {
+      begun = begun (S b) (sized b) (store b) (good b) (zero x) (dir x) (deep (at x)) (deep-is (at x)) (decoded e) (ranged e .below) (λ i l. ranged e .beyond i (omega (arith, at x .two-to .ensures)));
+      counted = until (dir x) _ _ _ _ _ (at x .two-to .ensures) (start b .pre .tables .counts-long) (y .tally .ensures);
+      blocks = start b .pre .blocks;
+      tab-long = start b .pre .tables .tab-long;
+      no-tab = start b .pre .tables .no-tab;
+      hashes-long = start b .pre .tables .hashes-long;
+      no-hashes = start b .pre .tables .no-hashes;
+    }
 
 same-length-2 : tie.Need-same-length-2
 same-length-2 c = search needs
@@ -210,13 +221,6 @@ returns-3 c =
     let b = base y in
     bad-up (S b) fnv (store b) (good b) (zero (test (past-1 y))) (first (past-1 y)) (y .first-unsound .result) (y .first-unsound .ensures .0) (c .if3 .taken)
 
-first-joinable-requires : tie.Need-first-joinable-requires
-first-joinable-requires c κs =
-    let w = c .before .before in
-    let y = pass-1 w in
-    let b = base y in
-    (standing (S b) (sized b) (store b) (good b) (zero (test (past-1 y))) (stands w), hashed-all _ _ _ _ _ (y .first-unsound .ensures .1) (w .if3 .left), start b .pre .2 .sums-long, start b .pre .2 .no-sums, deep-is (at (test (past-1 y))))
-
 same-length-6 : tie.Need-same-length-6
 same-length-6 c = search needs
 
@@ -229,25 +233,23 @@ same-length-8 c = search needs
 same-length-9 : tie.Need-same-length-9
 same-length-9 c = search needs
 
-same-length-10 : tie.Need-same-length-10
-same-length-10 c = search needs
-
 returns-4 : tie.Need-returns-4
 returns-4 c =
-    let j = c .before .before .before in
-    let w = after-1 j in
+    let w = c .before in
     let y = pass-1 w in
     let b = base y in
-    bad-again (S b) fnv (store b) (good b) (zero (test (past-1 y))) (first (past-1 y)) (stands w) (j .first-joinable .result) (j .first-joinable .ensures) (c .if4 .taken)
+    let flat : dirDepth (store b) ≡ 0 = sym (deep-is (at (test (past-1 y)))) ∙ c .if4 .taken in
+    all-sound (S b) fnv (store b) (good b) (zero (test (past-1 y))) (first (past-1 y)) (stands w) (undivided _ _ _ (all-stand w) flat) (level _ _ (all-stand w) flat)
 
-deepest-requires : tie.Need-deepest-requires
-deepest-requires c κs =
-    let y = pass-1 (after-1 (pass-2 c)) in
+first-joinable-requires : tie.Need-first-joinable-requires
+first-joinable-requires c κs =
+    let w = c .before .before .before in
+    let y = pass-1 w in
     let b = base y in
-    (whole-long (S b) (sized b) (store b) (good b) (zero (test (past-1 y))), omega (arith, three b))
+    record { stand = all-stand w; hashed = hashed-all _ _ _ _ _ (y .first-unsound .ensures .1) (w .if3 .left); sums-long = start b .pre .tables .sums-long; no-sums = start b .pre .tables .no-sums }
 
-cast-if5 : tie.Need-cast-if5
-cast-if5 c = let y = pass-1 (after-1 (pass-2 (c .before))) in record { fits = omega (arith, at (test (past-1 y)) .before .get32 .ensures .1) }
+same-length-10 : tie.Need-same-length-10
+same-length-10 c = search needs
 
 same-length-11 : tie.Need-same-length-11
 same-length-11 c = search needs
@@ -261,17 +263,25 @@ same-length-13 c = search needs
 same-length-14 : tie.Need-same-length-14
 same-length-14 c = search needs
 
-same-length-15 : tie.Need-same-length-15
-same-length-15 c = search needs
-
 returns-5 : tie.Need-returns-5
 returns-5 c =
-    let z = c .before .before in
-    let w = after-1 (pass-2 z) in
+    let j = c .before .before .before in
+    let w = after-1 j in
     let y = pass-1 w in
     let b = base y in
-    bad-last (S b) fnv (store b) (good b) (zero (test (past-1 y))) (first (past-1 y)) (stands w) (parted z)
-    (λ e. c .if5 .taken (c .before .deepest .ensures .0 ∙ sym e ∙ sym (deep-is (at (test (past-1 y))))))
+    bad-again (S b) fnv (store b) (good b) (zero (test (past-1 y))) (first (past-1 y)) (stands w) (j .first-joinable .result) (j .first-joinable .ensures) (c .if5 .taken)
+
+deepest-requires : tie.Need-deepest-requires
+deepest-requires c κs =
+    let y = pass-1 (after-1 (pass-2 c)) in
+    let b = base y in
+    (whole-long (S b) (sized b) (store b) (good b) (zero (test (past-1 y))), omega (arith, three b))
+
+cast-if6 : tie.Need-cast-if6
+cast-if6 c = let y = pass-1 (after-1 (pass-2 (c .before))) in record { fits = omega (arith, at (test (past-1 y)) .before .get32 .ensures .1) }
+
+same-length-15 : tie.Need-same-length-15
+same-length-15 c = search needs
 
 same-length-16 : tie.Need-same-length-16
 same-length-16 c = search needs
@@ -285,17 +295,38 @@ same-length-18 c = search needs
 same-length-19 : tie.Need-same-length-19
 same-length-19 c = search needs
 
-same-length-20 : tie.Need-same-length-20
-same-length-20 c = search needs
-
 returns-6 : tie.Need-returns-6
 returns-6 c =
     let z = c .before .before in
     let w = after-1 (pass-2 z) in
     let y = pass-1 w in
     let b = base y in
+    bad-last (S b) fnv (store b) (good b) (zero (test (past-1 y))) (first (past-1 y)) (stands w) (parted z)
+    (λ e. c .if6 .taken (c .before .deepest .ensures .0 ∙ sym e ∙ sym (deep-is (at (test (past-1 y))))))
+
+same-length-20 : tie.Need-same-length-20
+same-length-20 c = search needs
+
+same-length-21 : tie.Need-same-length-21
+same-length-21 c = search needs
+
+same-length-22 : tie.Need-same-length-22
+same-length-22 c = search needs
+
+same-length-23 : tie.Need-same-length-23
+same-length-23 c = search needs
+
+same-length-24 : tie.Need-same-length-24
+same-length-24 c = search needs
+
+returns-7 : tie.Need-returns-7
+returns-7 c =
+    let z = c .before .before in
+    let w = after-1 (pass-2 z) in
+    let y = pass-1 w in
+    let b = base y in
     all-sound (S b) fnv (store b) (good b) (zero (test (past-1 y))) (first (past-1 y)) (stands w) (parted z)
-    (sym (deep-is (at (test (past-1 y)))) ∙ sym (c .if5 .left) ∙ c .before .deepest .ensures .0)
+    (sym (deep-is (at (test (past-1 y)))) ∙ sym (c .if6 .left) ∙ c .before .deepest .ensures .0)
 
 pub judge-spec : {M : Type 1} → statement M
 judge-spec =
@@ -308,9 +339,7 @@ judge-spec =
     get32-requires
     cast-d
     two-to-requires
-    entries-requires
-    cast-ranges
-    ranges-requires
+    page1-ok-requires
     same-length
     returns-2
     tally-requires
@@ -320,24 +349,29 @@ judge-spec =
     same-length-4
     same-length-5
     returns-3
-    first-joinable-requires
     same-length-6
     same-length-7
     same-length-8
     same-length-9
-    same-length-10
     returns-4
-    deepest-requires
-    cast-if5
+    first-joinable-requires
+    same-length-10
     same-length-11
     same-length-12
     same-length-13
     same-length-14
-    same-length-15
     returns-5
+    deepest-requires
+    cast-if6
+    same-length-15
     same-length-16
     same-length-17
     same-length-18
     same-length-19
+    returns-6
     same-length-20
-    returns-6)
+    same-length-21
+    same-length-22
+    same-length-23
+    same-length-24
+    returns-7)

@@ -1,5 +1,6 @@
 -- `store_check::judge_1024` meets its contract. Assumes nothing.
 use borrow.Author.Needs.{needs}
+use mathlib.Core.Path.{refl}
 use Rattle.partition.specs.Partition.{S1024}
 use Rattle.store.specs.Demands.{sized-1024}
 use Rattle.store_check.proofs.Said.{fresh}
@@ -22,7 +23,7 @@ slice-aggregate-judge-5 : tie.Need-slice-aggregate-judge-5
 slice-aggregate-judge-5 c = search needs
 
 judge-requires : tie.Need-judge-requires
-judge-requires c κs = fresh S1024 _ _ sized-1024 (c .before .before .before .before .before .before .pre)
+judge-requires c κs = fresh S1024 _ _ sized-1024 refl (c .before .before .before .before .before .before .pre)
 
 returns : tie.Need-returns
 returns c = search needs

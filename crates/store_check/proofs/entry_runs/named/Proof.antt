@@ -30,11 +30,11 @@ module _ (c : tie.After-run-of) where
   All = AllAre dir (c .run-of .result .from) (c .run-of .result .to) (start .args .p)
 
   to-right : All → getD counts (start .args .p) 0 ≡ c .run-of .result .to - c .run-of .result .from → Right
-  to-right = run-named dir (start .args .d) (start .args .p) (start .pre .3) (start .pre .5) _ counts (start .pre .6) (start .pre .4) (start .pre .0)
+  to-right = run-named dir (start .args .d) (start .args .p) (start .pre .from) (start .pre .beyond) _ counts (start .pre .counted) (start .pre .to) (start .pre .inside)
       (start .args .k) (top (start .args .k) (start .args .x)) _ _ (c .run-of .ensures .0) (c .run-of .ensures .1) (c .run-of .ensures .2) (c .run-of .ensures .3)
 
   of-right : Right → All × (getD counts (start .args .p) 0 ≡ c .run-of .result .to - c .run-of .result .from)
-  of-right = named-run dir (start .args .d) (start .args .p) (start .pre .3) (start .pre .5) _ counts (start .pre .6) (start .pre .4) (start .pre .0)
+  of-right = named-run dir (start .args .d) (start .args .p) (start .pre .from) (start .pre .beyond) _ counts (start .pre .counted) (start .pre .to) (start .pre .inside)
       (start .args .k) (top (start .args .k) (start .args .x)) _ _ (c .run-of .ensures .0) (c .run-of .ensures .1) (c .run-of .ensures .2) (c .run-of .ensures .3)
 
 run-of-requires : tie.Need-run-of-requires
@@ -44,7 +44,7 @@ mul-if1 : tie.Need-mul-if1
 mul-if1 c = search needs
 
 shared-slice-read-if1 : tie.Need-shared-slice-read-if1
-shared-slice-read-if1 c = omega (arith, start (c .before) .pre .4)
+shared-slice-read-if1 c = omega (arith, start (c .before) .pre .to)
 
 cast-if1 : tie.Need-cast-if1
 cast-if1 c = record { fits = omega (arith, c .shared-slice-known3 .given (start (c .before) .args .p)) }
@@ -58,7 +58,7 @@ returns c = λ n. let e = of-right (c .before .before .before) n .1 in omega (ar
 all-are-requires : tie.Need-all-are-requires
 all-are-requires c κs =
     let b = c .before .before .before in
-    (b .run-of .ensures .2, omega (arith, b .run-of .ensures .3, start b .pre .0))
+    (b .run-of .ensures .2, omega (arith, b .run-of .ensures .3, start b .pre .inside))
 
 returns-2 : tie.Need-returns-2
 returns-2 c =

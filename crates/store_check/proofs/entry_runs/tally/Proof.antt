@@ -24,13 +24,13 @@ module _ (c : tie.In-loop Inv-loop μ-loop) where
   at = c .before .loop .i
 
   named : getD dir at 0 < length (c .before .before .args .counts .now)
-  named = c .before .before .pre .2 at (omega arith) (c .loop-test .taken)
+  named = c .before .before .pre .below at (omega arith) (c .loop-test .taken)
 
   few : getD (c .before .loop .counts) (getD dir at 0) 0 ≤ at
   few = omega (arith, c .before .loop .inv .1 .each (getD dir at 0) named, heap-most (λ i. getD dir i 0) (λ i. 1) at 1 (λ i _. omega arith) (getD dir at 0))
 
 loop-holds : tie.Need-loop-holds Inv-loop μ-loop
-loop-holds c = (omega arith, heaped-none (λ i. getD (c .args .dir .now) i 0) (λ i. 1) _ _ refl (c .pre .3))
+loop-holds c = (omega arith, heaped-none (λ i. getD (c .args .dir .now) i 0) (λ i. 1) _ _ refl (c .pre .none))
 
 mul-e : tie.Need-mul-e Inv-loop μ-loop
 mul-e c = omega arith
@@ -48,7 +48,7 @@ slice-read-counts : tie.Need-slice-read-counts Inv-loop μ-loop
 slice-read-counts c = omega (arith, named (c .before .before), c .before .before .before .loop .inv .1 .long)
 
 add-counts : tie.Need-add-counts Inv-loop μ-loop
-add-counts c = record { fits = omega (arith, few (c .before .before), c .before .before .before .loop .inv .0, c .before .before .before .before .pre .1) }
+add-counts c = record { fits = omega (arith, few (c .before .before), c .before .before .before .loop .inv .0, c .before .before .before .before .pre .few) }
 
 mul-counts-2 : tie.Need-mul-counts-2 Inv-loop μ-loop
 mul-counts-2 c = record { fits = omega (arith, named (c .before .before)) }

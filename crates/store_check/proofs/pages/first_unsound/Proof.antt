@@ -4,31 +4,33 @@ use borrow.Author.Tests.{not-true, not-false}
 use borrow.Author.Needs.{needs}
 use mathlib.Core.Path.{_≡_, refl, sym, ap, subst, _∙_}
 use mathlib.Core.List.{List}
+use mathlib.Core.Logic.{⊎-elim}
 use Prim.Native.Nat.{ℕ, _+_, _-_, _*_, _^_, _≤_, _<_}
 use native.Mathlib.Omega.{arith}
 use lib.Bits.{bitXor}
-use lib.ListN.{length, set, take, drop}
+use lib.ListN.{length, getD, set, take, drop}
+use lib.Seq.{getD-set-other}
 use Rattle.ground.specs.Lists.{byte}
 use Rattle.ground.specs.Says.{Says}
+use Rattle.ground.proofs.Sides.{side}
 use Rattle.ground.proofs.Tests.{says-true, says-false, says-same}
 use Rattle.words.specs.Zeros.{Zero}
 use Rattle.hash.specs.Fnv.{fnv}
 use Rattle.partition.specs.Bits.{top}
 use Rattle.page.specs.Page.{depth, code, count}
-use Rattle.page_check.specs.Shared.{SlotOk}
 use Rattle.page_check.proofs.Prefixes.{near}
 use Rattle.store.specs.Accepted.{Stands}
 use Rattle.partition.specs.declared.Shape.{Shape}
 use Rattle.partition.proofs.Sizes.{twelve}
-use Rattle.store.specs.Pages.{size, page}
+use Rattle.store.specs.Pages.{size, pages, page}
 use Rattle.store.proofs.Accepted.Unique.{within, page-long}
 use Rattle.store.proofs.Paging.Views.{page-lent}
-use Rattle.store_check.specs.First.{FirstBad}
+use Rattle.store_check.specs.First.{FirstFrom, FirstBad}
 use Rattle.store_check.specs.Directory.{Counted, Named}
 use Rattle.store_check.specs.Begun.{FreeAndUnnamed, Own}
 use Rattle.store_check.specs.Digest.{Hashed, firstOf}
 use Rattle.store_check.proofs.Naming.{room}
-use Rattle.store_check.proofs.Parting.{hashed-none, hashed-more, hashed-all, first-free, first-used}
+use Rattle.store_check.proofs.Parting.{hashed-none, hashed-more, hashed-free, hashed-all, first-used}
 use Rattle.store_check.proofs.Standing.{prefixOf, ends-bad, ends-fine, Like, free-stands, used-stands, stands-free, stands-own, stands-like, stands-named}
 use Rattle.store_check.proofs.pages.first_unsound.Statement.{statement}
 use Rattle.store_check.proofs.pages.first_unsound.Tie as tie
@@ -40,7 +42,7 @@ abbrev μ-slots : tie.MeasureT-slots
 μ-slots s z dir counts n d tab hashes p size a pg k m first count i₀ i = count - i
 
 abbrev Inv-pages : tie.InvT-pages
-Inv-pages s z dir counts n d tab₀ hashes₀ p₀ tab hashes p = (length tab ≡ size z) × Zero tab × (2 ≤ p) × (p ≤ n) × ((q : ℕ) → q < p → 2 ≤ q → Stands z fnv s q) × Hashed z s p hashes
+Inv-pages s z dir counts n d tab₀ hashes₀ p₀ tab hashes p = (length tab ≡ size z) × Zero tab × (2 ≤ p) × (p ≤ n) × ((q : ℕ) → q < p → 2 ≤ q → Stands z fnv s q) × Hashed z s p hashes × ((q : ℕ) → p ≤ q → getD hashes q 0 ≡ 0)
 
 abbrev μ-pages : tie.MeasureT-pages
 μ-pages s z dir counts n d tab₀ hashes₀ p₀ tab hashes p = n - p
@@ -78,22 +80,22 @@ module _ (c : tie.Else1 Inv-slots μ-slots Inv-pages μ-pages) where
   lent = page-lent S store p-of
 
   lies : p-of * size S + size S ≤ length store
-  lies = within S store p-of (omega (arith, start .pre .0 .number, c .if1 .left))
+  lies = within S store p-of (omega (arith, start .pre .begun .number, c .if1 .left))
 
   long : length pg-of ≡ size S
-  long = ap length lent ∙ page-long S store p-of (omega (arith, start .pre .0 .number, c .if1 .left))
+  long = ap length lent ∙ page-long S store p-of (omega (arith, start .pre .begun .number, c .if1 .left))
 
   in-range : p-of < S .entries + 2
-  in-range = omega (arith, c .if1 .left, start .pre .0 .most)
+  in-range = omega (arith, c .if1 .left, start .pre .begun .most)
 
   few : S .deepest ≤ 12
-  few = twelve S (start .pre .0 .sized)
+  few = twelve S (start .pre .begun .sized)
 
   few-entries : S .entries ≤ 4096
-  few-entries = omega (arith, start .pre .0 .sized .whole, start .pre .0 .sized .most)
+  few-entries = omega (arith, start .pre .begun .sized .whole, start .pre .begun .sized .most)
 
   fits : 2 ^ deep ≤ length dir-of
-  fits = omega (arith, room S (start .pre .0 .sized) deep (start .pre .0 .deep), start .pre .0 .entries .long)
+  fits = omega (arith, room S (start .pre .begun .sized) deep (start .pre .begun .deep), start .pre .begun .entries .long)
 
   -- it breaks its rule
   ends : (Stands S fnv store p-of → ⊥) → FirstBad (start .args .n) (Stands S fnv store) p-of
@@ -106,24 +108,28 @@ module _ (c : tie.Else1 Inv-slots μ-slots Inv-pages μ-pages) where
   keeps : {x : ℕ} → x ≡ firstOf pg-of → Hashed S store (p-of + 1) (set (turn .pages .hashes) p-of x)
   keeps e = hashed-more S store (turn .pages .inv .5) (turn .pages .inv .2) in-range (e ∙ ap firstOf lent)
 
-  fine-free : FreeAndUnnamed pg-of counts-of p-of → Stands S fnv store p-of
-  fine-free = free-stands S store dir-of counts-of (start .args .n) deep p-of (start .pre .0) (start .pre .1) (turn .pages .inv .2) (c .if1 .left) pg-of lent
-
   fine-used : Own pg-of deep → ((i : ℕ) → i < count pg-of → Like pg-of i) → Named dir-of deep (depth pg-of) (prefixOf pg-of) p-of → Stands S fnv store p-of
-  fine-used = used-stands S store dir-of counts-of (start .args .n) deep p-of (start .pre .0) (start .pre .1) (turn .pages .inv .2) (c .if1 .left) pg-of lent
+  fine-used = used-stands S store dir-of counts-of (start .args .n) deep p-of (start .pre .begun) (start .pre .counted) (turn .pages .inv .2) (c .if1 .left) pg-of lent
+
+  -- so do the free pages from it up to q
+  skips : {q : ℕ} → FirstFrom p-of (pages S store) (λ k. FreeAndUnnamed (page S store k) counts-of k) q → (k : ℕ) → k < q → 2 ≤ k → Stands S fnv store k
+  skips f k l m = ⊎-elim
+      (λ lt. turn .pages .inv .4 k lt m)
+      (λ ge. free-stands S store dir-of counts-of (start .args .n) deep k (start .pre .begun) (start .pre .counted) m (omega (arith, f .within, start .pre .begun .number)) (page S store k) refl (f .before k l ge))
+      (side k p-of)
 
   free-of : byte pg-of 0 ≡ 0 → Stands S fnv store p-of → FreeAndUnnamed pg-of counts-of p-of
-  free-of = stands-free S store dir-of counts-of (start .args .n) deep p-of (start .pre .0) (start .pre .1) (turn .pages .inv .2) (c .if1 .left) pg-of lent
+  free-of = stands-free S store dir-of counts-of (start .args .n) deep p-of (start .pre .begun) (start .pre .counted) (turn .pages .inv .2) (c .if1 .left) pg-of lent
 
   module _ (nz : byte pg-of 0 ≡ 0 → ⊥) where
     own-of : Stands S fnv store p-of → Own pg-of deep
-    own-of = stands-own S store dir-of counts-of (start .args .n) deep p-of (start .pre .0) (start .pre .1) (turn .pages .inv .2) (c .if1 .left) pg-of lent nz
+    own-of = stands-own S store dir-of counts-of (start .args .n) deep p-of (start .pre .begun) (start .pre .counted) (turn .pages .inv .2) (c .if1 .left) pg-of lent nz
 
     like-of : Stands S fnv store p-of → (i : ℕ) → i < count pg-of → Like pg-of i
-    like-of = stands-like S store dir-of counts-of (start .args .n) deep p-of (start .pre .0) (start .pre .1) (turn .pages .inv .2) (c .if1 .left) pg-of lent nz
+    like-of = stands-like S store dir-of counts-of (start .args .n) deep p-of (start .pre .begun) (start .pre .counted) (turn .pages .inv .2) (c .if1 .left) pg-of lent nz
 
     named-of : Stands S fnv store p-of → Named dir-of deep (depth pg-of) (prefixOf pg-of) p-of
-    named-of = stands-named S store dir-of counts-of (start .args .n) deep p-of (start .pre .0) (start .pre .1) (turn .pages .inv .2) (c .if1 .left) pg-of lent nz
+    named-of = stands-named S store dir-of counts-of (start .args .n) deep p-of (start .pre .begun) (start .pre .counted) (turn .pages .inv .2) (c .if1 .left) pg-of lent nz
 
 -- past the page's own rules
 abbrev Past : Type 0
@@ -136,18 +142,18 @@ own : (c : Past) → Own (pg-of (at c)) (deep (at c))
 own c = says-true {P = Own (pg-of (at c)) (deep (at c))} (c .before .before .before .own-ok .result) (not-false _ (c .if4 .left)) (c .before .before .before .own-ok .ensures .0)
 
 -- what the test of slot i says
-slot-said : (c : tie.After-slot-ok Inv-slots μ-slots Inv-pages μ-pages) → let g = pg-of (at (c .before .before .before .before .before .before .before)) in Says (c .slot-ok .result) (Like g (c .before .before .slots .i))
+slot-said : (c : tie.After-differ-below Inv-slots μ-slots Inv-pages μ-pages) → let g = pg-of (at (c .before .before .before .before .before .before .before .before)) in Says (c .differ-below .result) (Like g (c .before .before .before .slots .i))
 slot-said c =
-    let x = c .before .before .before .before .before .before .before in
+    let x = c .before .before .before .before .before .before .before .before in
     let g = pg-of (at x) in
     let k = depth g in
-    let i = c .before .before .slots .i in
-    let one = c .before .before .before .before .hash-slot in
-    let m = c .before .before .before .before .before .limit in
-    let n = near k (omega (arith, own x .deep, start (at x) .pre .0 .deep, few (at x))) (one .result) (fnv (code g i)) in
-    says-same {P = SlotOk g i (one .result) (m .result)} {Q = Like g i} (c .slot-ok .result) (c .slot-ok .ensures)
-    (λ o. record { folded = o .folded; share = ap (top k) (sym (one .ensures)) ∙ n .0 (subst (λ v. bitXor (one .result) (fnv (code g i)) < v) (m .ensures) (o .near)) })
-    (λ l. record { folded = l .folded; near = subst (λ v. bitXor (one .result) (fnv (code g i)) < v) (sym (m .ensures)) (n .1 (ap (top k) (one .ensures) ∙ l .share)) })
+    let one = c .before .before .before .before .before .hash-slot in
+    let two = c .before .hash-slot2 in
+    let m = c .before .before .before .before .before .before .limit in
+    let n = near k (omega (arith, own x .deep, start (at x) .pre .begun .deep, few (at x))) (one .result) (two .result) in
+    says-same {P = bitXor (one .result) (two .result) < m .result} {Q = Like g (c .before .before .before .slots .i)} (c .differ-below .result) (c .differ-below .ensures)
+    (λ h. ap (top k) (sym (one .ensures)) ∙ n .0 (subst (λ v. bitXor (one .result) (two .result) < v) (m .ensures) h) ∙ ap (top k) (two .ensures))
+    (λ h. subst (λ v. bitXor (one .result) (two .result) < v) (sym (m .ensures)) (n .1 (ap (top k) (one .ensures) ∙ h ∙ sym (ap (top k) (two .ensures)))))
 
 -- and what that of the entries says
 name-said : (c : tie.After-named Inv-slots μ-slots Inv-pages μ-pages) → let x = at (c .before .before .before .before .before .before .before) in Says (c .named .result) (Named (dir-of x) (deep x) (depth (pg-of x)) (prefixOf (pg-of x)) (p-of x))
@@ -156,7 +162,7 @@ name-said c =
     subst (λ y. Says (c .named .result) (Named (dir-of x) (deep x) (depth (pg-of x)) (top (depth (pg-of x)) y) (p-of x))) (c .before .before .before .before .hash-slot .ensures) (c .named .ensures)
 
 pages-holds : tie.Need-pages-holds Inv-slots μ-slots Inv-pages μ-pages
-pages-holds c = let a = c .before .before .before .before .before in (a .pre .2, a .pre .3, omega arith, omega (arith, a .pre .0 .least), (λ q l h. absurd (omega arith)), hashed-none _ _ _ (a .pre .4))
+pages-holds c = let a = c .before .before .before .before .before in (a .pre .tab-long, a .pre .no-tab, omega arith, omega (arith, a .pre .begun .least), (λ q l h. absurd (omega arith)), hashed-none _ _ _ (a .pre .hashes-long), λ q _. a .pre .no-hashes q)
 
 add-size : tie.Need-add-size Inv-slots μ-slots Inv-pages μ-pages
 add-size c = omega (arith, lies (c .before))
@@ -179,31 +185,26 @@ part-pg-end c = omega (arith, lies (c .before))
 shared-slice-read-if2 : tie.Need-shared-slice-read-if2 Inv-slots μ-slots Inv-pages μ-pages
 shared-slice-read-if2 c = omega (arith, long (c .before .before .before))
 
-free-ok-requires : tie.Need-free-ok-requires Inv-slots μ-slots Inv-pages μ-pages
-free-ok-requires c κs = let x = c .before .before .before .before in omega (arith, in-range x, start x .pre .1 .long)
-
-mul-hashes : tie.Need-mul-hashes Inv-slots μ-slots Inv-pages μ-pages
-mul-hashes c = search needs
-
-slice-write-hashes : tie.Need-slice-write-hashes Inv-slots μ-slots Inv-pages μ-pages
-slice-write-hashes c = let x = c .before .before .before .before .before .before in omega (arith, in-range x, turn x .pages .inv .5 .long)
-
-add-p : tie.Need-add-p Inv-slots μ-slots Inv-pages μ-pages
-add-p c = search needs
+skip-free-requires : tie.Need-skip-free-requires Inv-slots μ-slots Inv-pages μ-pages
+skip-free-requires c κs =
+    let x = c .before .before .before .before in
+    record { blocks = start x .pre .blocks; here = omega (arith, start x .pre .begun .number, x .if1 .left); enough = omega (arith, start x .pre .begun .number, start x .pre .begun .most, start x .pre .counted .long) }
 
 pages-less : tie.Need-pages-less Inv-slots μ-slots Inv-pages μ-pages
-pages-less c = search needs
+pages-less c = omega (arith, c .before .skip-free .ensures .within, start (c .before .before .before .before .before .before) .pre .begun .number)
 
 pages-again : tie.Need-pages-again Inv-slots μ-slots Inv-pages μ-pages
 pages-again c =
     let x = c .before .before .before .before .before .before in
-    let l = turn x .pages in (
+    let l = turn x .pages in
+    let f = c .before .skip-free .ensures in (
       l .inv .0,
       l .inv .1,
-      omega arith,
-      omega arith,
-      goes x (fine-free x (says-true {P = FreeAndUnnamed (pg-of x) (counts-of x) (p-of x)} (c .before .free-ok .result) (not-false _ (c .if3 .left)) (c .before .free-ok .ensures))),
-      keeps x (omega (arith, first-free (pg-of x) (c .before .before .if2 .taken))),
+      omega (arith, f .start),
+      omega (arith, f .within, start x .pre .begun .number),
+      skips x f,
+      hashed-free (S x) (store x) (l .inv .5) (l .inv .6) (λ k m a. f .before k m a .zero),
+      λ q m. l .inv .6 q (omega (arith, f .start)),
     )
 
 own-ok-requires : tie.Need-own-ok-requires Inv-slots μ-slots Inv-pages μ-pages
@@ -215,7 +216,7 @@ shared-slice-read-k c = omega (arith, long (at (c .before)))
 limit-requires : tie.Need-limit-requires Inv-slots μ-slots Inv-pages μ-pages
 limit-requires c κs =
     let x = c .before in
-    omega (arith, own x .deep, start (at x) .pre .0 .deep, few (at x))
+    omega (arith, own x .deep, start (at x) .pre .begun .deep, few (at x))
 
 hash-slot-requires : tie.Need-hash-slot-requires Inv-slots μ-slots Inv-pages μ-pages
 hash-slot-requires c κs = (own (c .before .before) .rules, own (c .before .before) .rules .some)
@@ -224,10 +225,13 @@ get16-requires : tie.Need-get16-requires Inv-slots μ-slots Inv-pages μ-pages
 get16-requires c κs = omega (arith, long (at (c .before .before .before)))
 
 slots-holds : tie.Need-slots-holds Inv-slots μ-slots Inv-pages μ-pages
-slots-holds c = (omega arith, omega (arith, own (c .before .before .before .before) .rules .some, c .get16 .ensures .0), λ j h. let e : j ≡ 0 = omega arith in rw e (record { folded = own (c .before .before .before .before) .folded; share = refl }))
+slots-holds c = (omega arith, omega (arith, own (c .before .before .before .before) .rules .some, c .get16 .ensures .0), λ j h. let e : j ≡ 0 = omega arith in rw e refl)
 
-slot-ok-requires : tie.Need-slot-ok-requires Inv-slots μ-slots Inv-pages μ-pages
-slot-ok-requires c κs = (own (c .before .before .before .before .before .before) .rules, omega (arith, c .before .before .get16 .ensures .0))
+hash-slot-requires-2 : tie.Need-hash-slot-requires-2 Inv-slots μ-slots Inv-pages μ-pages
+hash-slot-requires-2 c κs = (own (c .before .before .before .before .before .before) .rules, omega (arith, c .before .before .get16 .ensures .0))
+
+differ-below-requires : tie.Need-differ-below-requires Inv-slots μ-slots Inv-pages μ-pages
+differ-below-requires c κs = search needs
 
 add-i : tie.Need-add-i Inv-slots μ-slots Inv-pages μ-pages
 add-i c = search needs
@@ -237,17 +241,17 @@ slots-less c = search needs
 
 slots-again : tie.Need-slots-again Inv-slots μ-slots Inv-pages μ-pages
 slots-again c =
-    let x = c .before .before .before .before .before .before .before .before in (
+    let x = c .before .before .before .before .before .before .before .before .before in (
       omega arith,
       omega arith,
-      below-more (Like (pg-of (at x))) _ (c .before .before .before .slots .inv .2)
-          (says-true {P = Like (pg-of (at x)) (c .before .before .before .slots .i)} (c .before .slot-ok .result) (not-false _ (c .if5 .left)) (slot-said (c .before))),
+      below-more (Like (pg-of (at x))) _ (c .before .before .before .before .slots .inv .2)
+          (says-true {P = Like (pg-of (at x)) (c .before .before .before .before .slots .i)} (c .before .differ-below .result) (not-false _ (c .if5 .left)) (slot-said (c .before))),
     )
 
 cast-named : tie.Need-cast-named Inv-slots μ-slots Inv-pages μ-pages
 cast-named c =
     let x = c .before .before .before .before .before .before in
-    record { fits = omega (arith, own x .deep, start (at x) .pre .0 .deep, few (at x)) }
+    record { fits = omega (arith, own x .deep, start (at x) .pre .begun .deep, few (at x)) }
 
 cast-named-2 : tie.Need-cast-named-2 Inv-slots μ-slots Inv-pages μ-pages
 cast-named-2 c = let x = at (c .before .before .before .before .before .before) in record { fits = omega (arith, in-range x, few-entries x) }
@@ -256,17 +260,25 @@ named-requires : tie.Need-named-requires Inv-slots μ-slots Inv-pages μ-pages
 named-requires c κs =
     let x = c .before .before .before .before .before .before in
     let a = start (at x) in
-    let b = a .pre .0 in
-    (fits (at x), omega (arith, b .deep, few (at x)), own x .deep, turn (at x) .pages .inv .2, omega (arith, in-range (at x), a .pre .1 .long), b .beyond, subst (λ m. Counted (dir-of (at x)) (2 ^ deep (at x)) m (counts-of (at x))) (sym (a .pre .1 .long)) (a .pre .1))
+    let b = a .pre .begun in
+    record {
+      inside = fits (at x);
+      few = omega (arith, b .deep, few (at x));
+      depth = own x .deep;
+      from = turn (at x) .pages .inv .2;
+      to = omega (arith, in-range (at x), a .pre .counted .long);
+      beyond = b .beyond;
+      counted = subst (λ m. Counted (dir-of (at x)) (2 ^ deep (at x)) m (counts-of (at x))) (sym (a .pre .counted .long)) (a .pre .counted);
+    }
 
-mul-hashes-2 : tie.Need-mul-hashes-2 Inv-slots μ-slots Inv-pages μ-pages
-mul-hashes-2 c = search needs
+mul-hashes : tie.Need-mul-hashes Inv-slots μ-slots Inv-pages μ-pages
+mul-hashes c = search needs
 
-slice-write-hashes-2 : tie.Need-slice-write-hashes-2 Inv-slots μ-slots Inv-pages μ-pages
-slice-write-hashes-2 c = let x = at (c .before .before .before .before .before .before .before .before) in omega (arith, in-range x, turn x .pages .inv .5 .long)
+slice-write-hashes : tie.Need-slice-write-hashes Inv-slots μ-slots Inv-pages μ-pages
+slice-write-hashes c = let x = at (c .before .before .before .before .before .before .before .before) in omega (arith, in-range x, turn x .pages .inv .5 .long)
 
-add-p-2 : tie.Need-add-p-2 Inv-slots μ-slots Inv-pages μ-pages
-add-p-2 c = search needs
+add-p : tie.Need-add-p Inv-slots μ-slots Inv-pages μ-pages
+add-p c = search needs
 
 pages-less-2 : tie.Need-pages-less-2 Inv-slots μ-slots Inv-pages μ-pages
 pages-less-2 c = search needs
@@ -284,33 +296,36 @@ pages-again-2 c =
           (λ i m. c .before .before .before .slots .inv .2 i (omega (arith, c .before .before .slots-test .left, c .before .before .before .before .get16 .ensures .0)))
           (says-true {P = Named (dir-of x) (deep x) (depth (pg-of x)) (prefixOf (pg-of x)) (p-of x)} (c .before .named .result) (not-false _ (c .if6 .left)) (name-said (c .before)))),
       keeps x (omega (arith, c .before .before .before .before .before .hash-slot .ensures, first-used (pg-of x) (y .before .before .before .before .before .if2 .left))),
+      (λ q m. getD-set-other (l .hashes) (p-of x) q _ 0 (λ e. omega arith) ∙ l .inv .6 q (omega arith)),
     )
 
 same-length : tie.Need-same-length Inv-slots μ-slots Inv-pages μ-pages
-same-length c = let t = c .before in t .pages .inv .0 ∙ sym (t .before .before .before .before .before .before .pre .2)
+same-length c = let t = c .before in t .pages .inv .0 ∙ sym (t .before .before .before .before .before .before .pre .tab-long)
 
 same-length-2 : tie.Need-same-length-2 Inv-slots μ-slots Inv-pages μ-pages
-same-length-2 c = let t = c .before in t .pages .inv .5 .long ∙ sym (t .before .before .before .before .before .before .pre .4)
+same-length-2 c = let t = c .before in t .pages .inv .5 .long ∙ sym (t .before .before .before .before .before .before .pre .hashes-long)
 
 returns : tie.Need-returns Inv-slots μ-slots Inv-pages μ-pages
 returns c = let l = c .before .pages in (ends-fine _ _ (l .p) (l .inv .2) (l .inv .3) (c .if1 .taken) (l .inv .4), hashed-all _ _ _ _ (l .p) (l .inv .5) (c .if1 .taken))
 
 same-length-3 : tie.Need-same-length-3 Inv-slots μ-slots Inv-pages μ-pages
-same-length-3 c = let t = turn (c .before .before .before .before .before .before) in t .pages .inv .0 ∙ sym (t .before .before .before .before .before .before .pre .2)
+same-length-3 c = let t = turn (c .before .before .before .before .before .before) in t .pages .inv .0 ∙ sym (t .before .before .before .before .before .before .pre .tab-long)
 
 same-length-4 : tie.Need-same-length-4 Inv-slots μ-slots Inv-pages μ-pages
-same-length-4 c = let t = turn (c .before .before .before .before .before .before) in t .pages .inv .5 .long ∙ sym (t .before .before .before .before .before .before .pre .4)
+same-length-4 c = let t = turn (c .before .before .before .before .before .before) in t .pages .inv .5 .long ∙ sym (t .before .before .before .before .before .before .pre .hashes-long)
 
 returns-2 : tie.Need-returns-2 Inv-slots μ-slots Inv-pages μ-pages
 returns-2 c =
     let x = c .before .before .before .before .before .before in
-    (ends x (λ st. says-false {P = FreeAndUnnamed (pg-of x) (counts-of x) (p-of x)} (c .before .free-ok .result) (not-true _ (c .if3 .taken)) (c .before .free-ok .ensures) (free-of x (c .before .before .if2 .taken) st)), turn x .pages .inv .5)
+    let f = c .before .skip-free .ensures in
+    let same : c .before .skip-free .result ≡ p-of x = omega (arith, f .start, c .if3 .taken) in
+    (ends x (λ st. f .bad (omega (arith, x .if1 .left, start x .pre .begun .number)) (subst (λ k. FreeAndUnnamed (page (S x) (store x) k) (counts-of x) k) (sym same) (subst (λ g. FreeAndUnnamed g (counts-of x) (p-of x)) (lent x) (free-of x (c .before .before .if2 .taken) st)))), turn x .pages .inv .5)
 
 same-length-5 : tie.Need-same-length-5 Inv-slots μ-slots Inv-pages μ-pages
-same-length-5 c = let t = turn (c .before .before .before .before .before .before .before .before .before) in c .before .before .before .own-ok .kept .1 .0 ∙ t .pages .inv .0 ∙ sym (t .before .before .before .before .before .before .pre .2)
+same-length-5 c = let t = turn (c .before .before .before .before .before .before .before .before .before) in c .before .before .before .own-ok .kept .1 .0 ∙ t .pages .inv .0 ∙ sym (t .before .before .before .before .before .before .pre .tab-long)
 
 same-length-6 : tie.Need-same-length-6 Inv-slots μ-slots Inv-pages μ-pages
-same-length-6 c = let t = turn (c .before .before .before .before .before .before .before .before .before) in t .pages .inv .5 .long ∙ sym (t .before .before .before .before .before .before .pre .4)
+same-length-6 c = let t = turn (c .before .before .before .before .before .before .before .before .before) in t .pages .inv .5 .long ∙ sym (t .before .before .before .before .before .before .pre .hashes-long)
 
 returns-3 : tie.Need-returns-3 Inv-slots μ-slots Inv-pages μ-pages
 returns-3 c =
@@ -318,26 +333,26 @@ returns-3 c =
     (ends x (λ st. says-false {P = Own (pg-of x) (deep x)} (c .before .before .before .own-ok .result) (not-true _ (c .if4 .taken)) (c .before .before .before .own-ok .ensures .0) (own-of x (c .before .before .before .before .before .if2 .left) st)), turn x .pages .inv .5)
 
 same-length-7 : tie.Need-same-length-7 Inv-slots μ-slots Inv-pages μ-pages
-same-length-7 c = let t = turn (at (c .before .before .before .before .before .before .before .before)) in c .before .before .before .before .before .before .before .before .before .before .before .own-ok .kept .1 .0 ∙ t .pages .inv .0 ∙ sym (t .before .before .before .before .before .before .pre .2)
+same-length-7 c = let t = turn (at (c .before .before .before .before .before .before .before .before .before)) in c .before .before .before .before .before .before .before .before .before .before .before .before .own-ok .kept .1 .0 ∙ t .pages .inv .0 ∙ sym (t .before .before .before .before .before .before .pre .tab-long)
 
 same-length-8 : tie.Need-same-length-8 Inv-slots μ-slots Inv-pages μ-pages
-same-length-8 c = let t = turn (at (c .before .before .before .before .before .before .before .before)) in t .pages .inv .5 .long ∙ sym (t .before .before .before .before .before .before .pre .4)
+same-length-8 c = let t = turn (at (c .before .before .before .before .before .before .before .before .before)) in t .pages .inv .5 .long ∙ sym (t .before .before .before .before .before .before .pre .hashes-long)
 
 returns-4 : tie.Need-returns-4 Inv-slots μ-slots Inv-pages μ-pages
 returns-4 c =
-    let y = c .before .before .before .before .before .before .before .before in
+    let y = c .before .before .before .before .before .before .before .before .before in
     let x = at y in
-    let i = c .before .before .before .slots .i in (
-      ends x (λ st. says-false {P = Like (pg-of x) i} (c .before .slot-ok .result) (not-true _ (c .if5 .taken)) (slot-said (c .before))
-          (like-of x (y .before .before .before .before .before .if2 .left) st i (omega (arith, c .before .before .before .before .get16 .ensures .0)))),
+    let i = c .before .before .before .before .slots .i in (
+      ends x (λ st. says-false {P = Like (pg-of x) i} (c .before .differ-below .result) (not-true _ (c .if5 .taken)) (slot-said (c .before))
+          (like-of x (y .before .before .before .before .before .if2 .left) st i (omega (arith, c .before .before .before .before .before .get16 .ensures .0)))),
       turn x .pages .inv .5,
     )
 
 same-length-9 : tie.Need-same-length-9 Inv-slots μ-slots Inv-pages μ-pages
-same-length-9 c = let t = turn (at (c .before .before .before .before .before .before .before .before)) in c .before .before .before .before .before .before .before .before .before .before .before .own-ok .kept .1 .0 ∙ t .pages .inv .0 ∙ sym (t .before .before .before .before .before .before .pre .2)
+same-length-9 c = let t = turn (at (c .before .before .before .before .before .before .before .before)) in c .before .before .before .before .before .before .before .before .before .before .before .own-ok .kept .1 .0 ∙ t .pages .inv .0 ∙ sym (t .before .before .before .before .before .before .pre .tab-long)
 
 same-length-10 : tie.Need-same-length-10 Inv-slots μ-slots Inv-pages μ-pages
-same-length-10 c = let t = turn (at (c .before .before .before .before .before .before .before .before)) in t .pages .inv .5 .long ∙ sym (t .before .before .before .before .before .before .pre .4)
+same-length-10 c = let t = turn (at (c .before .before .before .before .before .before .before .before)) in t .pages .inv .5 .long ∙ sym (t .before .before .before .before .before .before .pre .hashes-long)
 
 returns-5 : tie.Need-returns-5 Inv-slots μ-slots Inv-pages μ-pages
 returns-5 c =
@@ -364,10 +379,7 @@ first-unsound-spec =
     part-pg-start
     part-pg-end
     shared-slice-read-if2
-    free-ok-requires
-    mul-hashes
-    slice-write-hashes
-    add-p
+    skip-free-requires
     pages-less
     pages-again
     own-ok-requires
@@ -376,16 +388,17 @@ first-unsound-spec =
     hash-slot-requires
     get16-requires
     slots-holds
-    slot-ok-requires
+    hash-slot-requires-2
+    differ-below-requires
     add-i
     slots-less
     slots-again
     cast-named
     cast-named-2
     named-requires
-    mul-hashes-2
-    slice-write-hashes-2
-    add-p-2
+    mul-hashes
+    slice-write-hashes
+    add-p
     pages-less-2
     pages-again-2
     same-length

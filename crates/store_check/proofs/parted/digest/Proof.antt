@@ -38,10 +38,10 @@ module _ (c : tie.In-loop Inv-loop μ-loop) where
   store = start .args .s .now
 
   lies : p-of * size S + size S ≤ length store
-  lies = within S store p-of (omega (arith, start .pre .0 .number, c .loop-test .taken))
+  lies = within S store p-of (omega (arith, start .pre .stand .number, c .loop-test .taken))
 
   few : S .entries ≤ 4096
-  few = omega (arith, start .pre .0 .sized .whole, start .pre .0 .sized .most)
+  few = omega (arith, start .pre .stand .sized .whole, start .pre .stand .sized .most)
 
 -- its cell
 module _ (c : tie.After-top-bits Inv-loop μ-loop) where
@@ -52,10 +52,10 @@ module _ (c : tie.After-top-bits Inv-loop μ-loop) where
   cells-of = turn .before .loop .inv .2
 
   cell-is : c .top-bits .result ≡ top (S turn .deepest) (firstOf (page (S turn) (store turn) (p-of turn)))
-  cell-is = c .top-bits .ensures ∙ ap (top (S turn .deepest)) (start turn .pre .1 .each (p-of turn) (turn .before .loop .inv .0) (turn .loop-test .taken))
+  cell-is = c .top-bits .ensures ∙ ap (top (S turn .deepest)) (start turn .pre .hashed .each (p-of turn) (turn .before .loop .inv .0) (turn .loop-test .taken))
 
   cell-in : c .top-bits .result < S turn .entries
-  cell-in = omega (arith, cell-is, top-most (S turn) (start turn .pre .0 .sized) (page (S turn) (store turn) (p-of turn)))
+  cell-in = omega (arith, cell-is, top-most (S turn) (start turn .pre .stand .sized) (page (S turn) (store turn) (p-of turn)))
 
 -- and what it needs
 module _ (c : tie.After-page-load Inv-loop μ-loop) where
@@ -69,10 +69,10 @@ module _ (c : tie.After-page-load Inv-loop μ-loop) where
   load-is = subst (λ g. LoadOf g (c .page-load .result)) (page-lent (S in-turn) (store in-turn) (p-of in-turn)) (c .page-load .ensures)
 
   load-small : c .page-load .result ≤ 16376
-  load-small = omega (arith, load-is .1, page-long (S in-turn) (store in-turn) (p-of in-turn) (omega (arith, start in-turn .pre .0 .number, in-turn .loop-test .taken)), start in-turn .pre .0 .sized .most)
+  load-small = omega (arith, load-is .1, page-long (S in-turn) (store in-turn) (p-of in-turn) (omega (arith, start in-turn .pre .stand .number, in-turn .loop-test .taken)), start in-turn .pre .stand .sized .most)
 
 loop-holds : tie.Need-loop-holds Inv-loop μ-loop
-loop-holds c = let a = c .before .before .before in (omega arith, omega (arith, a .pre .0 .least), heaped-none (topAt (a .args .z) (a .args .s .now)) (loadAt (a .args .z) (a .args .s .now)) _ _ (a .pre .2) (a .pre .3))
+loop-holds c = let a = c .before .before .before in (omega arith, omega (arith, a .pre .stand .least), heaped-none (topAt (a .args .z) (a .args .s .now)) (loadAt (a .args .z) (a .args .s .now)) _ _ (a .pre .sums-long) (a .pre .no-sums))
 
 add-size : tie.Need-add-size Inv-loop μ-loop
 add-size c = omega (arith, lies (c .before))
@@ -84,13 +84,13 @@ mul-top-bits : tie.Need-mul-top-bits Inv-loop μ-loop
 mul-top-bits c = search needs
 
 shared-slice-read-top-bits : tie.Need-shared-slice-read-top-bits Inv-loop μ-loop
-shared-slice-read-top-bits c = let t = c .before .before in omega (arith, t .loop-test .taken, start t .pre .0 .most, start t .pre .1 .long)
+shared-slice-read-top-bits c = let t = c .before .before in omega (arith, t .loop-test .taken, start t .pre .stand .most, start t .pre .hashed .long)
 
 cast-top-bits : tie.Need-cast-top-bits Inv-loop μ-loop
-cast-top-bits c = let t = c .before .before .before in record { fits = omega (arith, twelve (S t) (start t .pre .0 .sized)) }
+cast-top-bits c = let t = c .before .before .before in record { fits = omega (arith, twelve (S t) (start t .pre .stand .sized)) }
 
 top-bits-requires : tie.Need-top-bits-requires Inv-loop μ-loop
-top-bits-requires c κs = let t = c .before .before .before in twelve (S t) (start t .pre .0 .sized)
+top-bits-requires c κs = let t = c .before .before .before in twelve (S t) (start t .pre .stand .sized)
 
 mul-cells : tie.Need-mul-cells Inv-loop μ-loop
 mul-cells c = record { fits = omega (arith, cell-in c, few (turn c)) }
@@ -111,13 +111,13 @@ part-page-load-end : tie.Need-part-page-load-end Inv-loop μ-loop
 part-page-load-end c = omega (arith, lies (turn (c .before)))
 
 page-load-requires : tie.Need-page-load-requires Inv-loop μ-loop
-page-load-requires c κs = let t = turn (c .before .before) in legible (S t) (store t) (start t .args .n) (p-of t) (start t .pre .0) (t .before .loop .inv .0) (t .loop-test .taken)
+page-load-requires c κs = let t = turn (c .before .before) in legible (S t) (store t) (start t .args .n) (p-of t) (start t .pre .stand) (t .before .loop .inv .0) (t .loop-test .taken)
 
 add-cells : tie.Need-add-cells Inv-loop μ-loop
 add-cells c =
     let b = at c in
     let t = turn b in
-    let T = start t .pre .0 in
+    let T = start t .pre .stand in
     let l = t .before .loop in
     record { fits = omega (arith, cells-of b .each (b .top-bits .result) (omega (arith, cell-in b)), cell-most (S t) (store t) (start t .args .n) T (p-of t - 2) (b .top-bits .result) (omega (arith, l .inv .1)), load-small c, few t, T .most, l .inv .1) }
 
@@ -137,10 +137,10 @@ loop-again : tie.Need-loop-again Inv-loop μ-loop
 loop-again c =
     let t = in-turn c in
     let l = t .before .loop in
-    (omega arith, omega (arith, t .loop-test .taken), celled-more (S t) (store t) (start t .args .n) (start t .pre .0) (l .p) (l .inv .0) (l .inv .2) (cell-is (at c)) (load-is c .0) refl)
+    (omega arith, omega (arith, t .loop-test .taken), celled-more (S t) (store t) (start t .args .n) (start t .pre .stand) (l .p) (l .inv .0) (l .inv .2) (cell-is (at c)) (load-is c .0) refl)
 
 same-length : tie.Need-same-length Inv-loop μ-loop
-same-length c = c .before .loop .inv .2 .long ∙ sym (c .before .before .before .before .before .pre .2)
+same-length c = c .before .loop .inv .2 .long ∙ sym (c .before .before .before .before .before .pre .sums-long)
 
 returns : tie.Need-returns Inv-loop μ-loop
 returns c =

@@ -38,26 +38,26 @@ module _ (c : tie.After-run-of) where
   shorter = omega (arith, c .before .before .before .if1 .left, page-byte S store (start .args .p) 1 (omega arith))
 
   within : c .run-of .result .to ≤ S .entries
-  within = omega (arith, c .run-of .ensures .3, start .pre .0 .sized .deep)
+  within = omega (arith, c .run-of .ensures .3, start .pre .stand .sized .deep)
 
   rise : getD sums (c .run-of .result .from) 0 ≤ getD sums (c .run-of .result .to) 0
-  rise = sums-rise S store (pages S store) (start .pre .0) (start .args .p) (start .pre .2) (start .pre .3) (start .args .hashes .now) sums (start .pre .1)
+  rise = sums-rise S store (pages S store) (start .pre .stand) (start .args .p) (start .pre .from) (start .pre .to) (start .args .hashes .now) sums (start .pre .digest)
       (c .run-of .result .from) (c .run-of .result .to) _ shorter (c .run-of .ensures .0) (c .run-of .ensures .1) within (c .run-of .ensures .2)
 
   rule : (S .capacity < getD sums (c .run-of .result .to) 0 - getD sums (c .run-of .result .from) 0) ↔ Parted S fnv store (start .args .p)
-  rule = parted-by S store (pages S store) (start .pre .0) (start .args .p) (start .pre .2) (start .pre .3) (start .args .hashes .now) sums (start .pre .1)
+  rule = parted-by S store (pages S store) (start .pre .stand) (start .args .p) (start .pre .from) (start .pre .to) (start .args .hashes .now) sums (start .pre .digest)
       (c .run-of .result .from) (c .run-of .result .to) _ shorter (c .run-of .ensures .0) (c .run-of .ensures .1) within (c .run-of .ensures .2)
 
 -- page p lies within the store, and is no deeper than its size allows
 module _ (a : tie.Start) where
   lies : a .args .p * size (a .args .z) + size (a .args .z) ≤ length (a .args .s .now)
-  lies = pages-of.within (a .args .z) (a .args .s .now) (a .args .p) (a .pre .3)
+  lies = pages-of.within (a .args .z) (a .args .s .now) (a .args .p) (a .pre .to)
 
   low : byte (a .args .s .now) (a .args .p * size (a .args .z) + 1) ≤ a .args .z .deepest
-  low = depth-most (a .args .z) (a .args .s .now) _ (a .args .p) (a .pre .0) (a .pre .2) (a .pre .3)
+  low = depth-most (a .args .z) (a .args .s .now) _ (a .args .p) (a .pre .stand) (a .pre .from) (a .pre .to)
 
   few : a .args .z .deepest ≤ 12
-  few = twelve (a .args .z) (a .pre .0 .sized)
+  few = twelve (a .args .z) (a .pre .stand .sized)
 
 add-d : tie.Need-add-d
 add-d c = omega (arith, lies (c .before .before .before .before))
@@ -76,13 +76,13 @@ cast-d c = let a = c .before .before .before .before .before in record { fits = 
 
 returns : tie.Need-returns
 returns c = let a = c .before .before .before .before .before .before in
-    parted-flat (a .args .z) (a .args .s .now) _ (a .pre .0) (a .args .p) (a .pre .2) (a .pre .3) (page-byte (a .args .z) (a .args .s .now) (a .args .p) 1 (omega arith) ∙ c .if1 .taken)
+    parted-flat (a .args .z) (a .args .s .now) _ (a .pre .stand) (a .args .p) (a .pre .from) (a .pre .to) (page-byte (a .args .z) (a .args .s .now) (a .args .p) 1 (omega arith) ∙ c .if1 .taken)
 
 mul-run-of : tie.Need-mul-run-of
 mul-run-of c = search needs
 
 shared-slice-read-run-of : tie.Need-shared-slice-read-run-of
-shared-slice-read-run-of c = let a = c .before .before .before .before .before .before .before in omega (arith, a .pre .3, a .pre .0 .most, a .pre .1 .hashed .long)
+shared-slice-read-run-of c = let a = c .before .before .before .before .before .before .before in omega (arith, a .pre .to, a .pre .stand .most, a .pre .digest .hashed .long)
 
 sub-run-of : tie.Need-sub-run-of
 sub-run-of c = search needs
@@ -97,13 +97,13 @@ mul-result : tie.Need-mul-result
 mul-result c = search needs
 
 shared-slice-read-result : tie.Need-shared-slice-read-result
-shared-slice-read-result c = omega (arith, within (c .before), start (c .before) .pre .1 .long)
+shared-slice-read-result c = omega (arith, within (c .before), start (c .before) .pre .digest .long)
 
 mul-result-2 : tie.Need-mul-result-2
 mul-result-2 c = search needs
 
 shared-slice-read-result-2 : tie.Need-shared-slice-read-result-2
-shared-slice-read-result-2 c = omega (arith, within (c .before .before), c .before .before .run-of .ensures .2, start (c .before .before) .pre .1 .long)
+shared-slice-read-result-2 c = omega (arith, within (c .before .before), c .before .before .run-of .ensures .2, start (c .before .before) .pre .digest .long)
 
 sub-result : tie.Need-sub-result
 sub-result c = rise (c .before .before)

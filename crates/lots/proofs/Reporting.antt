@@ -1,0 +1,79 @@
+-- What a report is given to tell, from its answer and the marks. Assumes nothing.
+use Prim.Native.Nat.{ℕ, _*_, _≤_}
+use mathlib.Core.Path.{_≡_, refl, sym, ap, subst, _∙_}
+use mathlib.Core.List.{List, map}
+use mathlib.Core.Logic.{inl, inr}
+use native.Mathlib.Omega.{arith}
+use lib.ListN.{length, replicate, length-replicate}
+use Rattle.ground.specs.Ladder.{Answers}
+use Rattle.ground.proofs.Tests.{none-some}
+use Rattle.hash.specs.Fnv.{fnv}
+use Rattle.partition.specs.declared.Shape.{Shape}
+use Rattle.partition.specs.Listing.{listing}
+use Rattle.partition.specs.Partition.{Row}
+use Rattle.report.specs.declared.Ending.{Ending}
+use Rattle.report.specs.declared.Ending.the-variants.{Missing, Whole}
+use Rattle.report.specs.declared.Sums.{Sums}
+use Rattle.report.specs.Named.{Marks}
+use Rattle.report.specs.Numbers.{ranksOf, raisedOf, rankOn, tallied, Ends, SumsOf, numbersTable}
+use Rattle.report.specs.Report.{Reported, other, missing, summed}
+use Rattle.store.specs.Pages.{rowsHeld}
+use Rattle.store.proofs.Accepted.Reading.{row-none}
+use Rattle.lots.specs.declared.Outcome.{Outcome}
+use Rattle.lots.specs.declared.Outcome.the-variants.{Silent, Unknown as NotKnown, Told, Changed, Listed, Format as Formats, Stopped}
+use Rattle.lots.specs.Obeys.{Passes, ReportAsked}
+use Rattle.lots.specs.Reports.{ListedSums}
+use Rattle.lots.proofs.Leaving.{passes-untouched}
+
+abbrev IsSum : Reported → Type 0
+IsSum (other o) = ⊥
+IsSum (missing p) = ⊥
+IsSum (summed x) = Unit {0}
+
+no-sum : {r : Reported} (x : Sums) → summed x ≡ r → IsSum r
+no-sum x e = subst IsSum e tt
+
+-- sums that are answered are those of the listing
+pub sums-of : (S : Shape) (s fl : List ℕ) (n : ℕ) (x : Sums) → Answers (numbersTable S fnv s fl n) (summed x) → ListedSums S s fl n x
+unfolding numbersTable
+sums-of S s fl n x (inl (u, (b, q))) = absurd (no-sum x q)
+sums-of S s fl n x (inr (n1, inl (u, (b, q)))) = absurd (no-sum x q)
+sums-of S s fl n x (inr (n1, inr (n10, (good, inl a)))) = absurd (no-sum x (a .1 .1))
+sums-of S s fl n x (inr (n1, inr (n10, (good, inr (n2, (acc, t)))))) = t
+
+-- a tally over what was summed is whole, with the same marks
+ended : (ps ls : List ℕ) (rs : List Row) (cs cs′ : List ℕ) (x : Sums) (t : SumsOf ps ls rs cs x) (r : Ending) → Ends ps ls rs cs r cs′ → cs′ ≡ t .marks
+ended ps ls rs cs cs′ x t (Missing p) e =
+    let k : tallied ps ls (map rankOn rs) 0 0 cs .0 ≡ length rs = ap (λ v. v .0) (sym (t .all)) in
+    absurd (none-some (row-none rs (tallied ps ls (map rankOn rs) 0 0 cs .0) (omega (arith, k))) (e .there))
+ended ps ls rs cs cs′ x t (Whole c) e = ap (λ v. v .1 .1) (e .all ∙ sym (t .all))
+
+pub marked-as : (S : Shape) (s fl : List ℕ) (n : ℕ) (x : Sums) (t : ListedSums S s fl n x) (cs cs′ : List ℕ) (r : Ending) → cs ≡ replicate n 0 → Marks S s fl cs r cs′ → cs′ ≡ t .marks
+marked-as S s fl n x t cs cs′ r e m =
+    let l : length cs ≡ n = ap length e ∙ length-replicate {A = ℕ} n 0 in
+    let u : Ends (ranksOf fl n) (raisedOf fl n) (listing S fnv (rowsHeld S s)) cs r cs′ = subst (λ k. Ends (ranksOf fl k) (raisedOf fl k) (listing S fnv (rowsHeld S s)) cs r cs′) l m in
+    ended (ranksOf fl n) (raisedOf fl n) (listing S fnv (rowsHeld S s)) (replicate n 0) cs′ x t r (subst (λ v. Ends (ranksOf fl n) (raisedOf fl n) (listing S fnv (rowsHeld S s)) v r cs′) e u)
+
+-- ---- the outcome
+
+abbrev Other : Outcome → Type 0
+Other (Listed n) = ⊥
+Other Silent = Unit {0}
+Other NotKnown = Unit {0}
+Other (Told x) = Unit {0}
+Other (Changed x) = Unit {0}
+Other (Formats n size) = Unit {0}
+Other Stopped = Unit {0}
+
+passes-other : (o : Outcome) → Passes o → Other o
+passes-other NotKnown p = tt
+passes-other Stopped p = tt
+passes-other Silent p = tt
+passes-other (Told x) p = tt
+passes-other (Listed n) p = p
+passes-other (Changed x) p = tt
+passes-other (Formats n size) p = tt
+
+-- a report that is not told
+pub untold : (s : List ℕ) (o : Outcome) → Passes o → ReportAsked s o
+untold s o p = record { reads = passes-untouched o p; rows = λ n e. absurd (subst Other e (passes-other o p)) }
