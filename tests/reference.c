@@ -224,7 +224,7 @@ static int good_length(const uint8_t *s, size_t len) {
 static int good_page0(const uint8_t *s, int pages) {
     return number(s, 4) == (uint32_t)pages && number(s + 4, 4) == (uint32_t)page_size && number(s + 8, 4) == (uint32_t)entries &&
            number(s + 12, 4) == 2 * (uint32_t)page_size && number(s + 16, 4) <= (uint32_t)deepest && number(s + 20, 4) == (page_size == 1024 ? 0 : (uint32_t)page_size) &&
-           all_zero(s + 24, page_size - 24);
+           all_zero(s + 80, page_size - 80);
 }
 
 /* Ranges and zeros of page 1; how many entries name each page. */
@@ -244,6 +244,16 @@ static int called(const uint8_t *s, int p, int depth, int bits, uint32_t value, 
     for (uint32_t i = from; i < to; i++)
         if (number(s + page_size + 4 * i, 4) != (uint32_t)p) return 0;
     return (uint32_t)named == to - from;
+}
+
+/* At 24 the number of rows that were read, and from 28 the buckets by local depth. */
+static int good_counts(const uint8_t *s, int pages) {
+    uint32_t of[13] = {0};
+    for (int p = 2; p < pages; p++)
+        if (s[(size_t)p * page_size] == 1) of[s[(size_t)p * page_size + 1]]++;
+    for (int k = 0; k < 13; k++)
+        if (number(s + 28 + 4 * k, 4) != of[k]) return 0;
+    return number(s + 24, 4) == (uint32_t)row_count;
 }
 
 /* 0 and the rows of the store, or the refusal. */
@@ -275,7 +285,7 @@ static uint64_t read_store(const uint8_t *s, size_t len) {
         if (bits > largest) largest = bits;
         if (bits > 0 && weight(bits - 1, prefix(hashes[p], bits - 1)) <= capacity) return broken(p);
     }
-    return depth == largest ? 0 : broken(0);
+    return depth == largest && good_counts(s, pages) ? 0 : broken(0);
 }
 
 static int find(const uint8_t *code, size_t len) {
@@ -301,15 +311,20 @@ static int of_prefix(struct row *const *some, int count, struct bucket b, struct
     return n;
 }
 
-/* Depth and entries from the rows, each bucket on the page where its rows stand. */
+/* Counts, depth and entries from the rows, each bucket on the page where its rows stand. */
 static void write_directory(uint8_t *s) {
     static struct bucket buckets[MOST_ENTRIES];
     static int page_of[MOST_ENTRIES];
     int n = partition(rows, row_count, buckets), depth = 0;
     for (int i = 0; i < row_count; i++) page_of[bucket_of(rows[i].hash)] = rows[i].page;
-    for (int b = 0; b < n; b++)
+    memset(s + 28, 0, 52);
+    for (int b = 0; b < n; b++) {
+        uint8_t *count = s + 28 + 4 * buckets[b].bits;
+        set_number(count, 4, number(count, 4) + 1);
         if (buckets[b].bits > depth) depth = buckets[b].bits;
+    }
     set_number(s + 16, 4, depth);
+    set_number(s + 24, 4, row_count);
     memset(s + page_size, 0, page_size);
     for (int i = 0; i < 1 << depth; i++) {
         int b = of_leaf[i << (deepest - depth)];

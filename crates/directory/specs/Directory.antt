@@ -11,6 +11,8 @@ use Rattle.partition.specs.Bits.{top}
 use Rattle.partition.specs.declared.Shape.{Shape}
 use Rattle.store.specs.Pages.{size, page, dirDepth, entryAt, pages}
 use Rattle.store.specs.Accepted.{Zero, Calls}
+use Rattle.store.specs.Counts.{Counts}
+use Rattle.store.specs.Demands.{Sized}
 
 -- page p of the store is a bucket whose prefix calls for entry i in a directory of depth d
 pub record CallsFor (S : Shape) (h : List ℕ → ℕ) (s : List ℕ) (d i p : ℕ) : Type 0 where
@@ -92,6 +94,17 @@ pub record Settling (S : Shape) (s : List ℕ) (n : ℕ) : Type 0 where
   pub least : 3 ≤ n
   pub most : n ≤ S .entries + 2
   pub pages : (p : ℕ) → 2 ≤ p → p < n → SoundPage S (page S s p)
+
+-- a store of n pages, each of them sound, with true counts
+pub record Settleable (S : Shape) (s : List ℕ) (n : ℕ) : Type 0 where
+  pub sized : Sized S
+  pub pages : Settling S s n
+  pub counts : Counts S s
+
+-- t is s with true counts in page 0
+pub record Recounted (S : Shape) (s t : List ℕ) : Type 0 where
+  pub old : Frame s 24 56 t
+  pub counts : Counts S t
 
 -- t is s but for its pages from 1 on, of which those from 2 on are sound
 pub record Rewritten (S : Shape) (s t : List ℕ) : Type 0 where

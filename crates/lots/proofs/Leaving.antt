@@ -18,7 +18,7 @@ use Rattle.ground.proofs.Tests.{none-some, says-true}
 use Rattle.hash.specs.Fnv.{fnv, fnv-lt}
 use Rattle.partition.specs.declared.Shape.{Shape}
 use Rattle.partition.specs.Listing.{listing}
-use Rattle.partition.specs.Sizes.{shapeOf}
+use Rattle.partition.specs.Sizes.{size, shapeOf}
 use Rattle.partition.proofs.Sizes.{sized-of}
 use Rattle.any_size.proofs.Rows.{said-of, short}
 use Rattle.any_size.proofs.Calls.{formats}
@@ -53,6 +53,10 @@ pub page-inside : (p z n : ℕ) → p < n / z → p * z + z ≤ n
 page-inside p z n b =
     let m : suc p * z ≤ n / z * z = mul-le-mul-right z b in
     omega (arith, m, suc-mul p z, div-mul-le-self n z)
+
+-- page 0 of an accepted store has room for the number of rows
+pub counts-room : (s : List ℕ) → Accepted (shapeOf s) fnv s → 28 ≤ length s
+counts-room s a = omega (arith, page-inside 0 (size (shapeOf s)) (length s) (omega (arith, a .long .least)), sized-of s .least)
 
 -- how many rows the listing has
 pub listing-counts : (S : Shape) (s : List ℕ) → Sized S → Accepted S fnv s → length (rowsHeld S s) ≡ length (listing S fnv (rowsHeld S s))

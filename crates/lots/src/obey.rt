@@ -163,7 +163,7 @@ fn list(s: &[u8], known: bool, number: usize) -> Outcome
         return told(a, number);
     }
     let z = partition::shape_of(s);
-    list_rows(s, z, query::count_rows(s, z, s.len() / (8 + z.capacity)))
+    list_rows(s, z, counts::rows_counted(s))
 }
 
 // After n rows: there is none more, or why the page is refused.

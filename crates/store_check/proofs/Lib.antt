@@ -9,3 +9,4 @@ pub mod Heaps
 pub mod Standing
 pub mod Parting
 pub mod Said
+pub mod Counting

@@ -13,7 +13,7 @@ use Rattle.partition.specs.Sizes.{size, Sized, S4096, S16384, either, shapeFor,
 use Rattle.partition.proofs.Sizes.{sized-for, sized-of}
 use Rattle.store.specs.Accepted.{GoodLength}
 use Rattle.store.proofs.Paging.PageTies.{zeros}
-use Rattle.store_check.specs.Begun.{Tables}
+use Rattle.store_check.specs.Begun.{Judgeable, Tables}
 
 pub said-sized : (s : List ℕ) (z : Shape) → z ≡ shapeOf s → Sized z
 said-sized s z e = subst Sized (sym e) (sized-of s)
@@ -57,5 +57,5 @@ blank S = record {
 }
 
 -- they are what the check of a store of that size starts with
-pub fresh : (S z : Shape) (s : List ℕ) → Sized S → (z ≡ S) × GoodLength z s → Sized z × GoodLength z s × Blank S z
-fresh S z s d p = (subst Sized (sym (p .0)) d, p .1, subst (Blank S) (sym (p .0)) (blank S))
+pub fresh : (S z : Shape) (s : List ℕ) (k : ℕ) → Sized S → (z ≡ S) × Judgeable z s k → Sized z × Judgeable z s k × Blank S z
+fresh S z s k d p = (subst Sized (sym (p .0)) d, p .1, subst (Blank S) (sym (p .0)) (blank S))

@@ -10,7 +10,7 @@ use Rattle.hash.specs.Fnv.{fnv}
 use Rattle.partition.specs.declared.Shape.{Shape}
 use Rattle.store.specs.Demands.{Sized}
 use Rattle.store.specs.Pages.{size, pages, dirDepth}
-use Rattle.store.specs.Accepted.{Stands}
+use Rattle.store.specs.Accepted.{GoodLength, Stands}
 use Rattle.store_check.specs.Directory.{Entries, AllAre, AllBelow}
 
 -- a store of n pages of a size, whose directory, of depth d, has entries in dir: below n, and zero from 2^d on
@@ -46,6 +46,12 @@ pub record AllStand (S : Shape) (s : List ℕ) (n : ℕ) : Type 0 where
   pub most : n ≤ S .entries + 2
   pub deep : dirDepth s ≤ S .deepest
   pub each : (p : ℕ) → 2 ≤ p → p < n → Stands S fnv s p
+
+-- a store of whole pages, and an offset in page 0 behind the size's number
+pub record Judgeable (S : Shape) (s : List ℕ) (zeros : ℕ) : Type 0 where
+  pub long : GoodLength S s
+  pub behind : 24 ≤ zeros
+  pub within : zeros ≤ 80
 
 -- the check's tables: as long as the size asks, and zero where the passes add to them
 pub record Tables (S : Shape) (dir counts hashes sums tab : List ℕ) : Type 0 where

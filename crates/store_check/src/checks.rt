@@ -1,12 +1,14 @@
 // The check's passes, in document order.
 ghost use mathlib.Core.Path.{_≡_};
+ghost use Rattle.ground.specs.Says.{Says};
 ghost use Rattle.hash.specs.Fnv.{fnv};
 ghost use Rattle.partition.specs.Partition.{S1024};
 ghost use Rattle.partition.specs.Sizes.{S4096, S16384, shapeOf};
 ghost use Rattle.store.specs.Accepted.{GoodLength};
+ghost use Rattle.store.specs.Counts.{Counts};
 ghost use Rattle.store.specs.Demands.{Sized};
-ghost use Rattle.store_check.specs.First.{Judged};
-ghost use Rattle.store_check.specs.Begun.{Tables};
+ghost use Rattle.store_check.specs.First.{Judged, JudgedFrom};
+ghost use Rattle.store_check.specs.Begun.{AllStand, Judgeable, Tables};
 use super::entry_runs::entries;
 use super::entry_runs::ranges;
 use super::entry_runs::tally;
@@ -15,21 +17,22 @@ use super::pages::first_unsound;
 use super::parted::first_joinable;
 use partition::Shape;
 
-// The page at which the check stops, or the number of pages.
+// The page at which the check stops by the rules before there were counts, page 0 zero from an offset on, or the number of pages.
 fn judge(
     s: &[u8],
     z: Shape,
+    zeros: usize,
     dir: &mut [u32],
     counts: &mut [u32],
     hashes: &mut [u32],
     sums: &mut [u32],
     tab: &mut [u8],
 ) -> usize
-    requires { ⌜ Sized z × GoodLength z (now s) × Tables z (now dir) (now counts) (now hashes) (now sums) (now tab) ⌝ }
-    ensures { λ r. ⌜ Judged z fnv (now (s .entry)) r ⌝ }
+    requires { ⌜ Sized z × Judgeable z (now s) zeros × Tables z (now dir) (now counts) (now hashes) (now sums) (now tab) ⌝ }
+    ensures { λ r. ⌜ JudgedFrom zeros z fnv (now (s .entry)) r ⌝ }
 {
     let n = s.len() / (8 + z.capacity);
-    if !page0_ok(s, z, n) {
+    if !page0_ok(s, z, n, zeros) {
         return 0;
     }
     let d = words::get32(s, 16) as u32;
@@ -54,9 +57,9 @@ fn judge(
 }
 
 // judge with tables for pages of 1,024 bytes.
-fn judge_1024(s: &[u8], z: Shape) -> usize
-    requires { ⌜ (z ≡ S1024) × GoodLength z (now s) ⌝ }
-    ensures { λ r. ⌜ Judged z fnv (now (s .entry)) r ⌝ }
+fn judge_1024(s: &[u8], z: Shape, zeros: usize) -> usize
+    requires { ⌜ (z ≡ S1024) × Judgeable z (now s) zeros ⌝ }
+    ensures { λ r. ⌜ JudgedFrom zeros z fnv (now (s .entry)) r ⌝ }
 {
     let mut dir = [0u32; 256];
     let mut counts = [0u32; 258];
@@ -66,6 +69,7 @@ fn judge_1024(s: &[u8], z: Shape) -> usize
     judge(
         s,
         z,
+        zeros,
         &mut dir,
         &mut counts,
         &mut hashes,
@@ -75,9 +79,9 @@ fn judge_1024(s: &[u8], z: Shape) -> usize
 }
 
 // judge with tables for pages of 4,096 bytes.
-fn judge_4096(s: &[u8], z: Shape) -> usize
-    requires { ⌜ (z ≡ S4096) × GoodLength z (now s) ⌝ }
-    ensures { λ r. ⌜ Judged z fnv (now (s .entry)) r ⌝ }
+fn judge_4096(s: &[u8], z: Shape, zeros: usize) -> usize
+    requires { ⌜ (z ≡ S4096) × Judgeable z (now s) zeros ⌝ }
+    ensures { λ r. ⌜ JudgedFrom zeros z fnv (now (s .entry)) r ⌝ }
 {
     let mut dir = [0u32; 1024];
     let mut counts = [0u32; 1026];
@@ -87,6 +91,7 @@ fn judge_4096(s: &[u8], z: Shape) -> usize
     judge(
         s,
         z,
+        zeros,
         &mut dir,
         &mut counts,
         &mut hashes,
@@ -96,9 +101,9 @@ fn judge_4096(s: &[u8], z: Shape) -> usize
 }
 
 // judge with tables for pages of 16,384 bytes.
-fn judge_16384(s: &[u8], z: Shape) -> usize
-    requires { ⌜ (z ≡ S16384) × GoodLength z (now s) ⌝ }
-    ensures { λ r. ⌜ Judged z fnv (now (s .entry)) r ⌝ }
+fn judge_16384(s: &[u8], z: Shape, zeros: usize) -> usize
+    requires { ⌜ (z ≡ S16384) × Judgeable z (now s) zeros ⌝ }
+    ensures { λ r. ⌜ JudgedFrom zeros z fnv (now (s .entry)) r ⌝ }
 {
     let mut dir = [0u32; 4096];
     let mut counts = [0u32; 4098];
@@ -108,6 +113,7 @@ fn judge_16384(s: &[u8], z: Shape) -> usize
     judge(
         s,
         z,
+        zeros,
         &mut dir,
         &mut counts,
         &mut hashes,
@@ -116,16 +122,50 @@ fn judge_16384(s: &[u8], z: Shape) -> usize
     )
 }
 
-// The page at which the check of a store stops, or its number of pages. A small store clears no table of a larger size.
+// The same, with tables of the store's own size: a small store clears no table of a larger one.
+fn judge_sized(s: &[u8], z: Shape, zeros: usize) -> usize
+    requires { ⌜ (z ≡ shapeOf (now s)) × Judgeable z (now s) zeros ⌝ }
+    ensures { λ r. ⌜ JudgedFrom zeros z fnv (now (s .entry)) r ⌝ }
+{
+    if z.deepest == 8 {
+        return judge_1024(s, z, zeros);
+    }
+    if z.deepest == 10 {
+        return judge_4096(s, z, zeros);
+    }
+    judge_16384(s, z, zeros)
+}
+
+// Whether the counts in page 0 are those of the n pages.
+fn counts_ok(s: &[u8], z: Shape, n: usize) -> bool
+    requires { ⌜ AllStand z (now s) n ⌝ }
+    ensures { λ r. ⌜ Says r (Counts z (now (s .entry))) ⌝ }
+{
+    let mut tallies = [0u32; 14];
+    counts::tally(s, z, n, &mut tallies);
+    counts::are_counts(s, &tallies)
+}
+
+// The page at which the check of a store stops, or its number of pages. The counts are judged last of all.
 pub fn first_bad(s: &[u8], z: Shape) -> usize
     requires { ⌜ (z ≡ shapeOf (now s)) × GoodLength z (now s) ⌝ }
     ensures { λ r. ⌜ Judged z fnv (now (s .entry)) r ⌝ }
 {
-    if z.deepest == 8 {
-        return judge_1024(s, z);
+    let n = s.len() / (8 + z.capacity);
+    let p = judge_sized(s, z, 80);
+    if p < n {
+        return p;
     }
-    if z.deepest == 10 {
-        return judge_4096(s, z);
+    if !counts_ok(s, z, n) {
+        return 0;
     }
-    judge_16384(s, z)
+    n
+}
+
+// The page at which a store breaks the old rules, or its number of pages.
+pub fn first_bad_before(s: &[u8], z: Shape) -> usize
+    requires { ⌜ (z ≡ shapeOf (now s)) × GoodLength z (now s) ⌝ }
+    ensures { λ r. ⌜ JudgedFrom 24 z fnv (now (s .entry)) r ⌝ }
+{
+    judge_sized(s, z, 24)
 }

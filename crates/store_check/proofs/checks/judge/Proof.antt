@@ -12,13 +12,13 @@ use Rattle.partition.specs.declared.Shape.{Shape}
 use Rattle.partition.proofs.Sizes.{twelve}
 use Rattle.store.specs.Demands.{Sized}
 use Rattle.store.specs.Pages.{size, pages, dirDepth}
-use Rattle.store.specs.Accepted.{GoodLength, Page0, Page1, Stands, Parted}
+use Rattle.store.specs.Accepted.{GoodLength, Page0From, Page1, Stands, Parted}
 use Rattle.store.proofs.Accepted.Unique.{within}
 use Rattle.store_check.specs.Directory.{Ranges, Counted}
 use Rattle.store_check.proofs.Heads.{to-page1, of-page1, whole-long, begun, standing}
 use Rattle.store_check.proofs.Naming.{room}
 use Rattle.store_check.proofs.Parting.{hashed-all}
-use Rattle.store_check.proofs.Stops.{none-bad, bad-0, bad-1, bad-up, bad-again, bad-last, all-sound}
+use Rattle.store_check.proofs.Stops.{none-bad, bad-0, bad-1, bad-up, bad-again, bad-depth, all-sound}
 use Rattle.store_check.proofs.checks.judge.Statement.{statement}
 use Rattle.store_check.proofs.checks.judge.Tie as tie
 
@@ -37,7 +37,10 @@ module _ (c : tie.After-struct-known) where
   sized = start .pre .0
 
   abbrev good : GoodLength S store
-  good = start .pre .1
+  good = start .pre .1 .long
+
+  abbrev zeros : ℕ
+  zeros = start .args .zeros
 
   three : 2 < pages S store
   three = omega (arith, good .least)
@@ -49,8 +52,8 @@ module _ (c : tie.After-struct-known) where
 abbrev head : tie.Else1 → tie.After-struct-known
 head c = c .before .before
 
-zeroth : (c : tie.Else1) → Page0 (S (head c)) (store (head c))
-zeroth c = says-true {P = Page0 (S (head c)) (store (head c))} (c .before .page0-ok .result) (not-false _ (c .if1 .left)) (c .before .page0-ok .ensures)
+zeroth : (c : tie.Else1) → Page0From (zeros (head c)) (S (head c)) (store (head c))
+zeroth c = says-true {P = Page0From (zeros (head c)) (S (head c)) (store (head c))} (c .before .page0-ok .result) (not-false _ (c .if1 .left)) (c .before .page0-ok .ensures)
 
 -- the directory's depth, and how many entries it has
 module _ (c : tie.After-two-to) where
@@ -89,7 +92,7 @@ module _ (c : tie.After-ranges) where
   of-1 : Page1 (S top) (store top) → Ranges dir (pages (S top) (store top)) many
   of-1 = of-page1 (S top) (store top) dir (pages (S top) (store top)) many (c .before .before .before .before .entries .ensures) refl (good top .least) (power at)
 
-  zero : Page0 (S top) (store top)
+  zero : Page0From (zeros top) (S top) (store top)
   zero = zeroth (at .before .before)
 
 -- past page 1
@@ -133,10 +136,10 @@ div-n : tie.Need-div-n
 div-n c = omega arith
 
 page0-ok-requires : tie.Need-page0-ok-requires
-page0-ok-requires c κs = (sized c, refl, omega (arith, within (S c) (store c) 0 (omega (arith, three c))))
+page0-ok-requires c κs = record { sized = sized c; many = refl; room = omega (arith, within (S c) (store c) 0 (omega (arith, three c))); behind = start c .pre .1 .behind; within = start c .pre .1 .within }
 
 returns : tie.Need-returns
-returns c = let b = c .before .before in bad-0 (S b) fnv (store b) (good b) (says-false {P = Page0 (S b) (store b)} (c .before .page0-ok .result) (not-true _ (c .if1 .taken)) (c .before .page0-ok .ensures))
+returns c = let b = c .before .before in bad-0 (zeros b) (S b) fnv (store b) (good b) (says-false {P = Page0From (zeros b) (S b) (store b)} (c .before .page0-ok .result) (not-true _ (c .if1 .taken)) (c .before .page0-ok .ensures))
 
 get32-requires : tie.Need-get32-requires
 get32-requires c κs = let b = head c in omega (arith, within (S b) (store b) 0 (omega (arith, three b)), sized b .least)
@@ -164,7 +167,7 @@ same-length c = search needs
 returns-2 : tie.Need-returns-2
 returns-2 c =
     let x = c .before in
-    bad-1 (S (top x)) fnv (store (top x)) (good (top x)) (zero x)
+    bad-1 (zeros (top x)) (S (top x)) fnv (store (top x)) (good (top x)) (zero x)
     (λ r. says-false {P = Ranges (dir x) (pages (S (top x)) (store (top x))) (many x)} (x .ranges .result) (not-true _ (c .if2 .taken)) (x .ranges .ensures) (of-1 x r))
 
 tally-requires : tie.Need-tally-requires
@@ -185,7 +188,7 @@ first-unsound-requires c κs =
     let e = c .before .before .before .before .before .before .before .before .before in
     let x = test e in
     let b = top x in (
-      begun (S b) (sized b) (store b) (good b) (zero x) (dir x) (deep (at x)) (deep-is (at x)) (x .before .before .before .before .entries .ensures) (ranged e .below) (λ i l. ranged e .beyond i (omega (arith, at x .two-to .ensures))),
+      begun (zeros b) (S b) (sized b) (store b) (good b) (zero x) (dir x) (deep (at x)) (deep-is (at x)) (x .before .before .before .before .entries .ensures) (ranged e .below) (λ i l. ranged e .beyond i (omega (arith, at x .two-to .ensures))),
       until (dir x) _ _ _ _ _ (at x .two-to .ensures) (start b .pre .2 .counts-long) (y .tally .ensures),
       start b .pre .2 .tab-long,
       start b .pre .2 .no-tab,
@@ -208,14 +211,14 @@ returns-3 : tie.Need-returns-3
 returns-3 c =
     let y = c .before .before .before .before .before in
     let b = base y in
-    bad-up (S b) fnv (store b) (good b) (zero (test (past-1 y))) (first (past-1 y)) (y .first-unsound .result) (y .first-unsound .ensures .0) (c .if3 .taken)
+    bad-up (zeros b) (S b) fnv (store b) (good b) (zero (test (past-1 y))) (first (past-1 y)) (y .first-unsound .result) (y .first-unsound .ensures .0) (c .if3 .taken)
 
 first-joinable-requires : tie.Need-first-joinable-requires
 first-joinable-requires c κs =
     let w = c .before .before in
     let y = pass-1 w in
     let b = base y in
-    (standing (S b) (sized b) (store b) (good b) (zero (test (past-1 y))) (stands w), hashed-all _ _ _ _ _ (y .first-unsound .ensures .1) (w .if3 .left), start b .pre .2 .sums-long, start b .pre .2 .no-sums, deep-is (at (test (past-1 y))))
+    (standing (zeros b) (S b) (sized b) (store b) (good b) (zero (test (past-1 y))) (stands w), hashed-all _ _ _ _ _ (y .first-unsound .ensures .1) (w .if3 .left), start b .pre .2 .sums-long, start b .pre .2 .no-sums, deep-is (at (test (past-1 y))))
 
 same-length-6 : tie.Need-same-length-6
 same-length-6 c = search needs
@@ -238,13 +241,13 @@ returns-4 c =
     let w = after-1 j in
     let y = pass-1 w in
     let b = base y in
-    bad-again (S b) fnv (store b) (good b) (zero (test (past-1 y))) (first (past-1 y)) (stands w) (j .first-joinable .result) (j .first-joinable .ensures) (c .if4 .taken)
+    bad-again (zeros b) (S b) fnv (store b) (good b) (zero (test (past-1 y))) (first (past-1 y)) (stands w) (j .first-joinable .result) (j .first-joinable .ensures) (c .if4 .taken)
 
 deepest-requires : tie.Need-deepest-requires
 deepest-requires c κs =
     let y = pass-1 (after-1 (pass-2 c)) in
     let b = base y in
-    (whole-long (S b) (sized b) (store b) (good b) (zero (test (past-1 y))), omega (arith, three b))
+    (whole-long (zeros b) (S b) (sized b) (store b) (good b) (zero (test (past-1 y))), omega (arith, three b))
 
 cast-if5 : tie.Need-cast-if5
 cast-if5 c = let y = pass-1 (after-1 (pass-2 (c .before))) in record { fits = omega (arith, at (test (past-1 y)) .before .get32 .ensures .1) }
@@ -270,7 +273,7 @@ returns-5 c =
     let w = after-1 (pass-2 z) in
     let y = pass-1 w in
     let b = base y in
-    bad-last (S b) fnv (store b) (good b) (zero (test (past-1 y))) (first (past-1 y)) (stands w) (parted z)
+    bad-depth (zeros b) (S b) fnv (store b) (good b) (zero (test (past-1 y))) (first (past-1 y)) (stands w) (parted z)
     (λ e. c .if5 .taken (c .before .deepest .ensures .0 ∙ sym e ∙ sym (deep-is (at (test (past-1 y))))))
 
 same-length-16 : tie.Need-same-length-16
@@ -294,7 +297,7 @@ returns-6 c =
     let w = after-1 (pass-2 z) in
     let y = pass-1 w in
     let b = base y in
-    all-sound (S b) fnv (store b) (good b) (zero (test (past-1 y))) (first (past-1 y)) (stands w) (parted z)
+    all-sound (zeros b) (S b) fnv (store b) (good b) (zero (test (past-1 y))) (first (past-1 y)) (stands w) (parted z)
     (sym (deep-is (at (test (past-1 y)))) ∙ sym (c .if5 .left) ∙ c .before .deepest .ensures .0)
 
 pub judge-spec : {M : Type 1} → statement M
