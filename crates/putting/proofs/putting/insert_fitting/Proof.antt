@@ -152,7 +152,7 @@ raise-requires c κs =
     let f = c .before .before .before in
     let z = z2 f in
     let row = z .pre .row .row in
-    rw (back f) (fitted-more (S z) fnv (row .sized) fnv-lt (s z) (row .accepted) (key z) (p z) (home z) (z .args .i) (place z) (g z) (q f) (g z) (fits z) (added f))
+    rw (back f) (fitted-more (S z) fnv (row .sized) fnv-lt (s z) (row .accepted) (key z) (p z) (home z) (z .args .i) (place z) (g z) (q f) (g z) (fits z) (added f) (row .folded))
 
 same-length : tie.Need-same-length
 same-length c = search needs

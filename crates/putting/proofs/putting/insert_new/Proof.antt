@@ -87,7 +87,7 @@ raise-requires c κs =
     let w = c .before .before .before .before .before in
     let z = z1 w in
     let row = z .pre .0 .row .row in
-    rw (back w) (fitted-more (S z) fnv (row .sized) fnv-lt (s z) (row .accepted) (key w) (p z) (home z) (z .args .i) (place w) _ (q w) _ (z .pre .0 .fits) (added w))
+    rw (back w) (fitted-more (S z) fnv (row .sized) fnv-lt (s z) (row .accepted) (key w) (p z) (home z) (z .args .i) (place w) _ (q w) _ (z .pre .0 .fits) (added w) (row .folded))
 
 same-length : tie.Need-same-length
 same-length c = search needs
