@@ -246,18 +246,24 @@ static int called(const uint8_t *s, int p, int depth, int bits, uint32_t value, 
     return (uint32_t)named == to - from;
 }
 
-/* At 24 the number of rows that were read, and from 28 the buckets by local depth. */
-static int good_counts(const uint8_t *s, int pages) {
-    uint32_t of[13] = {0};
+/* The buckets by local depth. */
+static void count_buckets(const uint8_t *s, int pages, uint32_t *of) {
+    memset(of, 0, 13 * sizeof *of);
     for (int p = 2; p < pages; p++)
         if (s[(size_t)p * page_size] == 1) of[s[(size_t)p * page_size + 1]]++;
+}
+
+/* At 24 the number of rows that were read, and from 28 the buckets by local depth. */
+static int good_counts(const uint8_t *s, int pages) {
+    uint32_t of[13];
+    count_buckets(s, pages, of);
     for (int k = 0; k < 13; k++)
         if (number(s + 28 + 4 * k, 4) != of[k]) return 0;
     return number(s + 24, 4) == (uint32_t)row_count;
 }
 
-/* 0 and the rows of the store, or the refusal. */
-static uint64_t read_store(const uint8_t *s, size_t len) {
+/* 0 and the rows of the store, or the refusal, whatever its counts are. */
+static uint64_t read_uncounted(const uint8_t *s, size_t len) {
     static uint32_t hashes[MOST_PAGES]; /* of each bucket's first row */
     static int named[MOST_PAGES];
     if (!good_length(s, len)) return refusal(1);
@@ -285,7 +291,13 @@ static uint64_t read_store(const uint8_t *s, size_t len) {
         if (bits > largest) largest = bits;
         if (bits > 0 && weight(bits - 1, prefix(hashes[p], bits - 1)) <= capacity) return broken(p);
     }
-    return depth == largest && good_counts(s, pages) ? 0 : broken(0);
+    return depth == largest ? 0 : broken(0);
+}
+
+/* The same, its counts judged last of all. */
+static uint64_t read_store(const uint8_t *s, size_t len) {
+    uint64_t bad = read_uncounted(s, len);
+    return bad ? bad : good_counts(s, len / page_size) ? 0 : broken(0);
 }
 
 static int find(const uint8_t *code, size_t len) {
@@ -356,6 +368,19 @@ uint64_t ref_check(const uint8_t *s, size_t len) { return read_store(s, len); }
 uint64_t ref_count(const uint8_t *s, size_t len) {
     uint64_t bad = read_store(s, len);
     return bad ? bad : (uint64_t)row_count;
+}
+
+/* The old rules had page 0 zero from 24 on. */
+uint64_t ref_fill_counts(uint8_t *s, size_t len) {
+    if (!good_length(s, len)) return refusal(1);
+    if (!all_zero(s + 24, 56)) return broken(0);
+    uint64_t bad = read_uncounted(s, len);
+    if (bad) return bad;
+    uint32_t of[13];
+    count_buckets(s, len / page_size, of);
+    set_number(s + 24, 4, row_count);
+    for (int k = 0; k < 13; k++) set_number(s + 28 + 4 * k, 4, of[k]);
+    return 0;
 }
 
 uint64_t ref_lookup(const uint8_t *s, size_t len, const uint8_t *code, size_t code_len) {

@@ -1,6 +1,6 @@
 -- What the call's table comes to: settled, answered, exact; what the filled store is, and what a store with counts is answered. Over any page size. Assumes nothing.
 use mathlib.Core.Path.{_≡_, refl, sym, ap, subst, _∙_}
-use mathlib.Core.Bool.{false, true≢false}
+use mathlib.Core.Bool.{true, false, true≢false}
 use mathlib.Core.List.{List, [], _∷_, _++_, flatMap}
 use mathlib.Core.Logic.{_⊎_, inl, inr, ⊎-elim, _↔_}
 use Prim.Native.Nat.{ℕ, zero, suc, _+_, _-_, _*_, _/_, _≤_, _<_}
@@ -25,12 +25,13 @@ use Rattle.store.proofs.Accepted.Rules.{Opened, opened}
 use Rattle.store.proofs.Accepted.Unique.{read-zero, read-used}
 use Rattle.store.proofs.Counts.Words.{counts-word, free-none}
 use Rattle.store.proofs.Demands.Order.{good-length, whole-pages}
+use Rattle.store.proofs.Demands.Said.{Said}
 use Rattle.store.proofs.Demands.Settled.{same}
 use Rattle.store.proofs.Result.Answered.{Result, unless}
 use Rattle.store.proofs.Result.Decided.{good-or-not}
 use Rattle.filling.specs.Filling.{Filled, fillTable, NoCounts, SameButCounts, Fills, FillLaws, FillingShown}
 use Rattle.filling.proofs.Alike.{Alike, but-counts}
-use Rattle.filling.proofs.OldRules.{accepted-then, accepted-before, broken-then, broken-before, before-one, before-whole, no-counts, broken-zero, before-or-broken}
+use Rattle.filling.proofs.OldRules.{accepted-then, accepted-before, broken-then, broken-before, before-one, before-whole, no-counts, broken-zero, BrokenPage, before-or-broken, before-below}
 use Rattle.filling.proofs.Written.{filled, is-filled, filled-one}
 
 -- ---- the three kinds of answer
@@ -159,10 +160,19 @@ module _ (S : Shape) (h : List ℕ → ℕ) (sized : Sized S) where
   unfolding fillTable
   fill-answered s small = unless (good-or-not S s) (λ g. go g (before-or-broken S h s sized g))
     where
-      go : GoodLength S s → AcceptedBefore S h s ⊎ ((p : ℕ) × BrokenBefore S h s p)
+      go : GoodLength S s → AcceptedBefore S h s ⊎ BrokenPage S h s
           → Result {A = Out × List ℕ} (rung (BrokenBefore S h s) (λ p. answer (refusedAt 2 p, s)) (given (AcceptedBefore S h s) (ends (λ r. (r .0 ≡ formatted) × Filled S s (r .1)))))
       go g (inl a) = record { is = (formatted, filled S sized s g small); allowed = inr (before-whole S h s a, (a, (refl, is-filled S sized s g small))) }
-      go g (inr b) = record { is = (refusedAt 2 (b .0), s); allowed = inl (b .0, (b .1, refl)) }
+      go g (inr b) = record { is = (refusedAt 2 (b .0), s); allowed = inl (b .0, (b .1 .1, refl)) }
+
+  -- what the call may answer
+  pub fill-said : (s : List ℕ) (x : Out × List ℕ) → Answers (fillTable S h s) x → Said (S .entries + 2) (λ o. o ≡ formatted) (x .0)
+  fill-said s x m = go (view S h s m)
+    where
+      go : View S h s (x .0) (x .1) → Said (S .entries + 2) (λ o. o ≡ formatted) (x .0)
+      go (bad-length _ e _) = inl (inl (1, (omega arith, (λ z. omega arith), e)))
+      go (old-broken g p b e _) = inl (inr (p, (omega (arith, before-below S h s sized g p b, g .most), e)))
+      go (meets _ e _) = inr e
 
   -- THE FILLED STORE IS ACCEPTED, HAS THE SAME ROWS, PAGES AND DIRECTORY, AND DIFFERS IN THE COUNTS ONLY
   pub same-but-counts : (s t : List ℕ) → AcceptedBefore S h s → Filled S s t → SameButCounts S h s t
@@ -178,10 +188,14 @@ module _ (S : Shape) (h : List ℕ → ℕ) (sized : Sized S) where
         bytes = λ k. ⊎-elim (f .old .below k) (f .old .above k);
       }
 
-  kept-same : (s t : List ℕ) → View S h s formatted t → SameButCounts S h s t
-  kept-same s t (bad-length _ e _) = absurd (omega (arith, ap kind e))
-  kept-same s t (old-broken _ p _ e _) = absurd (omega (arith, ap kind e))
-  kept-same s t (meets a _ f) = same-but-counts s t a f
+  done-same : (s : List ℕ) (o : Out) (t : List ℕ) → View S h s o t → ok o ≡ true → SameButCounts S h s t
+  done-same s o t (bad-length _ e _) f = absurd (true≢false (sym f ∙ ap ok e))
+  done-same s o t (old-broken _ p _ e _) f = absurd (true≢false (sym f ∙ ap ok e))
+  done-same s o t (meets a _ f) _ = same-but-counts s t a f
+
+  -- where the call is not refused, the store is that one
+  pub fill-done : (s : List ℕ) (o : Out) (t : List ℕ) → Fills S h s o t → ok o ≡ true → SameButCounts S h s t
+  fill-done s o t m = done-same s o t (view S h s m)
 
   -- A STORE COMES BACK FROM THE SAME WITHOUT ITS COUNTS
   pub comes-back : (s t : List ℕ) → ((k : ℕ) → byte t k < 256) → Accepted S h t → Cleared t 24 80 s → Fills S h s formatted t
@@ -204,7 +218,7 @@ module _ (S : Shape) (h : List ℕ → ℕ) (sized : Sized S) where
     two = λ s o t m. when-two S h s (view S h s m);
     filled = λ s o t m. when-filled S h s (view S h s m);
     kept = λ s o t m. keeps S h s (view S h s m);
-    same = λ s t m. kept-same s t (view S h s m);
+    same = λ s t m. fill-done s formatted t m refl;
     as-checked = λ s t z f. (
       (accepted-then S h sized s t (f .old) z (f .counts), accepted-before S h sized s t (f .old) z (f .counts)),
       (λ p. (broken-then S h sized s t (f .old) z (f .counts) p, broken-before S h sized s t (f .old) z (f .counts) p)),

@@ -83,6 +83,10 @@ module _ (S : Shape) (h : List ℕ → ℕ) (sized : Sized S) (s t : List ℕ) (
 
 -- ---- the page that the old rules name: one, or none
 
+-- a page of the store that breaks them first
+abbrev pub BrokenPage : Shape → (List ℕ → ℕ) → List ℕ → Type 0
+BrokenPage S h s = (p : ℕ) × ((p < pages S s) × BrokenBefore S h s p)
+
 module _ (S : Shape) (h : List ℕ → ℕ) (s : List ℕ) where
   pub before-one : (p q : ℕ) → BrokenBefore S h s p → BrokenBefore S h s q → p ≡ q
   unfolding BrokenBefore
@@ -132,13 +136,13 @@ module _ (S : Shape) (h : List ℕ → ℕ) (s : List ℕ) where
     }
 
     -- where the check stops at its counts, the old rules hold
-    stopped : {p : ℕ} → StopsAt S h s p → AcceptedBefore S h s ⊎ ((q : ℕ) × BrokenBefore S h s q)
+    stopped : {p : ℕ} → StopsAt S h s p → AcceptedBefore S h s ⊎ BrokenPage S h s
     unfolding BrokenBefore rulesBefore
-    stopped (page-0 n) = inr (0, at-0 S h s P (λ z. n (high z)))
-    stopped (page-1 z n) = inr (1, at-1 S h s P (low z) n)
-    stopped (first-pass z f p a b g n) = inr (p, at-first S h s P (low z) f p a b g n)
-    stopped (second-pass z f e p a b g n) = inr (p, at-second S h s P (low z) f e p a b g n)
-    stopped (depth-0 z f e g n) = inr (0, at-depth S h s P (low z) f e g n)
+    stopped (page-0 n) = inr (0, (omega (arith, good .least), at-0 S h s P (λ z. n (high z))))
+    stopped (page-1 z n) = inr (1, (omega (arith, good .least), at-1 S h s P (low z) n))
+    stopped (first-pass z f p a b g n) = inr (p, (b, at-first S h s P (low z) f p a b g n))
+    stopped (second-pass z f e p a b g n) = inr (p, (b, at-second S h s P (low z) f e p a b g n))
+    stopped (depth-0 z f e g n) = inr (0, (omega (arith, good .least), at-depth S h s P (low z) f e g n))
     stopped (counts z f e g d n) = inl (record { long = good; keeps = all-in-turn S h s P (low z) f e g d })
 
     whole : Accepted S h s → AcceptedBefore S h s
@@ -146,12 +150,16 @@ module _ (S : Shape) (h : List ℕ → ℕ) (s : List ℕ) where
     whole a = let o = opened S h s a in record { long = good; keeps = all-in-turn S h s P (low (o .page0)) (o .page1) (o .stands) (o .parted) (o .deepest) }
 
   -- ANY BYTES OF A GOOD LENGTH MEET THE OLD RULES OR BREAK THEM AT A PAGE
-  pub before-or-broken : Sized S → GoodLength S s → AcceptedBefore S h s ⊎ ((p : ℕ) × BrokenBefore S h s p)
+  pub before-or-broken : Sized S → GoodLength S s → AcceptedBefore S h s ⊎ BrokenPage S h s
   before-or-broken sized good = go counts-or-not
     where
-      go : Dec (NoCounts s) → AcceptedBefore S h s ⊎ ((p : ℕ) × BrokenBefore S h s p)
-      go (no n) = inr (0, broken-zero sized n)
+      go : Dec (NoCounts s) → AcceptedBefore S h s ⊎ BrokenPage S h s
+      go (no n) = inr (0, (omega (arith, good .least), broken-zero sized n))
       go (yes z) = ⊎-elim (λ a. inl (whole sized z good a)) (λ b. stopped sized z good (broken-stops S h s (b .0) (b .1))) (accepted-or-broken S h s good)
+
+-- the page that they name is one of the store
+pub before-below : (S : Shape) (h : List ℕ → ℕ) (s : List ℕ) → Sized S → GoodLength S s → (p : ℕ) → BrokenBefore S h s p → p < pages S s
+before-below S h s sized good p b = ⊎-elim (λ a. absurd (before-whole S h s a p b)) (λ w. omega (arith, before-one S h s p (w .0) b (w .1 .1), w .1 .0)) (before-or-broken S h s sized good)
 
 -- each page of a store that meets the old rules is sound
 pub before-settling : (S : Shape) (h : List ℕ → ℕ) (s : List ℕ) → AcceptedBefore S h s → Settling S s (pages S s)
