@@ -5,14 +5,16 @@ use mathlib.Core.Bool.{true, false}
 use mathlib.Core.List.{List}
 use lib.ListN.{length, take}
 use Rattle.commands.specs.declared.Command.{Command}
-use Rattle.commands.specs.declared.Command.the-variants.{Nothing, Unknown, Format, Put, Lookup, Remove, Count, Row, Listing, Check, Inspect, Report}
+use Rattle.commands.specs.declared.Command.the-variants.{Nothing, Unknown, Format, Put, Lookup, Remove, Count, Row, Listing, Check, Counts, Inspect, Report}
 use Rattle.commands.specs.Lines.{Means}
+use Rattle.ground.specs.Ladder.{Answers}
 use Rattle.hash.specs.Fnv.{fnv}
 use Rattle.partition.specs.Listing.{listing}
 use Rattle.partition.specs.Sizes.{shapeOf}
 use Rattle.store.specs.Demands.{Call, check, count, lookup, put, remove, rowAt, Made, ok}
 use Rattle.store.specs.Pages.{rowsHeld}
 use Rattle.store.specs.Tables.{Out, meaning}
+use Rattle.filling.specs.Filling.{fillTable}
 use Rattle.lots.specs.declared.Outcome.{Outcome}
 use Rattle.lots.specs.declared.Outcome.the-variants.{Silent, Unknown as NotKnown, Told, Changed, Listed, Format as Formats, Stopped}
 
@@ -91,6 +93,12 @@ pub record ListAsked (s : List ℕ) (o : Outcome) : Type 0 where
   pub refused : ok answer ≡ false → TellsOnly answer o
   pub rows : ok answer ≡ true → Numbers (length (listing (shapeOf s) fnv (rowsHeld (shapeOf s) s))) o
 
+-- the counts of the store s are filled in, and the answer is told
+pub record CountsAsked (s : List ℕ) (o : Outcome) (t : List ℕ) : Type 0 where
+  pub answer : Out
+  pub made : Answers (fillTable (shapeOf s) fnv s) (answer, t)
+  pub told : Outcomes answer o
+
 -- a command on the store s; its code begins the buffer k
 abbrev pub Does : List ℕ → Command → List ℕ → Outcome → List ℕ → Type 0
 Does k (Put n p m) s o t = Written (put (take n k) p m) s o t
@@ -103,6 +111,7 @@ Does k Count s o t = Asked count s o × (t ≡ s)
 Does k (Row n) s o t = RowAsked n s o × (t ≡ s)
 Does k Listing s o t = ListAsked s o × (t ≡ s)
 Does k Check s o t = Asked check s o × (t ≡ s)
+Does k Counts s o t = CountsAsked s o t
 Does k (Inspect n) s o t = Untouched o × (t ≡ s)
 Does k Report s o t = Untouched o × (t ≡ s)
 

@@ -274,6 +274,7 @@ pub fn obey(s: &mut [u8], line: &[u8], number: usize, known: bool) -> Outcome
         Command::Check => told(check_known(s, known), number),
         Command::Inspect(p) => inspect(s, p, number),
         Command::Report => bid::ask(s, &line[7..], number),
+        Command::Counts => wrote(filling::fill_counts(s), number),
     }
 }
 

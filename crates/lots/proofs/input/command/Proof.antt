@@ -1,9 +1,9 @@
 -- `lots::command` meets its contract. Assumes nothing.
 use Prim.Native.Nat.{_-_}
-use mathlib.Core.Path.{subst, sym, refl}
+use mathlib.Core.Path.{subst, sym, refl, _∙_}
 use lib.Seq.{length-take-le}
 use Rattle.lots.specs.Sessions.{Leaves}
-use Rattle.lots.proofs.Leaving.{leaves, lent-known, part-back, still-holds, taken-in, then}
+use Rattle.lots.proofs.Leaving.{leaves, lent-known, part-back, still-holds, learnt-holds, learnt-in, then}
 use borrow.Author.Needs.{needs}
 use Rattle.lots.proofs.input.command.Statement.{statement}
 use Rattle.lots.proofs.input.command.Tie as tie
@@ -42,6 +42,9 @@ returns c =
     let b = c .before .before .before .before .before .before .before .before .before .obey .ensures in
     (then (record { quiet = λ q. q; same = λ q. part-back _ _ 0 (c .before .before .before .before .before .before .before .before .before .before .before .before .before .before .before .args .z .len - 0) (leaves b (subst Leaves (sym (o .1)) tt)); long = λ q. refl; holds = still-holds (c .before .before .before .before .before .before .before .before .before .before .before .before .before .before .before .pre) b (search needs) }) (f .0), f .1)
 
+learnt-requires : tie.Need-learnt-requires
+learnt-requires c κs = search needs
+
 after-requires : tie.Need-after-requires
 after-requires c κs = search needs
 
@@ -51,8 +54,10 @@ same-length-2 c = search needs
 returns-2 : tie.Need-returns-2
 returns-2 c =
     let a = c .after .ensures in
-    let b = c .before .before .before .before .obey .ensures in
-    (taken-in a (λ l. part-back _ _ 0 (c .before .before .before .before .before .before .before .before .before .before .args .z .len - 0) (leaves b l)) (still-holds (c .before .before .before .before .before .before .before .before .before .before .pre) b (search needs)), a .fill)
+    let k = c .before .learnt .ensures in
+    let b = c .before .before .before .before .before .obey .ensures in
+    let d = c .before .before .before .before .before .before .before .before .before .before .before in
+    (learnt-in k a (λ l. part-back _ _ 0 (d .args .z .len - 0) (leaves b l)) (learnt-holds k (d .pre) b (search needs)), a .fill ∙ k .fill)
 
 pub command-spec : {M : Type 1} → statement M
 command-spec =
@@ -68,6 +73,7 @@ command-spec =
     ask-format-requires
     same-length
     returns
+    learnt-requires
     after-requires
     same-length-2
     returns-2)
