@@ -163,7 +163,7 @@ fn list(s: &[u8], known: bool, number: usize) -> Outcome
         return told(a, number);
     }
     let z = partition::shape_of(s);
-    list_rows(s, z, query::count_rows(s, z, s.len() / (8 + z.capacity)))
+    list_rows(s, z, counts::rows_counted(s))
 }
 
 // What inspection says of a page's first slot.
@@ -273,6 +273,7 @@ pub fn obey(s: &mut [u8], line: &[u8], number: usize, known: bool) -> Outcome
         Command::Check => told(check_known(s, known), number),
         Command::Inspect(p) => inspect(s, p, number),
         Command::Report => bid::ask(s, &line[7..], number),
+        Command::Counts => wrote(filling::fill_counts(s), number),
     }
 }
 

@@ -36,7 +36,7 @@ use Rattle.store.proofs.Paging.PageTies.{found-not, fits-needs}
 use Rattle.store.proofs.Put.PutCases.{here-six, splits-seven, put-splits-is}
 use Rattle.store.proofs.Put.PutRows.{put-shown}
 use Rattle.store.proofs.Put.EveryStep.{Roomy}
-use Rattle.directory.specs.Directory.{CallsFor, EntryFor, none as unnamed, names, PrefixNamed, Directed, Rewritten}
+use Rattle.directory.specs.Directory.{CallsFor, EntryFor, none as unnamed, names, PrefixNamed, Directed, Settleable, Recounted, Rewritten}
 use Rattle.directory.proofs.Directories.{calls-same}
 use Rattle.directory.proofs.Laying.{directable}
 use Rattle.directory.proofs.Renews.{prefix-pages, prefix-holds, prefix-kept, one-calls, renewed}
@@ -44,7 +44,8 @@ use Rattle.putting.specs.Put.{newRow, Puttable, Crowded}
 use Rattle.putting.specs.Split.{keyed, withNew, below, Source, takenNext, Room, NewPage, pagesBelow, Writable, BucketsWritten}
 use Rattle.putting.proofs.Puts.{home-page, begins}
 use Rattle.putting.proofs.Weighs.{load-any, below-shared, below-all}
-use Rattle.directory.proofs.Settles.{unwritten, settling, settled}
+use Rattle.directory.proofs.Recounts.{same-contents, directed-then}
+use Rattle.directory.proofs.Settles.{unwritten, settling, settleable, settled}
 use Rattle.putting.proofs.Splits.{first-given, rewritten-then, rewritten-self, long-then}
 
 module _ (S : Shape) (h : List ℕ → ℕ) (hash : Hash h) (s : List ℕ) (p i : ℕ) (c pl : List ℕ) (C : Crowded S h s p i c pl) where
@@ -275,19 +276,29 @@ module _ (S : Shape) (h : List ℕ → ℕ) (hash : Hash h) (s : List ℕ) (p i 
                 (λ E. names (E .from) (omega (arith, E .to, same-pages)) (E .calls))
                 (W .named .entries i l)
 
-            pub split-directed : Directed S h t (dirDepth s) (pages S s) t
+            split-directed : Directed S h t (dirDepth s) (pages S s) t
             split-directed = renewed S sized h s A (depth g) v t split-kept (record { pages = its-pages; others = others; own = own })
 
-          pub heavy-new : (u : List ℕ) → Directed S h t (deepestIn (contents S t)) (pages S s) u → ((k : ℕ) → byte u k < 256)
-              → Answers (putAccepted S h s (newRow c pl)) (new, u)
-          heavy-new u D b =
-              inr (
-                (λ _. none-some absent),
+          -- and the counts are true
+          module _ (t′ : List ℕ) (R : Recounted S t t′) where
+            pub split-settleable : Settleable S t′ (pages S s)
+            split-settleable = settleable S sized h hash s A t split-kept t′ (R .old) (R .counts)
+
+            pub split-directed-then : deepestIn (contents S t′) ≡ dirDepth s → Directed S h t′ (dirDepth s) (pages S s) t′
+            split-directed-then e =
+                let l : pages S t ≡ pages S s = ap (λ m. m / size S) (split-kept .long) in
+                directed-then S sized t t′ (R .old) h (dirDepth s) (pages S s) (omega (arith, l)) (split-directed (ap deepestIn (sym (same-contents S sized t t′ (R .old))) ∙ e))
+
+            pub heavy-new : (u : List ℕ) → Directed S h t′ (deepestIn (contents S t′)) (pages S s) u → ((k : ℕ) → byte u k < 256)
+                → Answers (putAccepted S h s (newRow c pl)) (new, u)
+            heavy-new u D b =
                 inr (
-                  (λ _. six),
+                  (λ _. none-some absent),
                   inr (
-                    (λ _. seven),
-                    (refl, rw (← holds) (settled S sized h hash s A t split-kept u D (r ∷ rowsHeld S s) shown (one-more r _ (P .folded) (held-folded S h sized hash s A)) b)),
+                    (λ _. six),
+                    inr (
+                      (λ _. seven),
+                      (refl, rw (← holds) (settled S sized h hash s A t split-kept t′ (R .old) (R .counts) u D (r ∷ rowsHeld S s) shown (one-more r _ (P .folded) (held-folded S h sized hash s A)) b)),
+                    ),
                   ),
-                ),
-              )
+                )

@@ -40,12 +40,13 @@ use Rattle.store.proofs.Accepted.Reading.{entryOf, lookup-none}
 use Rattle.store.proofs.Put.PutCases.{unheld-six, unheld-seven, put-unheld-is}
 use Rattle.store.proofs.Put.PutRows.{put-shown}
 use Rattle.store_check.proofs.Naming.{room as room-for}
-use Rattle.directory.specs.Directory.{CallsFor, EntryFor, names, PrefixNamed, Directed, Rewritten}
+use Rattle.directory.specs.Directory.{CallsFor, EntryFor, names, PrefixNamed, Directed, Settling, Recounted, Rewritten}
 use Rattle.directory.proofs.Frees.{used-page}
 use Rattle.directory.proofs.Renews.{prefix-pages, prefix-holds, prefix-kept, renewed}
 use Rattle.putting.specs.Put.{newRow, Puttable, Homeless, Unset, Vacant}
 use Rattle.directory.proofs.Vacancy.{off, set-entry, some-row}
-use Rattle.directory.proofs.Settles.{rewritten-set, set-holds, unwritten, settled}
+use Rattle.directory.proofs.Recounts.{same-contents, directed-then}
+use Rattle.directory.proofs.Settles.{rewritten-set, set-holds, unwritten, settling, settled}
 use Rattle.putting.proofs.Splits.{rewritten-then, rewritten-self}
 
 -- a free page that gets a bucket no deeper than the deepest leaves the largest depth
@@ -218,15 +219,27 @@ module _ (S : Shape) (h : List ℕ → ℕ) (hash : Hash h) (s : List ℕ) (x : 
       directed : Directed S h t (deepestIn (contents S t)) (pages S s) t
       directed = subst (λ n. Directed S h t n (pages S s) t) (sym same-depth) (renewed S sized h s A k v t kept (record { pages = each; others = others; own = own }))
 
-      pub unheld-new : ((i : ℕ) → byte t i < 256) → Answers (putAccepted S h s (newRow c pl)) (new, t)
-      unheld-new b =
-          inr (
-            (λ _. none-some absent),
+      -- the pages to count
+      pub to-count : Settling S t (pages S s)
+      to-count = settling S sized h hash s A t kept
+
+      -- and the counts are true
+      module _ (u : List ℕ) (R : Recounted S t u) where
+        directed-now : Directed S h u (deepestIn (contents S u)) (pages S s) u
+        directed-now =
+            let l : pages S t ≡ pages S s = ap (λ n. n / size S) (kept .long) in
+            subst (λ gs. Directed S h u (deepestIn gs) (pages S s) u) (sym (same-contents S sized t u (R .old)))
+            (directed-then S sized t u (R .old) h (deepestIn (contents S t)) (pages S s) (omega (arith, l)) directed)
+
+        pub unheld-new : ((i : ℕ) → byte u i < 256) → Answers (putAccepted S h s (newRow c pl)) (new, u)
+        unheld-new b =
             inr (
-              (λ _. six),
+              (λ _. none-some absent),
               inr (
-                (λ _. room),
-                (refl, rw (← holds-then) (settled S sized h hash s A t kept t directed (r ∷ rowsHeld S s) (rw holds-then (put-shown S h sized hash s r A absent six room)) (one-more r _ (P .folded) (held-folded S h sized hash s A)) b)),
+                (λ _. six),
+                inr (
+                  (λ _. room),
+                  (refl, rw (← holds-then) (settled S sized h hash s A t kept u (R .old) (R .counts) u directed-now (r ∷ rowsHeld S s) (rw holds-then (put-shown S h sized hash s r A absent six room)) (one-more r _ (P .folded) (held-folded S h sized hash s A)) b)),
+                ),
               ),
-            ),
-          )
+            )

@@ -15,6 +15,7 @@ use super::vacant::vacant_depth;
 use directory::free_pages;
 use directory::lowest_free;
 use directory::name_prefix;
+use directory::recount;
 use partition::Shape;
 use store_check::Length;
 
@@ -48,6 +49,7 @@ fn insert_new(
     let a = p * size;
     let e = a + size;
     page::insert_row(&mut s[a..e], i, key, place, scratch);
+    counts::raise(s, 0);
     store::Answer::New
 }
 
@@ -91,6 +93,7 @@ fn insert_fitting(
     let f = words::get16(&s[a..e], 4);
     if f + 4 * n + 12 + key.len() <= size {
         page::insert_at_frontier(&mut s[a..e], i, key, place);
+        counts::raise(s, 0);
         return store::Answer::New;
     }
     insert_lent(s, z, p, i, key, place)
@@ -113,6 +116,7 @@ fn new_bucket(s: &mut [u8], z: Shape, x: u32, key: &[u8], place: &[u8]) -> store
     let e = a + size;
     page::start_page(&mut s[a..e], k as u8, key, place);
     name_prefix(s, z, x, k, d, p);
+    recount(s, z, n);
     store::Answer::New
 }
 

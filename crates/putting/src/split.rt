@@ -15,6 +15,7 @@ use super::weigh::load;
 use directory::free_pages;
 use directory::lowest_free;
 use directory::name_prefix;
+use directory::recount;
 use directory::settle_depth;
 use partition::Shape;
 
@@ -120,6 +121,7 @@ fn split(
     let d = words::get32(s, 16);
     name_prefix(s, z, x, k, d as u32, 0);
     write_below(s, z, d as u32, from, i, key, place, hs, ns, k, v, p);
+    recount(s, z, n);
     settle_depth(s, z, n, d);
     store::Answer::New
 }

@@ -29,21 +29,29 @@ use Rattle.partition.proofs.Bits.{top-step, top-lt}
 use Rattle.partition.proofs.Laws.{Shallowest, share-fewer, bucket-shallowest}
 use Rattle.partition.proofs.Maps.{cut, cut-none, cut-front, cut-length, cut-same, cut-gone, once-remove}
 use Rattle.partition.proofs.Path.{fit-above}
-use Rattle.partition.proofs.Reorders.{needs-same, rows-same, mem-reordered}
+use Rattle.partition.proofs.Reorders.{length-same, needs-same, rows-same, mem-reordered}
 use Rattle.partition.proofs.Rising.{tab-in, tab-member, without-member, without-map}
 use Rattle.partition.proofs.Rows.{load, load-mono, rows-on, some-need}
 use Rattle.partition.proofs.Sorted.{by-code, order-same, in-order-reordered, some-none, some-once}
 use Rattle.partition.specs.declared.Shape.{Shape}
 use Rattle.store.specs.Pages.{size, pages, Page, free, bucket, page, read, entryAt, dirDepth, contents, asRow, rowsHeld, deepestIn, setPage}
 use Rattle.store.specs.Accepted.{Bucket, Stands, unused, used, Calls}
+use Rattle.words.specs.Le.{le32}
+use Rattle.words.specs.Moves.{Frame}
 use Rattle.words.proofs.Bytes.{le32-same}
 use Rattle.store.specs.Moves.{pick, find, holds, within, packFrom, packed, clearedOn, removed}
 use Rattle.store.specs.Tables.{Becomes}
+use Rattle.store.specs.Counts.{bucketsAt}
 use Rattle.store.specs.Demands.{Sized, Hash}
 use Rattle.store.proofs.Accepted.Rules.{opened}
+use Rattle.store.proofs.Counts.Counted.{same-depth-count}
+use Rattle.counts.specs.Tallies.{Lowered}
+use Rattle.counts.proofs.Raises.{inside-counts, word-kept}
+use Rattle.removal.proofs.Lowers.{counts-fewer}
 use Rattle.store.proofs.Showing.Shows.{firstCode, prefixOn, Holding, OnPage, Shows}
 use Rattle.store.proofs.Showing.Shown.{within-on, within-pages, find-least, find-passes}
 use Rattle.store.proofs.Accepted.Named.{calls-hash}
+use Rattle.store.proofs.Accepted.Unique as Unique
 use Rattle.store.proofs.Accepted.Unique.{read-zero, read-used, held, page-long}
 use Rattle.store.proofs.Accepted.Owner.{entry-within}
 use Rattle.store.proofs.Showing.Showing.{first-of, first-code, calls-top, accepted-shows, pages-held}
@@ -54,10 +62,10 @@ use Rattle.store.proofs.Remove.MoveRows.{remove-shown}
 use Rattle.store.proofs.Remove.RemoveCases as Cases
 use Rattle.store.proofs.Showing.Within.{one-depth, rows-within}
 use Rattle.store.proofs.Accepted.Spelled.{AllFolded, held-folded, one-less}
-use Rattle.store.proofs.Accepted.Accepting.{Laid, accepted-laid, laid-becomes}
+use Rattle.store.proofs.Accepted.Accepting.{Laid, accepted-laid, laid-becomes, recounted}
 use Rattle.store.proofs.Paging.PageTies.{row-in, zeros, read-cleared, page-once, found-at, removed-rows}
 use Rattle.store.proofs.Paging.Views.{set-long, set-same, set-other, set-below, set-contents}
-use Rattle.directory.specs.Directory.{CallsFor, none, names, PrefixNamed, Directed, SoundPage, free as vacant, used as occupied, Rewritten}
+use Rattle.directory.specs.Directory.{CallsFor, none, names, PrefixNamed, Directed, SoundPage, free as vacant, used as occupied, Settleable, Recounted, Rewritten}
 use Rattle.directory.proofs.Directories.{calls-same}
 use Rattle.directory.proofs.Laying.{on-page}
 use Rattle.directory.proofs.Renews.{packed-bits, prefix-pages, prefix-holds, prefix-kept, one-calls, entry-calls, renewed}
@@ -65,7 +73,8 @@ use Rattle.removal.specs.Prefix.{Climbed}
 use Rattle.removal.specs.Join.{othersIn, OfPrefix, NamedBy, Joinable, joinedPages, Rejoined}
 use Rattle.removal.specs.Remove.{Leaving, rowsLeft, Fits}
 use Rattle.directory.proofs.OnePage.{laid-set}
-use Rattle.directory.proofs.Settles.{unwritten, settling, settled}
+use Rattle.directory.proofs.Recounts.{directed-then}
+use Rattle.directory.proofs.Settles.{unwritten, settling, settleable, settled}
 use Rattle.removal.proofs.Prefixes.{within-used}
 use Rattle.removal.proofs.Gathers.{cut-append, cut-same as cut-key}
 
@@ -218,19 +227,47 @@ module _ (S : Shape) (sized : Sized S) (h : List ℕ → ℕ) (hash : Hash h) (s
           positive : 0 < needs (rowsOf h (rowsLeft S s c) j (top j x))
           positive = omega (arith, ap (λ d. needs (rowsOf h (rowsLeft S s c) d (top d x))) own, rest-needs, some-need rest .0 (omega (arith, many)))
 
-      pub loses : ((m : ℕ) → byte (setPage S s p q) m < 256) → Becomes S h s (removed S h gs c) (setPage S s p q)
-      loses small =
-          laid-becomes S h sized hash (setPage S s p q) (rowsLeft S s c) (removed S h gs c)
-          (subst (Laid S h (setPage S s p q)) (sym written)
-          (laid-set S h sized s gs (accepted-laid S h sized hash s (L .accepted)) p k (rows g) (L .from) (L .to) holding q kept (R .long ∙ long) (R .deep) still))
-          after spelled s (set-long S s p q (L .to) (R .long ∙ long)) small
+      abbrev s₁ : List ℕ
+      s₁ = setPage S s p q
 
-    -- pages written anew and settled
-    module _ {t u : List ℕ} (W : Rewritten S s t) (holds-then : contents S t ≡ removed S h gs c) (D : Directed S h t (deepestIn (contents S t)) (pages S s) u) where
-      pub settles : ((m : ℕ) → byte u m < 256) → Becomes S h s (removed S h gs c) u
-      settles small =
+      -- page 0 stays
+      counts-below : (m : ℕ) → 24 ≤ m → m < 80 → byte s₁ m ≡ byte s m
+      counts-below m a b = set-below S s p q (L .to) (R .long ∙ long) m (omega (arith, mul-le-mul-right (size S) (L .from), sized .least))
+
+      one-left : length rs ≡ suc (length (rowsLeft S s c))
+      one-left = cut-length c old rs (shows .once) (L .known)
+
+      -- and the number of rows can be one less
+      pub row-less : (28 + 4 * 0 ≤ length (setPage S s p q)) × (1 ≤ le32 (setPage S s p q) (24 + 4 * 0))
+      row-less =
+          let e : le32 s₁ 24 ≡ le32 s 24 = word-kept s s₁ counts-below 0 (omega arith) in (
+            omega (arith, set-long S s p q (L .to) (R .long ∙ long), Unique.within S s p (L .to), sized .least),
+            omega (arith, e, opened S h s (L .accepted) .counts .rows, one-left),
+          )
+
+      pub loses : (u : List ℕ) → Lowered (setPage S s p q) 0 u → ((m : ℕ) → byte u m < 256) → Becomes S h s (removed S h gs c) u
+      loses u D small =
+          let F : Frame s₁ 24 56 u = inside-counts s₁ u 0 _ (omega arith) D in
+          let M : Laid S h u (removed S h gs c) = recounted S h sized s₁ u (removed S h gs c) F (subst (Laid S h s₁) (sym written)
+          (laid-set S h sized s gs (accepted-laid S h sized hash s (L .accepted)) p k (rows g) (L .from) (L .to) holding q kept (R .long ∙ long) (R .deep) still)) in
+          laid-becomes S h sized hash u (rowsLeft S s c) (removed S h gs c) M after spelled s (F .len ∙ set-long S s p q (L .to) (R .long ∙ long)) small
+          (counts-fewer S s s₁ u (removed S h gs c) (opened S h s (L .accepted) .counts) counts-below D (M .holds) (omega (arith, length-same (after .same), one-left))
+          (λ m. ap (bucketsAt m) written ∙ same-depth-count m gs (p - 2) k (rows g) (rows q) (within-pages gs (p - 2) k (rows g) holding) holding))
+
+    -- pages written anew, counted and settled
+    module _ {t t′ : List ℕ} (W : Rewritten S s t) (N : Recounted S t t′) where
+      pub can-settle : Settleable S t′ (pages S s)
+      can-settle = settleable S sized h hash s (L .accepted) t W t′ (N .old) (N .counts)
+
+      pub directed-still : Directed S h t (dirDepth s) (pages S s) t → Directed S h t′ (dirDepth s) (pages S s) t′
+      directed-still D =
+          let l : pages S t ≡ pages S s = ap (λ n. n / size S) (W .long) in
+          directed-then S sized t t′ (N .old) h (dirDepth s) (pages S s) (omega (arith, l)) D
+
+      pub settles : {u : List ℕ} → contents S t ≡ removed S h gs c → Directed S h t′ (deepestIn (contents S t′)) (pages S s) u → ((m : ℕ) → byte u m < 256) → Becomes S h s (removed S h gs c) u
+      settles {u} holds-then D small =
           subst (λ l. Becomes S h s l u) holds-then
-          (settled S sized h hash s (L .accepted) t W u D (rowsLeft S s c) (subst (Shows S h (rowsLeft S s c)) (sym holds-then) after) spelled small)
+          (settled S sized h hash s (L .accepted) t W t′ (N .old) (N .counts) u D (rowsLeft S s c) (subst (Shows S h (rowsLeft S s c)) (sym holds-then) after) spelled small)
 
     -- ---- nothing left on the page: it is cleared
 

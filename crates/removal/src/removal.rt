@@ -14,6 +14,7 @@ ghost use Rattle.removal.specs.Remove.{Leaving};
 use super::join::join_lent;
 use super::prefix::climb;
 use directory::name_prefix;
+use directory::recount;
 use directory::settle_depth;
 use partition::Shape;
 use query::Spot;
@@ -34,16 +35,19 @@ fn take_out(s: &mut [u8], z: Shape, p: usize, i: usize, key: &[u8], x: u32)
     if j < k {
         let low = join_lent(s, z, n, x, j, key);
         name_prefix(s, z, x, j, d as u32, low);
+        recount(s, z, n);
         settle_depth(s, z, n, d);
         return;
     }
     if words::get16(&s[a..e], 2) == 1 {
         page::clear_page(&mut s[a..e]);
         name_prefix(s, z, x, k, d as u32, 0);
+        recount(s, z, n);
         settle_depth(s, z, n, d);
         return;
     }
     page::remove_slot(&mut s[a..e], i);
+    counts::lower(s, 0);
 }
 
 // Remove of a code as it is stored, on an accepted store.

@@ -1,5 +1,5 @@
 -- `putting::split` meets its contract: refusals 6 and 7, else the new buckets, then the directory. Assumes nothing.
-use Rattle.putting.proofs.Heavy.{home, shallow, heavy-six, heavy-seven, as-many, source, writable-then, split-kept, split-directed, heavy-new}
+use Rattle.putting.proofs.Heavy.{home, shallow, heavy-six, heavy-seven, as-many, source, writable-then, split-kept, split-settleable, split-directed-then, heavy-new}
 use Rattle.directory.specs.Directory.{PrefixNamed, Directed}
 use Rattle.directory.proofs.Settles.{long-pages, settling}
 use Rattle.store.proofs.Accepted.Rules.{opened}
@@ -376,42 +376,59 @@ write-below-requires c κs =
           (writable-then (S z) fnv fnv-lt (s z) (p z) (i z) (key z) (place z) (C z) f (room w) (s₁ y) (freed y)));
     }
 
-settle-depth-requires : tie.Need-settle-depth-requires
-settle-depth-requires c κs =
+recount-requires : tie.Need-recount-requires
+recount-requires c κs =
     let x = c .before .before .before in
     let z = z7 x in
     let w = w7 x in
-    let P = C z .row .row in
+    let P = C z .row .row in (
+      P .sized,
+      settling (S z) (P .sized) fnv fnv-lt (s z) (P .accepted) (t7 x)
+          (split-kept (S z) fnv fnv-lt (s z) (p z) (i z) (key z) (place z) (C z) (fine (d4 w)) (room w) (s₁ (y7 x)) (freed (y7 x)) (t7 x) (x .write-below .result) (wrote x)),
+    )
+
+-- the counts
+module _ (r : tie.After-recount) where
+  abbrev x8 : tie.After-write-below
+  x8 = r .before .before .before .before
+
+  abbrev t8 : List ℕ
+  t8 = r .recount .last .0
+
+settle-depth-requires : tie.Need-settle-depth-requires
+settle-depth-requires c κs =
+    let r = c .before .before .before in
+    let x = x8 r in
+    let z = z7 x in
+    let w = w7 x in
     let f = fine (d4 w) in
     let n = x .write-below .result in
     let q = depth-read (m6 (y7 x)) in (
-      record {
-        sized = P .sized;
-        pages = settling (S z) (P .sized) fnv fnv-lt (s z) (P .accepted) (t7 x) (split-kept (S z) fnv fnv-lt (s z) (p z) (i z) (key z) (place z) (C z) f (room w) (s₁ (y7 x)) (freed (y7 x)) (t7 x) n (wrote x));
-      },
-      (λ e. subst (λ d. Directed (S z) fnv (t7 x) d (pages (S z) (s z)) (t7 x)) (sym q)
-          (split-directed (S z) fnv fnv-lt (s z) (p z) (i z) (key z) (place z) (C z) f (room w) (s₁ (y7 x)) (freed (y7 x)) (t7 x) n (wrote x) (e ∙ q))),
+      split-settleable (S z) fnv fnv-lt (s z) (p z) (i z) (key z) (place z) (C z) f (room w) (s₁ (y7 x)) (freed (y7 x)) (t7 x) n (wrote x) (t8 r) (r .recount .ensures),
+      (λ e. subst (λ d. Directed (S z) fnv (t8 r) d (pages (S z) (s z)) (t8 r)) (sym q)
+          (split-directed-then (S z) fnv fnv-lt (s z) (p z) (i z) (key z) (place z) (C z) f (room w) (s₁ (y7 x)) (freed (y7 x)) (t7 x) n (wrote x) (t8 r) (r .recount .ensures) (e ∙ q))),
     )
 
 same-length-9 : tie.Need-same-length-9
 same-length-9 c = search Needs.needs
 
 same-length-10 : tie.Need-same-length-10
-same-length-10 c = lent-page (t3 (d4 (w7 (c .before .before .before .before .before .before))))
+same-length-10 c = lent-page (t3 (d4 (w7 (x8 (c .before .before .before .before .before .before)))))
 
 same-length-11 : tie.Need-same-length-11
-same-length-11 c = lent-hashes (t3 (d4 (w7 (c .before .before .before .before .before .before))))
+same-length-11 c = lent-hashes (t3 (d4 (w7 (x8 (c .before .before .before .before .before .before)))))
 
 same-length-12 : tie.Need-same-length-12
-same-length-12 c = lent-needs (t3 (d4 (w7 (c .before .before .before .before .before .before))))
+same-length-12 c = lent-needs (t3 (d4 (w7 (x8 (c .before .before .before .before .before .before)))))
 
 returns-3 : tie.Need-returns-3
 returns-3 c =
-    let x = c .before .before .before .before .before .before in
+    let r = c .before .before .before .before .before .before in
+    let x = x8 r in
     let z = z7 x in
     let w = w7 x in
-    heavy-new (S z) fnv fnv-lt (s z) (p z) (i z) (key z) (place z) (C z) (fine (d4 w)) (room w) (s₁ (y7 x)) (freed (y7 x)) (t7 x) (x .write-below .result) (wrote x)
-    (c .before .before .settle-depth .last .0) (c .before .before .settle-depth .ensures) (λ k. (c .slice-known11 .given k) .fits)
+    heavy-new (S z) fnv fnv-lt (s z) (p z) (i z) (key z) (place z) (C z) (fine (d4 w)) (room w) (s₁ (y7 x)) (freed (y7 x)) (t7 x) (x .write-below .result) (wrote x) (t8 r) (r .recount .ensures)
+    (c .before .before .settle-depth .last .0) (c .before .before .settle-depth .ensures) (λ k. (c .slice-known12 .given k) .fits)
 
 pub split-spec : {M : Type 1} → statement M
 split-spec =
@@ -451,6 +468,7 @@ split-spec =
     name-prefix-requires
     cast-write-below
     write-below-requires
+    recount-requires
     settle-depth-requires
     same-length-9
     same-length-10

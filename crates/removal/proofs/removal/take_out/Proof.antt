@@ -27,7 +27,7 @@ use Rattle.removal.specs.Join.{Joinable, Rejoined}
 use Rattle.removal.specs.Prefix.{Climbed}
 use Rattle.directory.specs.Directory.{Settling, PrefixNamed, Directed, Rewritten}
 use Rattle.directory.proofs.Settles.{unwritten, settling}
-use Rattle.removal.proofs.Removes.{page-low, page-shallow, its-bucket, climbed-fits, loses, settles, clear-written, clear-kept, clear-then, clear-directed, joinable, low-from, low-to, join-kept, join-then, join-directed}
+use Rattle.removal.proofs.Removes.{page-low, page-shallow, its-bucket, climbed-fits, row-less, loses, can-settle, directed-still, settles, clear-written, clear-kept, clear-then, clear-directed, joinable, low-from, low-to, join-kept, join-then, join-directed}
 use Rattle.store.proofs.Paging.Depths.{page-byte}
 use Rattle.store.proofs.Paging.Views.{page-lent, page-back}
 use Rattle.removal.proofs.removal.take_out.Statement.{statement}
@@ -247,15 +247,29 @@ name-prefix-requires c κs =
       },
     )
 
+recount-requires : tie.Need-recount-requires
+recount-requires c κs =
+    let y = c .before .before .before in
+    let z = z₅ y in
+    (sized z, settling (S z) (sized z) fnv fnv-lt (s z) (L z .accepted) (t₅ y) (kept y))
+
+-- the counts then
+module _ (r : tie.After-recount) where
+  abbrev y₈ : tie.After-name-prefix
+  y₈ = r .before .before .before .before
+
 settle-depth-requires : tie.Need-settle-depth-requires
 settle-depth-requires c κs =
-    let y = c .before .before .before in
+    let r = c .before .before .before in
+    let t = r .recount .last .0 in
+    let y = y₈ r in
     let z = z₅ y in
     let b = b₅ y in
     let q = deep-read (d₄ (e₅ y)) in (
-      record { sized = sized z; pages = settling (S z) (sized z) fnv fnv-lt (s z) (L z .accepted) (t₅ y) (kept y) },
-      (λ _. subst (λ d. Directed (S z) fnv (t₅ y) d (pages (S z) (s z)) (t₅ y)) (sym q)
-          (join-directed (S z) (sized z) fnv fnv-lt (s z) (p z) (z .args .i) (key z) (L z) (j b) (fits b) (fewer (e₅ y)) (rejoined (e₅ y)) (named y))),
+      can-settle (S z) (sized z) fnv fnv-lt (s z) (p z) (z .args .i) (key z) (L z) (j b) (fits b) (kept y) (r .recount .ensures),
+      (λ _. subst (λ d. Directed (S z) fnv t d (pages (S z) (s z)) t) (sym q)
+          (directed-still (S z) (sized z) fnv fnv-lt (s z) (p z) (z .args .i) (key z) (L z) (j b) (fits b) (kept y) (r .recount .ensures)
+          (join-directed (S z) (sized z) fnv fnv-lt (s z) (p z) (z .args .i) (key z) (L z) (j b) (fits b) (fewer (e₅ y)) (rejoined (e₅ y)) (named y)))),
     )
 
 same-length : tie.Need-same-length
@@ -263,12 +277,13 @@ same-length c = search needs
 
 returns : tie.Need-returns
 returns c =
-    let y = c .before .before .before .before .before .before in
+    let r = c .before .before .before .before .before .before in
+    let y = y₈ r in
     let z = z₅ y in
     let b = b₅ y in
-    settles (S z) (sized z) fnv fnv-lt (s z) (p z) (z .args .i) (key z) (L z) (j b) (fits b) (kept y)
+    settles (S z) (sized z) fnv fnv-lt (s z) (p z) (z .args .i) (key z) (L z) (j b) (fits b) (kept y) (r .recount .ensures)
     (join-then (S z) (sized z) fnv fnv-lt (s z) (p z) (z .args .i) (key z) (L z) (j b) (fits b) (fewer (e₅ y)) (rejoined (e₅ y)) (named y))
-    (c .before .before .settle-depth .ensures) (λ m. (c .slice-known5 .given m) .fits)
+    (c .before .before .settle-depth .ensures) (λ m. (c .slice-known6 .given m) .fits)
 
 sub-get16 : tie.Need-sub-get16
 sub-get16 c = search needs
@@ -366,14 +381,28 @@ name-prefix-requires-2 c κs =
       },
     )
 
-settle-depth-requires-2 : tie.Need-settle-depth-requires-2
-settle-depth-requires-2 c κs =
+recount-requires-2 : tie.Need-recount-requires-2
+recount-requires-2 c κs =
     let y = c .before .before .before in
     let z = z₇ y in
+    (sized z, settling (S z) (sized z) fnv fnv-lt (s z) (L z .accepted) (u₇ y) (kept₇ y))
+
+-- the counts then
+module _ (r : tie.After-recount2) where
+  abbrev y₉ : tie.After-name-prefix2
+  y₉ = r .before .before .before .before
+
+settle-depth-requires-2 : tie.Need-settle-depth-requires-2
+settle-depth-requires-2 c κs =
+    let r = c .before .before .before in
+    let t = r .recount2 .last .0 in
+    let y = y₉ r in
+    let z = z₇ y in
     let b = b₇ y in (
-      record { sized = sized z; pages = settling (S z) (sized z) fnv fnv-lt (s z) (L z .accepted) (u₇ y) (kept₇ y) },
-      (λ _. subst (λ d. Directed (S z) fnv (u₇ y) d (pages (S z) (s z)) (u₇ y)) (sym (deep-read (e₆ (k₇ y))))
-          (clear-directed (S z) (sized z) fnv fnv-lt (s z) (p z) (z .args .i) (key z) (L z) (j b) (fits b) (own (d₆ (k₇ y))) (one-row (k₇ y)) (unnamed y))),
+      can-settle (S z) (sized z) fnv fnv-lt (s z) (p z) (z .args .i) (key z) (L z) (j b) (fits b) (kept₇ y) (r .recount2 .ensures),
+      (λ _. subst (λ d. Directed (S z) fnv t d (pages (S z) (s z)) t) (sym (deep-read (e₆ (k₇ y))))
+          (directed-still (S z) (sized z) fnv fnv-lt (s z) (p z) (z .args .i) (key z) (L z) (j b) (fits b) (kept₇ y) (r .recount2 .ensures)
+          (clear-directed (S z) (sized z) fnv fnv-lt (s z) (p z) (z .args .i) (key z) (L z) (j b) (fits b) (own (d₆ (k₇ y))) (one-row (k₇ y)) (unnamed y)))),
     )
 
 same-length-2 : tie.Need-same-length-2
@@ -381,12 +410,13 @@ same-length-2 c = search needs
 
 returns-2 : tie.Need-returns-2
 returns-2 c =
-    let y = c .before .before .before .before .before .before in
+    let r = c .before .before .before .before .before .before in
+    let y = y₉ r in
     let z = z₇ y in
     let b = b₇ y in
-    settles (S z) (sized z) fnv fnv-lt (s z) (p z) (z .args .i) (key z) (L z) (j b) (fits b) (kept₇ y)
+    settles (S z) (sized z) fnv fnv-lt (s z) (p z) (z .args .i) (key z) (L z) (j b) (fits b) (kept₇ y) (r .recount2 .ensures)
     (clear-then (S z) (sized z) fnv fnv-lt (s z) (p z) (z .args .i) (key z) (L z) (j b) (fits b) (own (d₆ (k₇ y))) (one-row (k₇ y)) (unnamed y))
-    (c .before .before .settle-depth2 .ensures) (λ m. (c .slice-known8 .given m) .fits)
+    (c .before .before .settle-depth2 .ensures) (λ m. (c .slice-known10 .given m) .fits)
 
 sub-remove-slot : tie.Need-sub-remove-slot
 sub-remove-slot c = search needs
@@ -401,17 +431,40 @@ remove-slot-requires : tie.Need-remove-slot-requires
 remove-slot-requires c κs = let z = z₂ (c .before .before) in
     rw (page-lent (S z) (s z) (p z)) (record { page = L z .rules .rules; within = L z .slot })
 
+-- the page without the record
+module _ (r : tie.After-remove-slot) where
+  abbrev d₉ : tie.After-get16
+  d₉ = r .before .before .before
+
+  abbrev z₉ : tie.Start
+  z₉ = z₂ d₉
+
+  abbrev q₉ : List ℕ
+  q₉ = r .remove-slot .last .0
+
+  out : Removed (g z₉) (z₉ .args .i) q₉
+  out = rw (page-lent (S z₉) (s z₉) (p z₉)) at (r .remove-slot .ensures)
+
+  two-rows : 2 ≤ count (g z₉)
+  two-rows = omega (arith, counted d₉, r .before .before .if2 .left, L z₉ .rules .some)
+
+lower-requires : tie.Need-lower-requires
+lower-requires c κs =
+    let r = c .before .before .before in
+    let z = z₉ r in
+    let b = b₂ (d₉ r) in
+    rw (back z (q₉ r)) (row-less (S z) (sized z) fnv fnv-lt (s z) (p z) (z .args .i) (key z) (L z) (j b) (fits b) (own (d₉ r)) (two-rows r) (q₉ r) (out r))
+
 same-length-3 : tie.Need-same-length-3
 same-length-3 c = search needs
 
 returns-3 : tie.Need-returns-3
-returns-3 c = let d = c .before .before .before .before .before in
-    let z = z₂ d in
-    let r = c .before .before .remove-slot in
-    let R : Removed (g z) (z .args .i) (r .last .0) = rw (page-lent (S z) (s z) (p z)) at (r .ensures) in
-    let two : 2 ≤ count (g z) = omega (arith, counted d, c .before .before .before .before .if2 .left, L z .rules .some) in
-    subst (Becomes (S z) fnv (s z) (then z)) (sym (back z (r .last .0)))
-    (loses (S z) (sized z) fnv fnv-lt (s z) (p z) (z .args .i) (key z) (L z) (j (b₂ d)) (fits (b₂ d)) (own d) two (r .last .0) R (λ m. subst (λ y. byte y m < 256) (back z (r .last .0)) ((c .slice-known9 .given m) .fits)))
+returns-3 c =
+    let r = c .before .before .before .before .before .before in
+    let z = z₉ r in
+    let b = b₂ (d₉ r) in
+    loses (S z) (sized z) fnv fnv-lt (s z) (p z) (z .args .i) (key z) (L z) (j b) (fits b) (own (d₉ r)) (two-rows r) (q₉ r) (out r)
+    _ (rw (back z (q₉ r)) at (c .before .before .lower .ensures)) (λ m. (c .slice-known12 .given m) .fits)
 
 pub take-out-spec : {M : Type 1} → statement M
 take-out-spec =
@@ -430,6 +483,7 @@ take-out-spec =
     join-lent-requires
     cast-name-prefix
     name-prefix-requires
+    recount-requires
     settle-depth-requires
     same-length
     returns
@@ -443,6 +497,7 @@ take-out-spec =
     clear-page-requires
     cast-name-prefix-2
     name-prefix-requires-2
+    recount-requires-2
     settle-depth-requires-2
     same-length-2
     returns-2
@@ -450,5 +505,6 @@ take-out-spec =
     part-remove-slot-start
     part-remove-slot-end
     remove-slot-requires
+    lower-requires
     same-length-3
     returns-3)
