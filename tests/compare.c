@@ -32,7 +32,7 @@ static const uint64_t no_sizes[] = {0, 1, 1016, 1023, 1025, 2048, 4095, 4097, 81
 enum { NO_SIZES = sizeof no_sizes / sizeof *no_sizes };
 
 static uint64_t state;
-static uint64_t steps, refused[16], inspected[16], in_batch[16], reached[3][13], full[3], joins, splits, respelled, capitals, unfilled[2];
+static uint64_t steps, refused[16], inspected[16], in_batch[16], reached[3][13], full[3], joins, splits, respelled, capitals, miscounts, unfilled[2];
 static const int numbers[] = {1, 2, 3, 4, 5, 6, 7, 8, 9, 12, 13, 14};
 enum { NUMBERS = sizeof numbers / sizeof *numbers };
 
@@ -467,11 +467,32 @@ static void filled_counts(void) {
     old_form(len, 60);
 }
 
+/* A check by both of a sound store with another count at this place, which is a fault of page 0; and with a fault of a later page besides, which is named before it. */
+static void wrong_count(size_t len, size_t at, uint32_t count) {
+    struct call check = {.kind = CHECK};
+    uint32_t true_count = number(ours + at);
+    size_t p = 2 + below(len / page_size - 2);
+    set_number(ours + at, count), set_number(theirs + at, count);
+    if (both(&check, len) != (LOTS_REFUSED | LOTS_BAD_PAGE)) fail("the check of a wrong count", at, count);
+    ours[p * page_size] = theirs[p * page_size] ^= 2; /* no kind of page */
+    if (lots_refusal_page(both(&check, len)) != p) fail("a page named before a wrong count", lots_refusal_page(lots_check(ours, len)), p);
+    ours[p * page_size] = theirs[p * page_size] ^= 2;
+    set_number(ours + at, true_count), set_number(theirs + at, true_count);
+    miscounts++;
+}
+
+/* Each byte of the counts in page 0 another, and each count one more and one less. */
+static void wrong_counts(size_t len) {
+    for (size_t at = 24; at < 80; at++) wrong_count(len, at & ~(size_t)3, number(ours + (at & ~(size_t)3)) ^ (1 + below(255)) << 8 * (at & 3));
+    for (size_t at = 24; at < 80; at += 4) wrong_count(len, at, number(ours + at) + 1), wrong_count(len, at, number(ours + at) - 1);
+}
+
 /* Every call on a store with some bytes changed. */
 static void damage(size_t len, int times, size_t many) {
     static uint8_t sound[MOST];
     memcpy(sound, ours, len);
     stored_capitals(len, times);
+    wrong_counts(len);
     old_form(len, times / 8);
     for (int t = 0; t < times; t++) {
         size_t at = 0;
@@ -935,8 +956,9 @@ static int crowd_store(size_t pages) {
         if (heaps[h].bits > depth) depth = heaps[h].bits;
         write_heap(heaps + h);
     }
-    const uint32_t head[] = {pages, page_size, sizes[by].entries, 2 * page_size, depth, by == 0 ? 0 : page_size};
-    for (int k = 0; k < 6; k++) set_number(theirs + 4 * k, head[k]);
+    uint32_t head[20] = {pages, page_size, sizes[by].entries, 2 * page_size, depth, by == 0 ? 0 : page_size};
+    for (int h = 0; h < heap_count; h++) head[6] += heaps[h].count, head[7 + heaps[h].bits]++;
+    for (int k = 0; k < 20; k++) set_number(theirs + 4 * k, head[k]);
     for (uint32_t i = 0; i < 1u << depth; i++) {
         struct heap *h = of_leaf[i << (sizes[by].deepest - depth)];
         set_number(theirs + page_size + 4 * i, h ? h->page : 0);
@@ -1082,6 +1104,7 @@ static int sum_up(uint64_t seed) {
         if (in_batch[i] == 0 && (i < 8 || i == 13)) bad = 1, printf("compare: no put of a batch was refused with %d\n", i);
     if (unfilled[0] == 0 || unfilled[1] == 0) bad = 1, printf("compare: counts were never filled in, or never refused\n");
     if (respelled == 0 || capitals == 0) bad = 1, printf("compare: no code was spelled anew, or no capital stored\n");
+    if (miscounts == 0) bad = 1, printf("compare: no count was wrong\n");
     for (int k = 0; k < 3; k++)
         if (reached[k][sizes[k].deepest] == 0 || (k > 0 && full[k] == 0)) bad = 1, printf("compare: the deepest depth or a full directory of %zu was never reached\n", sizes[k].page);
     return bad;

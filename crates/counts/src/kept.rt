@@ -13,12 +13,12 @@ pub fn rows_counted(s: &[u8]) -> usize
     words::get32(s, 24)
 }
 
-// The largest depth of which there is a bucket, by the counts; 0 for no rows.
-pub fn deepest_counted(s: &[u8]) -> usize
-    requires { ⌜ 80 ≤ length (now s) ⌝ }
-    ensures { λ r. ⌜ DeepestCounted (now (s .entry)) r ⌝ }
+// The largest depth, at most that many bits, of which there is a bucket, by the counts; 0 for none.
+pub fn deepest_counted(s: &[u8], most: usize) -> usize
+    requires { ⌜ (80 ≤ length (now s)) × (most ≤ 12) ⌝ }
+    ensures { λ r. ⌜ DeepestCounted (now (s .entry)) most r ⌝ }
 {
-    let mut k = 12;
+    let mut k = most;
     while 0 < k {
         if words::get32(s, 28 + 4 * k) != 0 {
             return k;

@@ -3,7 +3,7 @@ ghost use mathlib.Core.Path.{_≡_};
 ghost use Prim.Native.Nat.{_+_, _*_, _≤_, _<_};
 ghost use lib.ListN.{length, getD};
 ghost use Rattle.ground.specs.Says.{Says};
-ghost use Rattle.counts.specs.Tallies.{Tallying, TalliedTo, Tallyable, Tallied, SameCounts, CountsWritten};
+ghost use Rattle.counts.specs.Tallies.{Tallying, TalliedTo, Tallyable, Tallied, SameCounts, CountsWritten, CountsDue, CountsNow, oneMore, oneLess};
 use partition::Shape;
 
 // What page p has goes to the counts of the pages before it.
@@ -47,6 +47,34 @@ pub fn are_counts(s: &[u8], tallies: &[u32]) -> bool
     true
 }
 
+// The counts in page 0 go to the array.
+pub fn read_counts(s: &[u8], tallies: &mut [u32])
+    requires { ⌜ (80 ≤ length (now s)) × (length (now tallies) ≡ 14) ⌝ }
+    ensures { λ _. ⌜ (length (now (tallies .exit)) ≡ 14) × SameCounts (now (s .entry)) (now (tallies .exit)) ⌝ }
+{
+    let mut j = 0;
+    while j < 14 {
+        tallies[j] = words::get32(s, 24 + 4 * j) as u32;
+        j += 1;
+    }
+}
+
+// Count j of the array is one more.
+pub fn count_up(tallies: &mut [u32], j: usize)
+    requires { ⌜ (j < length (now tallies)) × (getD (now tallies) j 0 + 1 < 4294967296) ⌝ }
+    ensures { λ _. ⌜ now (tallies .exit) ≡ oneMore (now (tallies .entry)) j ⌝ }
+{
+    tallies[j] = tallies[j] + 1;
+}
+
+// Count j of the array is one less.
+pub fn count_down(tallies: &mut [u32], j: usize)
+    requires { ⌜ (j < length (now tallies)) × (1 ≤ getD (now tallies) j 0) ⌝ }
+    ensures { λ _. ⌜ now (tallies .exit) ≡ oneLess (now (tallies .entry)) j ⌝ }
+{
+    tallies[j] = tallies[j] - 1;
+}
+
 // These counts go to page 0.
 pub fn write_counts(s: &mut [u8], tallies: &[u32])
     requires { ⌜ (80 ≤ length (now s)) × (length (now tallies) ≡ 14) ⌝ }
@@ -57,4 +85,13 @@ pub fn write_counts(s: &mut [u8], tallies: &[u32])
         words::put32(s, 24 + 4 * j, tallies[j] as usize);
         j += 1;
     }
+}
+
+// That many rows and the array's counts of buckets go to page 0.
+pub fn write_counted(s: &mut [u8], tallies: &mut [u32], rows: usize)
+    requires { ⌜ CountsDue (now s) (now tallies) rows ⌝ }
+    ensures { λ _. ⌜ CountsNow (now (s .entry)) rows (now (tallies .entry)) (now (s .exit)) ⌝ }
+{
+    tallies[0] = rows as u32;
+    write_counts(s, tallies);
 }

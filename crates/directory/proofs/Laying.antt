@@ -13,7 +13,6 @@ use Rattle.partition.specs.declared.Shape.{Shape}
 use Rattle.store.specs.Pages.{size, pages, page, entryAt, Page, bucket, read, contents, deepestIn}
 use Rattle.store.specs.Accepted.{GoodLength, Calls}
 use Rattle.store.specs.Demands.{Sized}
-use Rattle.partition.proofs.Sizes.{twelve}
 use Rattle.counts.specs.Tallies.{DeepestCounted}
 use Rattle.counts.proofs.Deepest.{told-deepest}
 use Rattle.store.proofs.Showing.Shows.{prefixOn, Holding}
@@ -24,7 +23,7 @@ use Rattle.store.proofs.Showing.Showing.{first-code, pages-held}
 use Rattle.store.proofs.Accepted.Named as Named
 use Rattle.store.proofs.Accepted.Named.{deepest-le, deepest-bound}
 use Rattle.store.proofs.Accepted.Accepting.{Head, Whole, Laid, head-kept, contents-kept, each-kept}
-use Rattle.directory.specs.Directory.{EntryFor, none, names, Directed, Directable, SoundPage, free, used, Settling, Settleable}
+use Rattle.directory.specs.Directory.{EntryFor, none, names, Directed, Directable, SoundPage, free, used, Settling, Settleable, SettleDue}
 
 module _ (S : Shape) (s : List ℕ) (n : ℕ) (P : Settling S s n) where
   many : pages S s ≡ n
@@ -114,8 +113,8 @@ module _ (S : Shape) (s : List ℕ) (n : ℕ) (P : Settling S s n) where
     }
 
 -- the depth that true counts tell is the largest bucket depth
-pub told-depth : (S : Shape) (s : List ℕ) (n : ℕ) → Settleable S s n → (d : ℕ) → DeepestCounted s d → d ≡ deepestIn (contents S s)
-told-depth S s n P d D = sym (told-deepest S s d (P .counts) (omega (arith, deep-most S s n (P .pages), twelve S (P .sized))) D)
+pub told-depth : (S : Shape) (h : List ℕ → ℕ) (s : List ℕ) (n d most : ℕ) → SettleDue S h s n d most → (r : ℕ) → DeepestCounted s most r → r ≡ deepestIn (contents S s)
+told-depth S h s n d most P r D = sym (told-deepest S s most r (P .store .counts) (P .limit) (P .low) D)
 
 -- page 0 has room for its counts
 pub room-counts : (S : Shape) (s : List ℕ) (n : ℕ) → Settleable S s n → 80 ≤ length s

@@ -10,13 +10,13 @@ use Rattle.words.specs.Moves.{Frame}
 use Rattle.words.proofs.Bytes.{le32-same}
 use Rattle.partition.specs.declared.Shape.{Shape}
 use Rattle.partition.proofs.Sizes.{twelve}
-use Rattle.store.specs.Pages.{size, pages, page, read, depthOn, contents, dirDepth, entryAt}
-use Rattle.store.specs.Counts.{Counts, counted}
+use Rattle.store.specs.Pages.{size, pages, page, read, depthOn, contents, rowsIn, rowsHeld, dirDepth, entryAt}
+use Rattle.store.specs.Counts.{bucketsAt, counted}
 use Rattle.store.specs.Demands.{Sized}
 use Rattle.store.proofs.Counts.Words.{word-counts}
 use Rattle.store.proofs.Accepted.Unique.{read-zero, read-used}
 use Rattle.store.proofs.Accepted.Accepting.{contents-kept, page-kept}
-use Rattle.counts.specs.Tallies.{Tallied, CountsWritten}
+use Rattle.counts.specs.Tallies.{Tallied, BucketsCounted, CountsWritten, CountsNow}
 use Rattle.directory.specs.Directory.{CallsFor, EntryFor, none, names, Directed, SoundPage, free, used, Settling, Recounted}
 use Rattle.directory.proofs.Directories.{calls-same}
 
@@ -73,3 +73,12 @@ recounted-by S sized s tallies t T W = record {
   old = W .old;
   counts = word-counts S t (λ j l. W .new j l ∙ T .each j l ∙ ap (λ gs. counted gs j) (sym (same-contents S sized s t (W .old))));
 }
+
+-- and so are those of buckets that an array has, with the number of rows
+pub recounted-now : (S : Shape) → Sized S → (s : List ℕ) (m : ℕ) (tallies t : List ℕ) → BucketsCounted (contents S s) tallies → m ≡ length (rowsHeld S s) → CountsNow s m tallies t → Recounted S s t
+recounted-now S sized s m tallies t B e W =
+    let same : contents S t ≡ contents S s = same-contents S sized s t (W .old) in
+    record {
+      old = W .old;
+      counts = record { rows = W .rows ∙ e ∙ ap (λ gs. length (rowsIn gs)) (sym same); buckets = λ k l. W .buckets k l ∙ B .each k l ∙ ap (bucketsAt k) (sym same) };
+    }

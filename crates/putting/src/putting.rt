@@ -15,7 +15,6 @@ use super::vacant::vacant_depth;
 use directory::free_pages;
 use directory::lowest_free;
 use directory::name_prefix;
-use directory::recount;
 use partition::Shape;
 use store_check::Length;
 
@@ -116,7 +115,8 @@ fn new_bucket(s: &mut [u8], z: Shape, x: u32, key: &[u8], place: &[u8]) -> store
     let e = a + size;
     page::start_page(&mut s[a..e], k as u8, key, place);
     name_prefix(s, z, x, k, d, p);
-    recount(s, z, n);
+    counts::raise(s, 0);
+    counts::raise(s, 1 + k as usize);
     store::Answer::New
 }
 

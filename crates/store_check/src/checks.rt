@@ -153,9 +153,9 @@ pub fn first_bad(s: &[u8], z: Shape) -> usize
     ensures { λ r. ⌜ Judged z fnv (now (s .entry)) r ⌝ }
 {
     let n = s.len() / (8 + z.capacity);
-    let p = judge_sized(s, z, 80);
-    if p < n {
-        return p;
+    let bad = judge_sized(s, z, 80);
+    if bad < n {
+        return bad;
     }
     if !counts_ok(s, z, n) {
         return 0;

@@ -1,23 +1,21 @@
 -- The counts of buckets by local depth, as pages change, and the largest depth read off them. Assumes nothing.
 use mathlib.Core.Path.{_≡_, refl, sym, ap, subst, _∙_}
-use mathlib.Core.Bool.{Bool, true, false}
 use mathlib.Core.List.{List, [], _∷_, map, flatMap}
 use mathlib.Core.Logic.{_⊎_, inl, inr}
 use Prim.Native.Nat.{ℕ, zero, suc, _+_, _≤_, _<_, max}
 use native.Mathlib.Omega.{arith}
 use native.Mathlib.Nat.{le-max-left, le-max-right, max-eq-left, max-eq-right}
-use lib.Dec.{eqb}
-use borrow.Author.Tests.{eqb-true, eqb-false}
 use lib.ListN.{length, getD, set, length-append, length-map}
-use lib.Seq.{set-set}
 use Rattle.ground.proofs.Sides.{side}
 use Rattle.page.specs.Page.{Record}
 use Rattle.partition.specs.Partition.{Row}
 use Rattle.store.specs.Pages.{Page, free, bucket, asRow, rowsOn, rowsIn, depthOn, deepestIn}
-use Rattle.store.specs.Moves.{pick, find, isFree, written, placeOn, overwriteOn, overwritten}
+use Rattle.store.specs.Moves.{find, isFree, frees, written, placeOn, overwriteOn, overwritten}
 use Rattle.store.specs.Counts.{oneAt, bucketsAt}
 use Rattle.store.proofs.Counts.Ones.{Ones, ones}
-use Rattle.store.proofs.Put.Written.{Found}
+use Rattle.store.proofs.Showing.Shows.{Holding}
+use Rattle.store.proofs.Showing.Rooms.{find-free}
+use Rattle.store.proofs.Put.EveryStep.{fill-frees, over-frees}
 
 -- a page written anew: what it held is no longer counted, what it holds is
 pub set-count : (k : ℕ) (gs : List Page) (i : ℕ) (g : Page) → i < length gs → bucketsAt k (set gs i g) + oneAt k (getD gs i free) ≡ bucketsAt k gs + oneAt k g
@@ -29,15 +27,6 @@ set-count k (x ∷ gs) (suc i) g l = omega (arith, set-count k gs i g (omega ari
 -- a page of the same depth leaves them
 pub same-depth-count : (k : ℕ) (gs : List Page) (i d : ℕ) (rs qs : List Record) → i < length gs → getD gs i free ≡ bucket d rs → bucketsAt k (set gs i (bucket d qs)) ≡ bucketsAt k gs
 same-depth-count k gs i d rs qs l e = omega (arith, set-count k gs i (bucket d qs) l, ap (oneAt k) e)
-
--- buckets written to free pages, one after another
-pub written-count : (k : ℕ) (gs : List Page) (i : ℕ) (ns : List Page) → Found gs i ns → bucketsAt k (written gs i ns) ≡ bucketsAt k gs + bucketsAt k ns
-unfolding bucketsAt written
-written-count k gs i [] f = omega arith
-written-count k gs i (n ∷ ns) f =
-    let w : bucketsAt k (set gs i n) + oneAt k (getD gs i free) ≡ bucketsAt k gs + oneAt k n = set-count k gs i n (f .0) in
-    let z : oneAt k (getD gs i free) ≡ 0 = ap (oneAt k) (f .1) in
-    omega (arith, w, z, written-count k (set gs i n) (find isFree (set gs i n)) ns (f .2))
 
 over-one : (k : ℕ) (r : Row) (g : Page) → oneAt k (overwriteOn r g) ≡ oneAt k g
 over-one k r free = refl
@@ -115,30 +104,23 @@ deepest-by-counts gs d at above = omega (arith, low at, high (deepest-counted gs
     high (inl e) (inl l) = absurd (omega (arith, e, l))
     high (inr m) (inl l) = absurd (omega (arith, m, above (deepestIn gs) l))
 
--- ---- a split, and a join
+-- ---- a split
+
+-- buckets written to free pages, one after another
+free-count : (k : ℕ) (ns gs : List Page) → frees ns ≡ 0 → length ns ≤ frees gs → bucketsAt k (written gs (find isFree gs) ns) ≡ bucketsAt k gs + bucketsAt k ns
+unfolding bucketsAt written
+free-count k [] gs u l = omega arith
+free-count k (free ∷ ns) gs u l = absurd (omega arith)
+free-count k (bucket d rs ∷ ns) gs u l =
+    let f = find-free gs (omega arith) in
+    let i = find isFree gs in
+    omega (arith, set-count k gs i (bucket d rs) (f .0), ap (oneAt k) (f .1), free-count k ns (set gs i (bucket d rs)) u (omega (arith, fill-frees gs i d rs (f .0) (f .1))))
 
 -- a page split: its bucket is no longer counted, those written are
-pub split-count : (k : ℕ) (gs : List Page) (i : ℕ) (n : Page) (ns : List Page) → i < length gs → Found (set gs i free) i (n ∷ ns)
-    → bucketsAt k (written gs i (n ∷ ns)) + oneAt k (getD gs i free) ≡ bucketsAt k gs + bucketsAt k (n ∷ ns)
-unfolding written
-split-count k gs i n ns l f =
-    let e : set (set gs i free) i n ≡ set gs i n = set-set gs i free n in
-    let w : bucketsAt k (written (set gs i free) i (n ∷ ns)) ≡ bucketsAt k (set gs i free) + bucketsAt k (n ∷ ns) = written-count k (set gs i free) i (n ∷ ns) f in
-    let v : written (set gs i free) i (n ∷ ns) ≡ written gs i (n ∷ ns) = ap (λ l. written l (find isFree l) ns) e in
-    omega (arith, w, ap (bucketsAt k) v, set-count k gs i free l)
-
--- pages that pass a test cleared, and those alone
-abbrev pub cleared : (Page → Bool) → List Page → List Page
-cleared f gs = map (λ g. pick (f g) free g) gs
-
-abbrev pub alone : (Page → Bool) → List Page → List Page
-alone f gs = map (λ g. pick (f g) g free) gs
-
-one-parts : (k : ℕ) (b : Bool) (g : Page) → oneAt k (pick b free g) + oneAt k (pick b g free) ≡ oneAt k g
-one-parts k true g = omega arith
-one-parts k false g = omega arith
-
-pub cleared-count : (k : ℕ) (f : Page → Bool) (gs : List Page) → bucketsAt k (cleared f gs) + bucketsAt k (alone f gs) ≡ bucketsAt k gs
-unfolding bucketsAt
-cleared-count k f [] = refl
-cleared-count k f (g ∷ gs) = omega (arith, one-parts k (f g) g, cleared-count k f gs)
+pub split-count : (k : ℕ) (gs : List Page) (i d : ℕ) (rs : List Record) → Holding gs i d rs → i < length gs → (ns : List Page) → 0 < length ns → frees ns ≡ 0 → length ns ≤ suc (frees gs)
+    → bucketsAt k (written gs i ns) + oneAt k (bucket d rs) ≡ bucketsAt k gs + bucketsAt k ns
+unfolding bucketsAt written
+split-count k gs i d rs e b [] s u l = absurd (omega arith)
+split-count k gs i d rs e b (free ∷ ns) s u l = absurd (omega arith)
+split-count k gs i d rs e b (bucket j qs ∷ ns) s u l =
+    omega (arith, set-count k gs i (bucket j qs) b, ap (oneAt k) e, free-count k ns (set gs i (bucket j qs)) u (omega (arith, over-frees gs i d rs e j qs)))
