@@ -2,5 +2,6 @@ pub mod Fields
 pub mod Inspecting
 pub mod Leaving
 pub mod OneCommand
+pub mod Lines
 pub mod Reporting
 pub mod Running

@@ -26,6 +26,12 @@ pub enum Outcome {
     Stopped,
 }
 
+// A buffer of lines: the slot behind the rows that it has, and its length.
+pub struct Filled {
+    pub slot: usize,
+    pub len: usize,
+}
+
 pub struct Session {
     // the store: its length, whether it has changed since it was read, and whether it is known to be accepted
     pub len: usize,

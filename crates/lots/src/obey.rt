@@ -6,10 +6,11 @@ ghost use Rattle.hash.specs.Fnv.{fnv};
 ghost use Rattle.store.specs.Demands.{ok};
 ghost use Rattle.partition.specs.Listing.{listing};
 ghost use Rattle.partition.specs.Sizes.{size, shapeFor};
-ghost use Rattle.store.specs.Pages.{rowsHeld};
+ghost use Rattle.store.specs.Pages.{page, rowsHeld};
 ghost use Rattle.store.specs.Tables.{meaning};
 ghost use Rattle.query.specs.Spots.{OnPage};
 ghost use Rattle.lots.specs.Known.{Known, Listable};
+ghost use Rattle.lots.specs.Rows.{Fillable, Filling, LinesFrom, RunFrom, RunTo};
 ghost use Rattle.lots.specs.Obeys.{InspectAsked, ListAsked, Numbers, Obeys, Outcomes, PageAsked, PageLength, Passes, RowAsked, Shown, SlotAsked, SlotGiven, TellsOnly, Untouched};
 use super::bid;
 use super::faults;
@@ -20,10 +21,12 @@ use super::known::put_known;
 use super::known::remove_known;
 use super::known::row_known;
 use super::say;
+use crate::Filled;
 use crate::Outcome;
 use commands::Command;
 use commands::Fault;
 use partition::Shape;
+use query::Cursor;
 use query::Step;
 use store::Answer;
 use store::Refusal;
@@ -120,18 +123,70 @@ fn row(s: &[u8], n: usize, known: bool, number: usize) -> Outcome
     tell(a, &code, number)
 }
 
-// The row in slot i of the bucket page p on a line; whether it could be written.
-fn list_row(s: &[u8], z: Shape, p: usize, i: usize) -> bool
-    requires { ⌜ OnPage z (now s) p i ⌝ }
+// The rows of a bucket page from slot i on as lines at the start of the buffer: as many as it has room for.
+fn page_lines(page: &[u8], i: usize, out: &mut [u8]) -> Filled
+    requires { ⌜ Fillable (now page) i (now out) ⌝ }
+    ensures { λ r. ⌜ Filling (now (page .entry)) i (now (out .entry)) (now (out .exit)) r ⌝ }
 {
-    let mut code = [0u8; 64];
-    let a = query::read_row(s, z, p, i, &mut code);
-    say::answer(a, &code, 0)
+    let n = words::get16(page, 2);
+    let mut slot = i;
+    let mut len = 0;
+    while slot < n {
+        if len > 3776 {
+            return Filled { slot, len };
+        }
+        let code = page::code_at(page, slot);
+        let place = page::read_place(page, slot);
+        len = commands::row_line(out, len, code, place);
+        slot += 1;
+    }
+    Filled { slot, len }
 }
 
-// Every row of an accepted store in one walk, and how many they are.
-fn list_rows(s: &[u8], z: Shape, n: usize) -> Outcome
-    requires { ⌜ Listable z (now s) n ⌝ }
+// The same of the bucket page p of a store.
+fn bucket_lines(s: &[u8], z: Shape, p: usize, i: usize, out: &mut [u8]) -> Filled
+    requires { ⌜ OnPage z (now s) p i × (4096 ≤ length (now out)) ⌝ }
+    ensures { λ r. ⌜ Filling (page z (now (s .entry)) p) i (now (out .entry)) (now (out .exit)) r ⌝ }
+{
+    let size = 8 + z.capacity;
+    let a = p * size;
+    let e = a + size;
+    page_lines(&s[a..e], i, out)
+}
+
+// k rows from place n of the listing on: their lines are written, and nothing else. Whether they could be.
+fn write_rows(s: &[u8], z: Shape, n: usize, k: usize, lines: &[u8]) -> bool
+    requires { ⌜ LinesFrom z (now s) n k (now lines) ⌝ }
+{
+    say::text(lines)
+}
+
+// The rows from place n of the listing on, which stand from slot i of the page p on: as many as the buffer has room for, in one write. The slot behind them; 0 where they could not be written.
+fn list_run(s: &[u8], z: Shape, n: usize, p: usize, i: usize, lines: &mut [u8]) -> usize
+    requires { ⌜ RunFrom z (now s) n p i (now lines) ⌝ }
+    ensures { λ r. ⌜ RunTo (page z (now (s .entry)) p) i (now (lines .entry)) (now (lines .exit)) r ⌝ }
+{
+    let f = bucket_lines(s, z, p, i, lines);
+    let to = f.slot;
+    let len = f.len;
+    let k = to - i;
+    if !write_rows(s, z, n, k, &lines[0..len]) {
+        return 0;
+    }
+    to
+}
+
+// The cursor at another slot of its entry's rows.
+fn further(c: Cursor, slot: usize) -> Cursor
+    ensures { λ r. ⌜ (r .entry ≡ c .entry) × (r .slot ≡ slot) ⌝ }
+{
+    let entry = c.entry;
+    Cursor { entry, slot }
+}
+
+// Every row of an accepted store in one walk, and how many they are. The rows of a page are written at once.
+fn list_rows(s: &[u8], z: Shape, n: usize, lines: &mut [u8]) -> Outcome
+    requires { ⌜ Listable z (now s) n × (4096 ≤ length (now lines)) ⌝ }
     ensures { λ r. ⌜ Numbers (length (listing z fnv (rowsHeld z (now (s .entry))))) r ⌝ }
 {
     let mut c = query::cursor_at(s, z, 0);
@@ -139,11 +194,12 @@ fn list_rows(s: &[u8], z: Shape, n: usize) -> Outcome
     while i < n {
         match query::next_row(s, z, c) {
             Step::Handed(p, slot, next) => {
-                if !list_row(s, z, p, slot) {
+                let to = list_run(s, z, i, p, slot, lines);
+                if to == 0 {
                     return Outcome::Stopped;
                 }
-                c = next;
-                i += 1;
+                i += to - slot;
+                c = further(next, to);
             }
             Step::Done => {
                 return listed(i);
@@ -163,7 +219,9 @@ fn list(s: &[u8], known: bool, number: usize) -> Outcome
         return told(a, number);
     }
     let z = partition::shape_of(s);
-    list_rows(s, z, counts::rows_counted(s))
+    let n = counts::rows_counted(s);
+    let mut lines = io::buffer();
+    list_rows(s, z, n, &mut lines)
 }
 
 // What inspection says of a page's first slot.

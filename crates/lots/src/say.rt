@@ -1,4 +1,4 @@
-// Lines on standard output, each in one write.
+// Lines on standard output, each in one write, but those of a list page by page.
 ghost use Prim.Native.Nat.{_≤_};
 ghost use lib.ListN.{length};
 use commands::Fault;

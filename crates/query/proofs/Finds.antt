@@ -30,7 +30,7 @@ use Rattle.store.proofs.Accepted.Reading.{entryOf, Naming, naming, lookup-none,
 use Rattle.store.proofs.Paging.PageTies.{found-at, found-not}
 use Rattle.store.proofs.Showing.Walked.{from, walkFrom, Start, behind, walk-start, walk-end, walk-none, walk-page, walk-here, walk-past}
 use Rattle.query.specs.Spots.{StandsAt, Listed}
-use Rattle.query.specs.Cursors.{later, listedFrom, At}
+use Rattle.query.specs.Cursors.{later, listedFrom, At, Along}
 use Rattle.query.specs.declared.Cursor.{Cursor}
 use Rattle.query.specs.declared.Spot.the-variants.{Here, Nowhere}
 
@@ -168,6 +168,9 @@ module _ (S : Shape) (sz : Sized S) (s : List ℕ) (a : Accepted S fnv s) (n : �
     from-here m =
         let b : left < count (page S s q) = omega (arith, rows-many) in
         (record { from = named .from; within = page-inside; rules = named .bytes .rules; slot = b }, first-of i left f ∙ walk-here S fnv sz fnv-lt s a i left l z (f .starts) b)
+
+    pub from-along : Along S s n q left
+    from-along j b = f .here j ∙ walk-here S fnv sz fnv-lt s a i (left + j) l z (f .starts) b
 
     pub from-past : (w : ℕ) → w ≡ 2 ^ (d - byte s (q * size S + 1)) → le16 s (q * size S + 2) ≤ left → From S s n (i + w) (left - le16 s (q * size S + 2))
     from-past w e m =

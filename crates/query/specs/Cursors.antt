@@ -1,15 +1,17 @@
 -- Where a cursor stands in the listing of an accepted store, and what a step gives. Assumes nothing.
 use mathlib.Core.Path.{_≡_}
 use mathlib.Core.List.{List, [], _∷_, flatMap, List·Memᴰ}
+use mathlib.Core.Option.{some}
 use Prim.Native.Nat.{ℕ, _+_, _^_, _≤_, _<_}
 use lib.Dec.{leb}
 use lib.ListN.{getElem?}
 use Rattle.hash.specs.Fnv.{fnv}
+use Rattle.page.specs.Page.{count, rowAt}
 use Rattle.partition.specs.declared.Shape.{Shape}
 use Rattle.partition.specs.Partition.{Row, Prefix, rowsOf, buckets, first, after}
 use Rattle.partition.specs.Listing.{inOrder, listing}
 use Rattle.store.specs.Moves.{pick}
-use Rattle.store.specs.Pages.{rowsHeld, dirDepth}
+use Rattle.store.specs.Pages.{page, asRow, rowsHeld, dirDepth}
 use Rattle.store.specs.Accepted.{Accepted}
 use Rattle.store.specs.Demands.{Sized}
 use Rattle.query.specs.Spots.{Listed}
@@ -42,7 +44,11 @@ pub record Steppable (S : Shape) (s : List ℕ) (c : Cursor) : Type 0 where
   pub place : ℕ
   pub at : At S s place c
 
--- a step from before place n: the row at place n and a cursor before the next, or there is no such row
+-- the slots from i on of the page p have the rows of the listing from place n on
+abbrev pub Along : Shape → List ℕ → ℕ → ℕ → ℕ → Type 0
+Along S s n p i = (j : ℕ) → i + j < count (page S s p) → getElem? (listing S fnv (rowsHeld S s)) (n + j) ≡ some (asRow (rowAt (page S s p) (i + j)))
+
+-- a step from before place n: the row at place n, those behind it on its page, and a cursor one slot on, before the next; or there is no such row
 abbrev pub Stepped : Shape → List ℕ → ℕ → Step → Type 0
-Stepped S s n (Handed p i c) = Listed S s n (Here p i) × At S s (n + 1) c
+Stepped S s n (Handed p i c) = Listed S s n (Here p i) × At S s (n + 1) c × Along S s n p i × (c .slot ≡ i + 1)
 Stepped S s n Done = Listed S s n Nowhere

@@ -51,21 +51,29 @@ shape-of-requires c κs = numbered _ (sound c)
 rows-counted-requires : tie.Need-rows-counted-requires
 rows-counted-requires c κs = counts-room _ (sound (c .before))
 
+buffer-requires : tie.Need-buffer-requires
+buffer-requires c κs = search needs
+
+slice-aggregate-list-rows : tie.Need-slice-aggregate-list-rows
+slice-aggregate-list-rows c = search needs
+
 list-rows-requires : tie.Need-list-rows-requires
 list-rows-requires c κs =
-    let b = c .before in
-    record { sized = b .shape-of .ensures .1; accepted = at-own b; rows = c .rows-counted .ensures ∙ opened _ fnv _ (at-own b) .counts .rows }
+    let n = c .before .before in
+    let b = n .before in
+    (record { sized = b .shape-of .ensures .1; accepted = at-own b; rows = n .rows-counted .ensures ∙ opened _ fnv _ (at-own b) .counts .rows }, omega (arith, c .before .buffer .ensures))
 
 returns-2 : tie.Need-returns-2
 returns-2 c =
-    let b = c .before .before in
+    let l = c .before in
+    let b = l .before .before .before .before in
     let k = b .before .before .before .check-known in
     let s = now (b .before .before .before .before .before .args .s) in
     record {
       answer = meaning (k .result);
       made = (k .ensures, refl);
       refused = λ e. absurd (true≢false (sym (good (b .before)) ∙ e));
-      rows = λ _. subst (λ S. Numbers (length (listing S fnv (rowsHeld S s))) (c .list-rows .result)) (b .shape-of .ensures .0) (c .list-rows .ensures);
+      rows = λ _. subst (λ S. Numbers (length (listing S fnv (rowsHeld S s))) (l .list-rows .result)) (b .shape-of .ensures .0) (l .list-rows .ensures);
     }
 
 pub list-spec : {M : Type 1} → statement M
@@ -78,5 +86,7 @@ list-spec =
     returns
     shape-of-requires
     rows-counted-requires
+    buffer-requires
+    slice-aggregate-list-rows
     list-rows-requires
     returns-2)

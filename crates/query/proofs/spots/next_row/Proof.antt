@@ -14,10 +14,10 @@ use Rattle.store.specs.Demands.{Sized}
 use Rattle.store.specs.Pages.{size, dirDepth, entryAt}
 use Rattle.store.specs.Accepted.{Accepted}
 use Rattle.query.specs.Spots.{Listed}
-use Rattle.query.specs.Cursors.{At}
+use Rattle.query.specs.Cursors.{At, Along}
 use Rattle.query.specs.declared.Spot.the-variants.{Here}
 use Rattle.partition.proofs.Sizes.{twelve}
-use Rattle.query.proofs.Finds.{long-enough, shallow, From, at-from, at-next, from-end, from-none, entry-low, page-inside, page-deep, from-here, from-past}
+use Rattle.query.proofs.Finds.{long-enough, shallow, From, at-from, at-next, from-end, from-none, entry-low, page-inside, page-deep, from-here, from-along, from-past}
 use Rattle.query.proofs.spots.next_row.Statement.{statement}
 use Rattle.query.proofs.spots.next_row.Tie as tie
 
@@ -131,7 +131,10 @@ returns c = λ n a. let e = c .before .before in
     let f : b .loop .left < le16 (s b) (e .before .get322 .result * size (S b) + 2) → Listed (S b) (s b) n (Here (e .before .get322 .result) (b .loop .left)) =
     subst (λ p. b .loop .left < le16 (s b) (p * size (S b) + 2) → Listed (S b) (s b) n (Here p (b .loop .left))) (sym (its e))
     (from-here (S b) (sz b) (s b) (acc b) n (b .loop .i) (b .loop .left) (below b (e .before .before .before .loop-test .taken)) (not-zero e) (b .loop .inv n a)) in
-    (f (omega (arith, c .if2 .taken, c .before .get16 .ensures .0)), at-next (S b) (sz b) (s b) (acc b) n (b .loop .i) (b .loop .left) _ (omega arith) (b .loop .inv n a))
+    let g : Along (S b) (s b) n (e .before .get322 .result) (b .loop .left) =
+    subst (λ p. Along (S b) (s b) n p (b .loop .left)) (sym (its e))
+    (from-along (S b) (sz b) (s b) (acc b) n (b .loop .i) (b .loop .left) (below b (e .before .before .before .loop-test .taken)) (not-zero e) (b .loop .inv n a)) in
+    (f (omega (arith, c .if2 .taken, c .before .get16 .ensures .0)), at-next (S b) (sz b) (s b) (acc b) n (b .loop .i) (b .loop .left) _ (omega arith) (b .loop .inv n a), g, omega arith)
 
 entries-of-requires : tie.Need-entries-of-requires Inv-loop μ-loop
 entries-of-requires c κs = let e = c .before .before in
