@@ -13,6 +13,8 @@ use Rattle.commands.specs.Lines.{Paged, formatWord, putWord, addWord, moveWord,
 use Rattle.commands.specs.Numbers.{Decimal}
 use Rattle.commands.proofs.Unread.{split-one, no-space, digits-spaceless}
 use Rattle.store.specs.Moves.{pick}
+use Rattle.lots.specs.declared.Outcome.{Outcome}
+use Rattle.lots.specs.Obeys.{Obeys}
 
 -- which of the commands it is; a put by its mode
 abbrev pub kind : Command → ℕ
@@ -117,3 +119,7 @@ means-one l k j c d e w v m n = go (taken l k c m) (taken l j d n)
     go (inl x) (inr y) = absurd (x .1 j d e v y)
     go (inr x) (inl y) = absurd (y .1 k c (sym e) w x)
     go (inr x) (inr y) = asks-one l k j c d x y
+
+-- and so is the command that a line is obeyed as, whatever its store, where its numbers fit
+pub obeys-one : {l s t s′ t′ : List ℕ} {o o′ : Outcome} (x : Obeys l s o t) (y : Obeys l s′ o′ t′) → WithinLimits (x .command) → WithinLimits (y .command) → kind (x .command) ≡ kind (y .command)
+obeys-one {l} x y w v = means-one l (x .code) (y .code) (x .command) (y .command) (y .long ∙ sym (x .long)) w v (x .means) (y .means)

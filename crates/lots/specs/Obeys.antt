@@ -167,9 +167,10 @@ Does k Counts s o t = CountsAsked s o t
 Does k (Inspect n) s o t = InspectAsked n s o × (t ≡ s)
 Does k Report s o t = ReportAsked s o × (t ≡ s)
 
--- the line is a command, and that is done
+-- the line is a command, whose code has room for 4,096 bytes, and that is done
 pub record Obeys (line s : List ℕ) (o : Outcome) (t : List ℕ) : Type 0 where
   pub code : List ℕ
+  pub long : length code ≡ 4096
   pub command : Command
   pub means : Means line code command
   pub does : Does code command s o t

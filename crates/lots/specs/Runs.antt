@@ -15,15 +15,20 @@ use Rattle.lots.specs.declared.Session.{Session}
 use Rattle.lots.specs.Obeys.{Obeys}
 use Rattle.lots.specs.Sessions.{Kept, Quiet, SessionHolds}
 
--- " anew" stands at the end of l from r on, unless r is its end
+-- l is a format with " anew" behind it
+pub record Anew (l w : List ℕ) : Type 0 where
+  pub word : take 7 l ≡ text "format "
+  pub ends : l ≡ w ++ text " anew"
+
+-- " anew" stands at the end of a format from r on, unless r is the end of l
 pub record BeforeAnew (l : List ℕ) (r : ℕ) : Type 0 where
   pub within : r ≤ length l
-  pub cut : r < length l → l ≡ take r l ++ text " anew"
+  pub cut : r < length l → Anew l (take r l)
 
--- w is l, or what stands before " anew" in it
+-- w is l, or what stands before " anew" in a format
 abbrev pub Without : List ℕ → List ℕ → Bool → Type 0
 Without l w false = w ≡ l
-Without l w true = l ≡ w ++ text " anew"
+Without l w true = Anew l w
 
 -- the line is done; a format is left to the session
 abbrev pub Done : Outcome → Type 0

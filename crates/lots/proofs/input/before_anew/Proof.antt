@@ -55,7 +55,13 @@ returns-4 : tie.Need-returns-4
 returns-4 c =
     let s = c .before .before .before .before .before .before .before .before .before in
     let long : 5 ≤ length (now (s .before .args .line)) = omega (arith, c .before .before .before .before .before .before .before .before .if1 .left) in
-    record { within = omega arith; cut = λ _. anew-cut (now (s .before .args .line)) long (c .before .same2 .ensures .0 (not-false _ (c .if3 .left))) }
+    record {
+      within = omega arith;
+      cut = λ _. record {
+        word = c .before .before .before .before .before .same .ensures .0 (not-false _ (c .before .before .before .before .if2 .left));
+        ends = anew-cut (now (s .before .args .line)) long (c .before .same2 .ensures .0 (not-false _ (c .if3 .left)));
+      };
+    }
 
 pub before-anew-spec : {M : Type 1} → statement M
 before-anew-spec =

@@ -24,11 +24,14 @@ module _ (c : tie.After-code2) where
   abbrev line : List ℕ
   line = now (c .before .before .before .before .before .before .args .line)
 
+  long : length buffer ≡ 4096
+  long = search needs
+
   read : (d : Command) → c .before .parse .result ≡ d → Means line buffer d
   read d e = subst (Means line buffer) e (c .before .parse .ensures)
 
   done : {s t : List ℕ} {o : Outcome} (d : Command) → c .before .parse .result ≡ d → Does buffer d s o t → Obeys line s o t
-  done d e x = record { code = buffer; command = d; means = read d e; does = x }
+  done d e x = record { code = buffer; long = long; command = d; means = read d e; does = x }
 
 buffer-requires : tie.Need-buffer-requires
 buffer-requires c κs = search needs
