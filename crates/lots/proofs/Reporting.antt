@@ -46,7 +46,7 @@ ended : (ps ls : List ℕ) (rs : List Row) (cs cs′ : List ℕ) (x : Sums) (t :
 ended ps ls rs cs cs′ x t (Missing p) e =
     let k : tallied ps ls (map rankOn rs) 0 0 cs .0 ≡ length rs = ap (λ v. v .0) (sym (t .all)) in
     absurd (none-some (row-none rs (tallied ps ls (map rankOn rs) 0 0 cs .0) (omega (arith, k))) (e .there))
-ended ps ls rs cs cs′ x t (Whole k s) e = ap (λ v. v .1 .1) (e .1 ∙ sym (t .all))
+ended ps ls rs cs cs′ x t (Whole c) e = ap (λ v. v .1 .1) (e .all ∙ sym (t .all))
 
 pub marked-as : (S : Shape) (s fl : List ℕ) (n : ℕ) (x : Sums) (t : ListedSums S s fl n x) (cs cs′ : List ℕ) (r : Ending) → cs ≡ replicate n 0 → Marks S s fl cs r cs′ → cs′ ≡ t .marks
 marked-as S s fl n x t cs cs′ r e m =
