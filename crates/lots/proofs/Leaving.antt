@@ -40,7 +40,7 @@ use Rattle.lots.specs.declared.Session.{Session}
 use Rattle.lots.specs.Known.{Known}
 use Rattle.filling.specs.Filling.{fillTable}
 use Rattle.filling.proofs.Laws.{fill-laws, fill-done}
-use Rattle.lots.specs.Obeys.{Outcomes, Passes, Untouched, Does, Obeys}
+use Rattle.lots.specs.Obeys.{Outcomes, Passes, TellsOnly, Numbers, Untouched, ListAsked, PageAsked, InspectAsked, Does, Obeys}
 use Rattle.store.proofs.Demands.Unchecked.{check-says}
 use Rattle.lots.specs.Sessions.{Leaves, After, Alike, Changes, Learnt, SessionHolds, Kept}
 
@@ -193,6 +193,31 @@ module _ (S : Shape) (s : List ℕ) where
   remove-on c = each (λ x. ok (x .0) ≡ true → Accepted S fnv s) (removeTable S fnv s c)
       ((λ _ _. refused-not), (λ _. ((λ _ _. refused-not), (λ _. ((λ _ _. broken-not), (λ _ a. ((λ _ _ _ _ _. a), (λ _ _ _ _. a))))))))
 
+reads-untouched : (a : Out) (o : Outcome) → TellsOnly a o → Untouched o
+reads-untouched a NotKnown p = tt
+reads-untouched a Stopped p = tt
+reads-untouched a Silent p = tt
+reads-untouched a (Told x) p = tt
+reads-untouched a (Listed n) p = tt
+reads-untouched a (Changed x) p = p
+reads-untouched a (Formats n size) p = p
+
+numbers-untouched : (n : ℕ) (o : Outcome) → Numbers n o → Untouched o
+numbers-untouched n NotKnown p = tt
+numbers-untouched n Stopped p = tt
+numbers-untouched n Silent p = tt
+numbers-untouched n (Told x) p = tt
+numbers-untouched n (Listed m) p = tt
+numbers-untouched n (Changed x) p = p
+numbers-untouched n (Formats m size) p = p
+
+-- inspect changes nothing, whichever of its ways it goes
+page-unchanged : {g : List ℕ} (o : Outcome) → PageAsked g o → Changes o → ⊥
+page-unchanged o d w = unchanged o (reads-untouched _ o (d .refused (λ k. unchanged o (numbers-untouched _ o (d .rows k)) w))) w
+
+inspect-unchanged : (n : ℕ) (s : List ℕ) (o : Outcome) → InspectAsked n s o → Changes o → ⊥
+inspect-unchanged n s o d w = unchanged o (passes-untouched o (d .absent (λ h. page-unchanged o (d .there h) w))) w
+
 listed-untouched : {s : List ℕ} {o : Outcome} → ListAsked s o → Untouched o
 listed-untouched {s} {o} d = go (ok (d .answer)) refl
   where
@@ -215,8 +240,8 @@ does-changed k Count s o t d w = absurd (unchanged o (reads-untouched (d .0 .ans
 does-changed k (Row n) s o t d w = absurd (unchanged o (reads-untouched (d .0 .asked .answer) o (d .0 .asked .told)) w)
 does-changed k Listing s o t d w = absurd (unchanged o (listed-untouched (d .0)) w)
 does-changed k Check s o t d w = absurd (unchanged o (reads-untouched (d .0 .answer) o (d .0 .told)) w)
-does-changed k (Inspect n) s o t d w = absurd (unchanged o (d .0) w)
-does-changed k Report s o t d w = absurd (unchanged o (d .0) w)
+does-changed k (Inspect n) s o t d w = absurd (inspect-unchanged n s o (d .0) w)
+does-changed k Report s o t d w = absurd (unchanged o (d .0 .reads) w)
 
 -- the first n bytes, lent and back as ys
 pub front-back : (xs ys : List ℕ) (n : ℕ) → length ys ≡ n → take n (take 0 xs ++ (ys ++ drop (n - 0) (drop 0 xs))) ≡ ys
