@@ -179,6 +179,8 @@ static void full_store(const char *dir, const char *name, size_t page_size, size
     char path[4096];
     size_t entries = page_size / 4, depth = page_size == 4096 ? 10 : 12;
     start(entries + 2, page_size);
+    set32(store + 24, rows);
+    set32(store + 28 + 4 * depth, entries);
     while (rows > 0) {
         next_code(8, 20);
         for (size_t i = 0; i < codes[0].len; i++) codes[0].bytes[i] += codes[0].bytes[i] >= 'A' && codes[0].bytes[i] <= 'Z' ? 32 : 0; /* as they are stored */

@@ -1,4 +1,5 @@
-/* The check of document 01, with Item 4 of document 02, in plain C, written for speed: what the proved check is measured against. Same rules, same order, same answer word.
+/* The check of document 01, with Items 4 and 6 of document 02, in plain C, written for speed: what the proved check is measured against. Same rules, same order, same answer word.
+ * The counts of page 0 are worked out in the pass over the pages, and compared last.
  * Built once for each page size (-DPAGE, -DDEEPEST); which is asked is the caller's to say, by the number at 20.
  * A page's slots are read once, then its records in the order in which they lie; the directory is counted once, and what the rows of a prefix need is a
  * difference of two sums. */
@@ -147,7 +148,7 @@ static int bucket(const uint8_t *g, uint32_t d, uint8_t *starts, uint32_t *share
 
 static int page0(const uint8_t *s, uint32_t n) {
     return get32(s) == n && get32(s + 4) == PAGE && get32(s + 8) == ENTRIES && get32(s + 12) == 2 * PAGE && get32(s + 16) <= DEEPEST && get32(s + 20) == NUMBER &&
-           zero(s + 24, PAGE - 24);
+           zero(s + 80, PAGE - 80);
 }
 
 /* Page 1 of a store of n pages, `entries` of them in use: how many name each page. */
@@ -171,6 +172,7 @@ uint64_t plain_check(const uint8_t *s, size_t size) {
     uint8_t starts[PAGE];
     uint16_t named[MOST] = {0};
     uint32_t shared[MOST], sums[ENTRIES + 1] = {0}, deepest = 0; /* sums[i]: what the rows before entry i need */
+    uint32_t counts[14] = {0};                                   /* of rows, then of buckets by local depth */
     if (size % PAGE != 0 || size / PAGE < 3 || size / PAGE > MOST) return REFUSED(1, 0);
     uint32_t n = size / PAGE;
     if (!page0(s, n)) return REFUSED(2, 0);
@@ -188,6 +190,8 @@ uint64_t plain_check(const uint8_t *s, size_t size) {
         uint32_t k = g[1], many = 1u << (d - k);
         if (named[p] != many || !run(dir, top(shared[p], k) << (d - k), many, p)) return REFUSED(2, p);
         if (k > deepest) deepest = k;
+        counts[0] += get16(g + 2);
+        counts[1 + k]++;
         sums[top(shared[p], d) + 1] += CAPACITY - get16(g + 6);
     }
     for (uint32_t i = 0; i < entries; i++) sums[i + 1] += sums[i];
@@ -197,5 +201,5 @@ uint64_t plain_check(const uint8_t *s, size_t size) {
         uint32_t v = top(shared[p], k - 1), up = d - k + 1;
         if (sums[(v + 1) << up] - sums[v << up] <= CAPACITY) return REFUSED(2, p);
     }
-    return d == deepest ? 0 : REFUSED(2, 0);
+    return d == deepest && memcmp(s + 24, counts, sizeof counts) == 0 ? 0 : REFUSED(2, 0);
 }

@@ -32,7 +32,7 @@ static const uint64_t no_sizes[] = {0, 1, 1016, 1023, 1025, 2048, 4095, 4097, 81
 enum { NO_SIZES = sizeof no_sizes / sizeof *no_sizes };
 
 static uint64_t state;
-static uint64_t steps, refused[16], inspected[16], in_batch[16], reached[3][13], full[3], joins, splits, respelled, capitals;
+static uint64_t steps, refused[16], inspected[16], in_batch[16], reached[3][13], full[3], joins, splits, respelled, capitals, miscounts, unfilled[2];
 static const int numbers[] = {1, 2, 3, 4, 5, 6, 7, 8, 9, 12, 13, 14};
 enum { NUMBERS = sizeof numbers / sizeof *numbers };
 
@@ -109,11 +109,11 @@ struct call {
     size_t at, page_len; /* inspection: from this page of the store on, so many bytes */
 };
 
-enum { FORMAT, CHECK, LOOKUP, REMOVE, PUT, COUNT, ROW, INSPECT, KINDS };
+enum { FORMAT, CHECK, LOOKUP, REMOVE, PUT, COUNT, ROW, INSPECT, FILL, KINDS };
 
-/* Only format, put and remove write the store, only row and inspection the output; a refusal writes nothing. */
+/* Only format, put, remove and the filling of counts write the store, only row and inspection the output; a refusal writes nothing. */
 static void protect(int kind, int refusal) {
-    int changes = !refusal && (kind == FORMAT || kind == PUT || kind == REMOVE), gives = !refusal && (kind == ROW || kind == INSPECT);
+    int changes = !refusal && (kind == FORMAT || kind == PUT || kind == REMOVE || kind == FILL), gives = !refusal && (kind == ROW || kind == INSPECT);
     writable(&store_mem, changes);
     writable(&out_mem, gives);
     writable(&len_mem, gives);
@@ -148,6 +148,7 @@ static uint64_t proved(const struct call *c, size_t len, int refusal, uint32_t *
     case REMOVE: r = lots_remove(s, len, key, c->code_len); break;
     case PUT: r = lots_put(s, len, key, c->code_len, c->page, c->slot, c->volume, c->mode); break;
     case COUNT: r = lots_count(s, len); break;
+    case FILL: r = lots_fill_counts(s, len); break;
     case ROW: r = lots_row(s, len, c->n, out, c->out_len, l); break;
     case INSPECT: r = lots_inspect(g, c->page_len, c->n, out, c->out_len, l); break;
     }
@@ -165,6 +166,7 @@ static uint64_t reference(const struct call *c, size_t len, uint32_t *code_len) 
     case REMOVE: return ref_remove(theirs, len, c->code, c->code_len);
     case PUT: return ref_put(theirs, len, c->code, c->code_len, c->page, c->slot, c->volume, c->mode);
     case COUNT: return ref_count(theirs, len);
+    case FILL: return ref_fill_counts(theirs, len);
     case ROW: return ref_row(theirs, len, c->n, their_out, c->out_len, code_len);
     default: return ref_inspect(given, c->page_len, c->n, their_out, c->out_len, code_len);
     }
@@ -405,11 +407,93 @@ static void stored_capitals(size_t len, int times) {
     }
 }
 
+static void expect(const char *what, uint64_t word, unsigned number) {
+    if (lots_refusal(word) != number) fail(what, word, LOTS_REFUSED | number);
+    steps++;
+}
+
+/* Code i of the pool, by a mode. */
+static uint64_t put_as(size_t i, uint64_t mode, size_t len) {
+    struct call c = {.kind = PUT, .code_len = pool[i].len, .page = (int32_t)i, .slot = 2, .volume = 3, .mode = mode};
+    memcpy(c.code, pool[i].code, pool[i].len);
+    return both(&c, len);
+}
+
+/* The counts of a store are filled in; the answer is a refusal by this number, or none. */
+static void fill_counts(size_t len, unsigned want) {
+    struct call c = {.kind = FILL};
+    expect("the filling of counts", both(&c, len), want);
+    unfilled[want != 0]++;
+}
+
+/* A store by the old rules: without counts it is refused unless it has no rows, and comes back as it was; with any of them it is refused. */
+static void old_form(size_t len, int times) {
+    static uint8_t sound[MOST];
+    struct call check = {.kind = CHECK}, fill = {.kind = FILL};
+    unsigned want = number(ours + 24) == 0 ? 0 : LOTS_BAD_PAGE;
+    memcpy(sound, ours, len);
+    fill_counts(len, want);
+    for (int t = 0; t < times; t++) {
+        size_t at = 24 + t % 56;
+        memset(ours + 24, 0, 56);
+        memset(theirs + 24, 0, 56);
+        if (both(&check, len) != (want ? LOTS_REFUSED | LOTS_BAD_PAGE : 0)) fail("the check of a store without counts", 0, want);
+        if (t % 2) ours[at] = theirs[at] = 1 + below(255), fill_counts(len, LOTS_BAD_PAGE), ours[at] = theirs[at] = 0;
+        if (t % 3 == 2) {
+            hurt_once(len, &at);
+            memcpy(theirs, ours, len);
+            unfilled[lots_refusal(both(&fill, len)) != 0]++;
+            memcpy(ours, sound, len);
+            memcpy(theirs, sound, len);
+            continue;
+        }
+        fill_counts(len, 0);
+        if (memcmp(ours, sound, len) != 0) fail("a store whose counts are filled in", 0, 0);
+    }
+}
+
+/* Stores with no rows, with one, and with none again. */
+static void filled_counts(void) {
+    size_t len = 5 * page_size;
+    struct call c = {.kind = REMOVE};
+    fill_pool(1, 1, 64, 0, 0);
+    format(len);
+    old_form(len, 60);
+    expect("a put", put_as(0, LOTS_EITHER, len), 0);
+    old_form(len, 60);
+    memcpy(c.code, pool[0].code, pool[0].len);
+    c.code_len = pool[0].len;
+    expect("a remove", both(&c, len), 0);
+    old_form(len, 60);
+}
+
+/* A check by both of a sound store with another count at this place, which is a fault of page 0; and with a fault of a later page besides, which is named before it. */
+static void wrong_count(size_t len, size_t at, uint32_t count) {
+    struct call check = {.kind = CHECK};
+    uint32_t true_count = number(ours + at);
+    size_t p = 2 + below(len / page_size - 2);
+    set_number(ours + at, count), set_number(theirs + at, count);
+    if (both(&check, len) != (LOTS_REFUSED | LOTS_BAD_PAGE)) fail("the check of a wrong count", at, count);
+    ours[p * page_size] = theirs[p * page_size] ^= 2; /* no kind of page */
+    if (lots_refusal_page(both(&check, len)) != p) fail("a page named before a wrong count", lots_refusal_page(lots_check(ours, len)), p);
+    ours[p * page_size] = theirs[p * page_size] ^= 2;
+    set_number(ours + at, true_count), set_number(theirs + at, true_count);
+    miscounts++;
+}
+
+/* Each byte of the counts in page 0 another, and each count one more and one less. */
+static void wrong_counts(size_t len) {
+    for (size_t at = 24; at < 80; at++) wrong_count(len, at & ~(size_t)3, number(ours + (at & ~(size_t)3)) ^ (1 + below(255)) << 8 * (at & 3));
+    for (size_t at = 24; at < 80; at += 4) wrong_count(len, at, number(ours + at) + 1), wrong_count(len, at, number(ours + at) - 1);
+}
+
 /* Every call on a store with some bytes changed. */
 static void damage(size_t len, int times, size_t many) {
     static uint8_t sound[MOST];
     memcpy(sound, ours, len);
     stored_capitals(len, times);
+    wrong_counts(len);
+    old_form(len, times / 8);
     for (int t = 0; t < times; t++) {
         size_t at = 0;
         for (int flips = 1 + below(3); flips > 0; flips--) hurt_once(len, &at);
@@ -433,18 +517,6 @@ static void random_bytes(int times, size_t many) {
         c.kind = below(KINDS);
         both(&c, len);
     }
-}
-
-static void expect(const char *what, uint64_t word, unsigned number) {
-    if (lots_refusal(word) != number) fail(what, word, LOTS_REFUSED | number);
-    steps++;
-}
-
-/* Code i of the pool, by a mode. */
-static uint64_t put_as(size_t i, uint64_t mode, size_t len) {
-    struct call c = {.kind = PUT, .code_len = pool[i].len, .page = (int32_t)i, .slot = 2, .volume = 3, .mode = mode};
-    memcpy(c.code, pool[i].code, pool[i].len);
-    return both(&c, len);
 }
 
 /* In 3 pages as many rows of 64-byte codes as fit into one (13, 53 or 215): one of them, and one more, which is refused by this number, by each mode;
@@ -640,6 +712,7 @@ static void nothing_lent(void) {
     for (int i = 0; i < NO_SIZES; i++) expect("format to no size", lots_format(s, len, no_sizes[i]), LOTS_BAD_LENGTH);
     expect("check of nothing", lots_check(NULL, 0), LOTS_BAD_LENGTH);
     expect("count of nothing", lots_count(NULL, 0), LOTS_BAD_LENGTH);
+    expect("counts of nothing", lots_fill_counts(NULL, 0), LOTS_BAD_LENGTH);
     expect("lookup in nothing", lots_lookup(NULL, 0, NULL, 0), LOTS_BAD_LENGTH);
     expect("lookup of nothing", lots_lookup(s, len, NULL, 0), LOTS_BAD_CODE);
     expect("put in nothing", lots_put(NULL, 0, NULL, 0, 1, 2, 3, LOTS_EITHER), LOTS_BAD_LENGTH);
@@ -712,6 +785,7 @@ static void refused_at(size_t len, uint32_t n) {
     uint64_t want = ref_check(s, len), got;
     if ((got = lots_check(s, len)) != want) fail("a check by the length", got, want);
     if ((got = lots_count(s, len)) != want) fail("a count by the length", got, want);
+    if ((got = lots_fill_counts(s, len)) != want) fail("a filling of counts by the length", got, want);
     if ((got = lots_lookup(s, len, key, 1)) != want) fail("a lookup by the length", got, want);
     if ((got = lots_put(s, len, key, 1, 1, 1, 1, LOTS_EITHER)) != want) fail("a put by the length", got, want);
     if ((got = lots_remove(s, len, key, 1)) != want) fail("a remove by the length", got, want);
@@ -882,8 +956,9 @@ static int crowd_store(size_t pages) {
         if (heaps[h].bits > depth) depth = heaps[h].bits;
         write_heap(heaps + h);
     }
-    const uint32_t head[] = {pages, page_size, sizes[by].entries, 2 * page_size, depth, by == 0 ? 0 : page_size};
-    for (int k = 0; k < 6; k++) set_number(theirs + 4 * k, head[k]);
+    uint32_t head[20] = {pages, page_size, sizes[by].entries, 2 * page_size, depth, by == 0 ? 0 : page_size};
+    for (int h = 0; h < heap_count; h++) head[6] += heaps[h].count, head[7 + heaps[h].bits]++;
+    for (int k = 0; k < 20; k++) set_number(theirs + 4 * k, head[k]);
     for (uint32_t i = 0; i < 1u << depth; i++) {
         struct heap *h = of_leaf[i << (sizes[by].deepest - depth)];
         set_number(theirs + page_size + 4 * i, h ? h->page : 0);
@@ -1027,7 +1102,9 @@ static int sum_up(uint64_t seed) {
     if (!inspected[0] || !inspected[1] || !inspected[2] || !inspected[8] || !inspected[9]) bad = 1, printf("compare: an answer of inspection was never reached\n");
     for (int i = 3; i <= 13; i++)
         if (in_batch[i] == 0 && (i < 8 || i == 13)) bad = 1, printf("compare: no put of a batch was refused with %d\n", i);
+    if (unfilled[0] == 0 || unfilled[1] == 0) bad = 1, printf("compare: counts were never filled in, or never refused\n");
     if (respelled == 0 || capitals == 0) bad = 1, printf("compare: no code was spelled anew, or no capital stored\n");
+    if (miscounts == 0) bad = 1, printf("compare: no count was wrong\n");
     for (int k = 0; k < 3; k++)
         if (reached[k][sizes[k].deepest] == 0 || (k > 0 && full[k] == 0)) bad = 1, printf("compare: the deepest depth or a full directory of %zu was never reached\n", sizes[k].page);
     return bad;
@@ -1057,6 +1134,7 @@ int main(int argc, char **argv) {
         modes(0, 0, LOTS_PAGES_FULL);
         modes(sizes[size].deepest, below(sizes[size].entries), LOTS_PREFIX_FULL);
         spellings();
+        filled_counts();
     }
     for (int k = 0; k < scale; k++) {
         small_pages();

@@ -224,7 +224,7 @@ static int good_length(const uint8_t *s, size_t len) {
 static int good_page0(const uint8_t *s, int pages) {
     return number(s, 4) == (uint32_t)pages && number(s + 4, 4) == (uint32_t)page_size && number(s + 8, 4) == (uint32_t)entries &&
            number(s + 12, 4) == 2 * (uint32_t)page_size && number(s + 16, 4) <= (uint32_t)deepest && number(s + 20, 4) == (page_size == 1024 ? 0 : (uint32_t)page_size) &&
-           all_zero(s + 24, page_size - 24);
+           all_zero(s + 80, page_size - 80);
 }
 
 /* Ranges and zeros of page 1; how many entries name each page. */
@@ -246,8 +246,24 @@ static int called(const uint8_t *s, int p, int depth, int bits, uint32_t value, 
     return (uint32_t)named == to - from;
 }
 
-/* 0 and the rows of the store, or the refusal. */
-static uint64_t read_store(const uint8_t *s, size_t len) {
+/* The buckets by local depth. */
+static void count_buckets(const uint8_t *s, int pages, uint32_t *of) {
+    memset(of, 0, 13 * sizeof *of);
+    for (int p = 2; p < pages; p++)
+        if (s[(size_t)p * page_size] == 1) of[s[(size_t)p * page_size + 1]]++;
+}
+
+/* At 24 the number of rows that were read, and from 28 the buckets by local depth. */
+static int good_counts(const uint8_t *s, int pages) {
+    uint32_t of[13];
+    count_buckets(s, pages, of);
+    for (int k = 0; k < 13; k++)
+        if (number(s + 28 + 4 * k, 4) != of[k]) return 0;
+    return number(s + 24, 4) == (uint32_t)row_count;
+}
+
+/* 0 and the rows of the store, or the refusal, whatever its counts are. */
+static uint64_t read_uncounted(const uint8_t *s, size_t len) {
     static uint32_t hashes[MOST_PAGES]; /* of each bucket's first row */
     static int named[MOST_PAGES];
     if (!good_length(s, len)) return refusal(1);
@@ -278,6 +294,12 @@ static uint64_t read_store(const uint8_t *s, size_t len) {
     return depth == largest ? 0 : broken(0);
 }
 
+/* The same, its counts judged last of all. */
+static uint64_t read_store(const uint8_t *s, size_t len) {
+    uint64_t bad = read_uncounted(s, len);
+    return bad ? bad : good_counts(s, len / page_size) ? 0 : broken(0);
+}
+
 static int find(const uint8_t *code, size_t len) {
     for (int i = 0; i < row_count; i++)
         if (rows[i].len == (int)len && memcmp(rows[i].code, code, len) == 0) return i;
@@ -301,15 +323,20 @@ static int of_prefix(struct row *const *some, int count, struct bucket b, struct
     return n;
 }
 
-/* Depth and entries from the rows, each bucket on the page where its rows stand. */
+/* Counts, depth and entries from the rows, each bucket on the page where its rows stand. */
 static void write_directory(uint8_t *s) {
     static struct bucket buckets[MOST_ENTRIES];
     static int page_of[MOST_ENTRIES];
     int n = partition(rows, row_count, buckets), depth = 0;
     for (int i = 0; i < row_count; i++) page_of[bucket_of(rows[i].hash)] = rows[i].page;
-    for (int b = 0; b < n; b++)
+    memset(s + 28, 0, 52);
+    for (int b = 0; b < n; b++) {
+        uint8_t *count = s + 28 + 4 * buckets[b].bits;
+        set_number(count, 4, number(count, 4) + 1);
         if (buckets[b].bits > depth) depth = buckets[b].bits;
+    }
     set_number(s + 16, 4, depth);
+    set_number(s + 24, 4, row_count);
     memset(s + page_size, 0, page_size);
     for (int i = 0; i < 1 << depth; i++) {
         int b = of_leaf[i << (deepest - depth)];
@@ -341,6 +368,19 @@ uint64_t ref_check(const uint8_t *s, size_t len) { return read_store(s, len); }
 uint64_t ref_count(const uint8_t *s, size_t len) {
     uint64_t bad = read_store(s, len);
     return bad ? bad : (uint64_t)row_count;
+}
+
+/* The old rules had page 0 zero from 24 on. */
+uint64_t ref_fill_counts(uint8_t *s, size_t len) {
+    if (!good_length(s, len)) return refusal(1);
+    if (!all_zero(s + 24, 56)) return broken(0);
+    uint64_t bad = read_uncounted(s, len);
+    if (bad) return bad;
+    uint32_t of[13];
+    count_buckets(s, len / page_size, of);
+    set_number(s + 24, 4, row_count);
+    for (int k = 0; k < 13; k++) set_number(s + 28 + 4 * k, 4, of[k]);
+    return 0;
 }
 
 uint64_t ref_lookup(const uint8_t *s, size_t len, const uint8_t *code, size_t code_len) {

@@ -1,4 +1,4 @@
-/* A second implementation of document 01 with the modes, the spellings, the batch, the report and the page sizes of document 02, written from the documents and from nothing else: slow, plain, and worked out afresh from the rows at every call. */
+/* A second implementation of document 01 with the modes, the spellings, the batch, the report, the page sizes and the filling of counts of document 02, written from the documents and from nothing else: slow, plain, and worked out afresh from the rows at every call. */
 #ifndef REFERENCE_H
 #define REFERENCE_H
 
@@ -17,6 +17,7 @@ uint64_t ref_put(uint8_t *store, size_t store_len, const uint8_t *code, size_t c
 uint64_t ref_put_all(uint8_t *store, size_t store_len, const uint8_t *codes, size_t codes_len, const uint32_t *lengths, size_t lengths_len,
                      const uint64_t *places, size_t places_len, uint32_t *answers, size_t answers_len, uint64_t mode);
 uint64_t ref_count(const uint8_t *store, size_t store_len);
+uint64_t ref_fill_counts(uint8_t *store, size_t store_len);
 uint64_t ref_row(const uint8_t *store, size_t store_len, uint64_t n, uint8_t *out, size_t out_len, uint32_t *code_len);
 uint64_t ref_inspect(const uint8_t *page, size_t page_len, uint64_t n, uint8_t *out, size_t out_len, uint32_t *code_len);
 lots_report_answer ref_report(const uint8_t *store, size_t store_len, const lots_sheet_row *sheet, size_t sheet_rows);

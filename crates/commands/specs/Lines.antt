@@ -13,7 +13,7 @@ use Rattle.commands.specs.Codes.{Coded}
 use Rattle.commands.specs.declared.Spot.{Spot}
 use Rattle.commands.specs.declared.Spot.the-variants.{At, Nowhere}
 use Rattle.commands.specs.declared.Command.{Command}
-use Rattle.commands.specs.declared.Command.the-variants.{Nothing, Unknown, Format, Put, Lookup, Remove, Count, Row, Listing, Check, Inspect, Report}
+use Rattle.commands.specs.declared.Command.the-variants.{Nothing, Unknown, Format, Put, Lookup, Remove, Count, Row, Listing, Check, Counts, Inspect, Report}
 
 -- r is where w's first space stands, or w's length
 pub record FirstSpace (w : List ℕ) (r : ℕ) : Type 0 where
@@ -112,6 +112,10 @@ listWord = 108 ∷ 105 ∷ 115 ∷ 116 ∷ []
 abbrev pub checkWord : List ℕ
 checkWord = 99 ∷ 104 ∷ 101 ∷ 99 ∷ 107 ∷ []
 
+-- "counts"
+abbrev pub countsWord : List ℕ
+countsWord = 99 ∷ 111 ∷ 117 ∷ 110 ∷ 116 ∷ 115 ∷ []
+
 -- "inspect"
 abbrev pub inspectWord : List ℕ
 inspectWord = 105 ∷ 110 ∷ 115 ∷ 112 ∷ 101 ∷ 99 ∷ 116 ∷ []
@@ -131,6 +135,7 @@ Asks l k Count = l ≡ countWord
 Asks l k (Row n) = After l rowWord (Decimal n)
 Asks l k Listing = l ≡ listWord
 Asks l k Check = l ≡ checkWord
+Asks l k Counts = l ≡ countsWord
 Asks l k (Inspect n) = After l inspectWord (Decimal n)
 Asks l k Report = After l reportWord (λ w. Unit {0})
 Asks l k Unknown = ⊥
@@ -146,6 +151,7 @@ WithinLimits Count = Unit {0}
 WithinLimits (Row n) = n < 2 ^ 64
 WithinLimits Listing = Unit {0}
 WithinLimits Check = Unit {0}
+WithinLimits Counts = Unit {0}
 WithinLimits (Inspect n) = n < 2 ^ 64
 WithinLimits Report = Unit {0}
 WithinLimits Unknown = Unit {0}
@@ -165,6 +171,7 @@ Means l k Count = Asks l k Count
 Means l k (Row n) = Asks l k (Row n)
 Means l k Listing = Asks l k Listing
 Means l k Check = Asks l k Check
+Means l k Counts = Asks l k Counts
 Means l k (Inspect n) = Asks l k (Inspect n)
 Means l k Report = Asks l k Report
 Means l k Unknown = AsksNothing l k

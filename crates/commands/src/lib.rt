@@ -36,6 +36,8 @@ pub enum Command {
     Row(usize),
     Listing,
     Check,
+    // filled in, in a store that has none
+    Counts,
     Inspect(usize),
     // of a sheet, whose name is the rest of the line
     Report,

@@ -96,6 +96,9 @@ fn bare(line: &[u8]) -> Command
     if same(line, b"check") {
         return Command::Check;
     }
+    if same(line, b"counts") {
+        return Command::Counts;
+    }
     Command::Unknown
 }
 

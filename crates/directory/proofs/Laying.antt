@@ -2,9 +2,9 @@
 use mathlib.Core.Path.{_≡_, sym, ap, subst, subst₂, _∙_}
 use mathlib.Core.List.{List}
 use mathlib.Core.Logic.{inl, inr, ⊎-elim}
-use Prim.Native.Nat.{ℕ, _+_, _-_, _/_, _%_, _≤_, _<_}
+use Prim.Native.Nat.{ℕ, _+_, _-_, _*_, _/_, _%_, _≤_, _<_}
 use native.Mathlib.Omega.{arith}
-use native.Mathlib.Nat.{mul-div-cancel, mul-mod-left}
+use native.Mathlib.Nat.{mul-div-cancel, mul-le-mul-right, mul-mod-left}
 use lib.ListN.{length, getD, List·getD-eq-default}
 use Rattle.ground.specs.Lists.{byte}
 use Rattle.ground.proofs.Sides.{side}
@@ -13,6 +13,8 @@ use Rattle.partition.specs.declared.Shape.{Shape}
 use Rattle.store.specs.Pages.{size, pages, page, entryAt, Page, bucket, read, contents, deepestIn}
 use Rattle.store.specs.Accepted.{GoodLength, Calls}
 use Rattle.store.specs.Demands.{Sized}
+use Rattle.counts.specs.Tallies.{DeepestCounted}
+use Rattle.counts.proofs.Deepest.{told-deepest}
 use Rattle.store.proofs.Showing.Shows.{prefixOn, Holding}
 use Rattle.store.proofs.Showing.Shown.{free-not}
 use Rattle.store.proofs.Showing.Rooms.{bucket-one}
@@ -21,7 +23,7 @@ use Rattle.store.proofs.Showing.Showing.{first-code, pages-held}
 use Rattle.store.proofs.Accepted.Named as Named
 use Rattle.store.proofs.Accepted.Named.{deepest-le, deepest-bound}
 use Rattle.store.proofs.Accepted.Accepting.{Head, Whole, Laid, head-kept, contents-kept, each-kept}
-use Rattle.directory.specs.Directory.{EntryFor, none, names, Directed, Directable, SoundPage, free, used, Settling}
+use Rattle.directory.specs.Directory.{EntryFor, none, names, Directed, Directable, SoundPage, free, used, Settling, Settleable, SettleDue}
 
 module _ (S : Shape) (s : List ℕ) (n : ℕ) (P : Settling S s n) where
   many : pages S s ≡ n
@@ -109,3 +111,13 @@ module _ (S : Shape) (s : List ℕ) (n : ℕ) (P : Settling S s n) where
       holds = contents-kept S s t (D .long) (D .above);
       entry = λ e l. subst₂ (λ d m. Named.Entry S h t (contents S s) d m e) (sym (D .deep)) (ap (λ m. m - 2) (sym same-many)) (entry-of e (D .entries e l));
     }
+
+-- the depth that true counts tell is the largest bucket depth
+pub told-depth : (S : Shape) (h : List ℕ → ℕ) (s : List ℕ) (n d most : ℕ) → SettleDue S h s n d most → (r : ℕ) → DeepestCounted s most r → r ≡ deepestIn (contents S s)
+told-depth S h s n d most P r D = sym (told-deepest S s most r (P .store .counts) (P .limit) (P .low) D)
+
+-- page 0 has room for its counts
+pub room-counts : (S : Shape) (s : List ℕ) (n : ℕ) → Settleable S s n → 80 ≤ length s
+room-counts S s n P =
+    let m : 3 * size S ≤ n * size S = mul-le-mul-right (size S) (P .pages .least) in
+    omega (arith, m, P .pages .long, P .sized .least)

@@ -5,4 +5,5 @@ pub mod Frees
 pub mod Laying
 pub mod Vacancy
 pub mod Settles
+pub mod Recounts
 pub mod Renews

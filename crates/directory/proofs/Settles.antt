@@ -7,20 +7,23 @@ use native.Mathlib.Nat.{le-trans, mul-le-mul-right, div-add-mod'}
 use native.Mathlib.Decide.{ℕ-discrete}
 use lib.ListN.{length, set}
 use Rattle.ground.specs.Lists.{byte}
+use Rattle.words.specs.Moves.{Frame}
 use Rattle.page.specs.Page.{BucketPage, depth, rows}
 use Rattle.partition.specs.Partition.{Row}
 use Rattle.partition.specs.declared.Shape.{Shape}
 use Rattle.store.specs.Pages.{size, pages, page, bucket, contents, deepestIn, setPage}
 use Rattle.store.specs.Accepted.{Stands, unused, used as in-use, Accepted}
+use Rattle.store.specs.Counts.{Counts}
 use Rattle.store.specs.Tables.{Becomes}
+use Rattle.store.proofs.Counts.Words.{counts-kept}
 use Rattle.store.specs.Demands.{Sized, Hash}
 use Rattle.store.proofs.Accepted.Rules.{opened}
 use Rattle.store.proofs.Showing.Shows.{Shows}
 use Rattle.store.proofs.Accepted.Unique.{read-used}
 use Rattle.store.proofs.Accepted.Spelled.{AllFolded}
-use Rattle.store.proofs.Accepted.Accepting.{accepted-laid, head-kept, laid-becomes}
+use Rattle.store.proofs.Accepted.Accepting.{accepted-laid, contents-kept, head-around, laid-becomes, page-kept}
 use Rattle.store.proofs.Paging.Views.{set-long, set-same, set-other, set-below, set-contents}
-use Rattle.directory.specs.Directory.{Directed, SoundPage, free, used, Settling, Rewritten}
+use Rattle.directory.specs.Directory.{Directed, SoundPage, free, used, Settling, Settleable, Rewritten}
 use Rattle.directory.proofs.Laying.{directed-laid}
 
 -- one page more
@@ -65,10 +68,31 @@ module _ (S : Shape) (sized : Sized S) (h : List ℕ → ℕ) (hash : Hash h) (s
           pages = W .sound;
         }
 
-    pub settled : (u : List ℕ) → Directed S h t (deepestIn (contents S t)) (pages S s) u → (rs : List Row) → Shows S h rs (contents S t) → AllFolded rs → ((k : ℕ) → byte u k < 256)
-        → Becomes S h s (contents S t) u
-    settled u D rs w spelled small =
-        laid-becomes S h sized hash u rs (contents S t)
-        (directed-laid S t (pages S s) settling h u sized
-        (head-kept S sized s t (W .long) (λ k l. W .low k (omega (arith, sized .least))) (λ k a l. W .low k (omega arith)) (accepted-laid S h sized hash s A .head)) D)
-        w spelled s (D .long ∙ W .long) small
+    -- t with true counts
+    module _ (t′ : List ℕ) (F : Frame t 24 56 t′) (C : Counts S t′) where
+      same-above : (k : ℕ) → 2 * size S ≤ k → byte t′ k ≡ byte t k
+      same-above k l = F .above k (omega (arith, sized .least))
+
+      pub settleable : Settleable S t′ (pages S s)
+      settleable = record {
+        sized = sized;
+        pages = record {
+          long = F .len ∙ settling .long;
+          least = settling .least;
+          most = settling .most;
+          pages = λ p a b. subst (SoundPage S) (sym (page-kept S t t′ (F .len) same-above p a (subst (λ n. p < n / size S) (sym (F .len ∙ W .long)) b))) (W .sound p a b);
+        };
+        counts = C;
+      }
+
+      pub settled : (u : List ℕ) → Directed S h t′ (deepestIn (contents S t′)) (pages S s) u → (rs : List Row) → Shows S h rs (contents S t) → AllFolded rs → ((k : ℕ) → byte u k < 256)
+          → Becomes S h s (contents S t) u
+      settled u D rs w spelled small =
+          let e : contents S t′ ≡ contents S t = contents-kept S t t′ (F .len) same-above in
+          subst (λ gs. Becomes S h s gs u) e
+          (laid-becomes S h sized hash u rs (contents S t′)
+          (directed-laid S t′ (pages S s) (settleable .pages) h u sized
+          (head-around S sized s t′ (F .len ∙ W .long) (λ k l. F .below k (omega arith) ∙ W .low k (omega (arith, sized .least))) (λ k a l. F .below k l ∙ W .low k (omega (arith, sized .least))) (λ k a l. F .above k (omega arith) ∙ W .low k l)
+          (accepted-laid S h sized hash s A .head)) D)
+          (subst (Shows S h rs) (sym e) w) spelled s (D .long ∙ F .len ∙ W .long) small
+          (counts-kept S t′ u (λ k a b. D .rest k (omega arith) (omega (arith, sized .least))) (contents-kept S t′ u (D .long) (D .above)) C))

@@ -9,8 +9,9 @@ use Rattle.words.specs.Moves.{Frame}
 use Rattle.page.specs.Page.{BucketPage, depth, code}
 use Rattle.partition.specs.Bits.{top}
 use Rattle.partition.specs.declared.Shape.{Shape}
-use Rattle.store.specs.Pages.{size, page, dirDepth, entryAt, pages}
+use Rattle.store.specs.Pages.{size, page, dirDepth, entryAt, pages, contents, deepestIn}
 use Rattle.store.specs.Accepted.{Zero, Calls}
+use Rattle.store.specs.Counts.{Counts}
 use Rattle.store.specs.Demands.{Sized}
 
 -- page p of the store is a bucket whose prefix calls for entry i in a directory of depth d
@@ -94,10 +95,23 @@ pub record Settling (S : Shape) (s : List ℕ) (n : ℕ) : Type 0 where
   pub most : n ≤ S .entries + 2
   pub pages : (p : ℕ) → 2 ≤ p → p < n → SoundPage S (page S s p)
 
--- such a store, of pages of a size that there is
+-- a store of n pages, each of them sound, with true counts
 pub record Settleable (S : Shape) (s : List ℕ) (n : ℕ) : Type 0 where
   pub sized : Sized S
   pub pages : Settling S s n
+  pub counts : Counts S s
+
+-- and none is deeper than most bits; its directory, of depth d, is that of the pages where that is their depth
+pub record SettleDue (S : Shape) (h : List ℕ → ℕ) (s : List ℕ) (n d most : ℕ) : Type 0 where
+  pub store : Settleable S s n
+  pub limit : most ≤ 12
+  pub low : deepestIn (contents S s) ≤ most
+  pub named : deepestIn (contents S s) ≡ d → Directed S h s d n s
+
+-- t is s with true counts in page 0
+pub record Recounted (S : Shape) (s t : List ℕ) : Type 0 where
+  pub old : Frame s 24 56 t
+  pub counts : Counts S t
 
 -- t is s but for its pages from 1 on, of which those from 2 on are sound
 pub record Rewritten (S : Shape) (s t : List ℕ) : Type 0 where

@@ -1,10 +1,9 @@
 // Depth and directory, written from the pages. Over any page shape.
-ghost use mathlib.Core.Path.{_≡_};
 ghost use Rattle.hash.specs.Fnv.{fnv};
 ghost use Rattle.partition.specs.Bits.{top};
 ghost use Rattle.store.specs.Pages.{contents, deepestIn};
 ghost use Rattle.store.specs.Demands.{Sized};
-ghost use Rattle.directory.specs.Directory.{RunSet, Runnable, Namable, PrefixNamed, PageNamed, PageOf, Directable, Directed, Settleable};
+ghost use Rattle.directory.specs.Directory.{RunSet, Runnable, Namable, PrefixNamed, PageNamed, PageOf, Directable, Directed, Settling, SettleDue, Recounted};
 use partition::Shape;
 
 // The entries from a up to b name page p.
@@ -58,12 +57,22 @@ fn write_directory(s: &mut [u8], z: Shape, n: usize, d: u32)
     }
 }
 
-// Directory and depth are then as defined, those of the pages, where the directory is known to be if its depth d is.
-pub fn settle_depth(s: &mut [u8], z: Shape, n: usize, d: usize)
-    requires { ⌜ Settleable z (now s) n × (deepestIn (contents z (now s)) ≡ d → Directed z fnv (now s) d n (now s)) ⌝ }
+// The counts in page 0 are then those of the n pages.
+pub fn recount(s: &mut [u8], z: Shape, n: usize)
+    requires { ⌜ Sized z × Settling z (now s) n ⌝ }
+    ensures { λ _. ⌜ Recounted z (now (s .entry)) (now (s .exit)) ⌝ }
+{
+    let mut tallies = [0u32; 14];
+    counts::tally(s, z, n, &mut tallies);
+    counts::write_counts(s, &tallies);
+}
+
+// Directory and depth are then as defined, those of the pages, where the directory is known to be if its depth d is. The depth, at most most, comes from the counts in page 0.
+pub fn settle_depth(s: &mut [u8], z: Shape, n: usize, d: usize, most: usize)
+    requires { ⌜ SettleDue z fnv (now s) n d most ⌝ }
     ensures { λ _. ⌜ Directed z fnv (now (s .entry)) (deepestIn (contents z (now (s .entry)))) n (now (s .exit)) ⌝ }
 {
-    let e = store::deepest(s, z, n);
+    let e = counts::deepest_counted(s, most);
     if e != d {
         write_directory(s, z, n, e as u32);
     }

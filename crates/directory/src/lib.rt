@@ -9,6 +9,7 @@ mod directory;
 mod pages;
 
 pub use directory::name_prefix;
+pub use directory::recount;
 pub use directory::settle_depth;
 pub use pages::free_pages;
 pub use pages::lowest_free;

@@ -10,15 +10,16 @@ use native.Mathlib.Omega.{arith}
 use lib.ListN.{length, take, drop, getElem?, take-append-drop}
 use lib.Seq.{take-at, length-take-le}
 use Rattle.commands.specs.declared.Command.{Command}
-use Rattle.commands.specs.declared.Command.the-variants.{Nothing, Unknown, Format, Put, Lookup, Remove, Count, Row, Listing, Check, Inspect, Report}
+use Rattle.commands.specs.declared.Command.the-variants.{Nothing, Unknown, Format, Put, Lookup, Remove, Count, Row, Listing, Check, Counts, Inspect, Report}
 use Rattle.ground.specs.Ladder.{Answers}
+use Rattle.ground.proofs.Ladders.{each}
 use Rattle.ground.specs.Says.{Says}
 use Rattle.ground.proofs.Sides.{side}
 use Rattle.ground.proofs.Tests.{none-some, says-true}
 use Rattle.hash.specs.Fnv.{fnv, fnv-lt}
 use Rattle.partition.specs.declared.Shape.{Shape}
 use Rattle.partition.specs.Listing.{listing}
-use Rattle.partition.specs.Sizes.{shapeOf}
+use Rattle.partition.specs.Sizes.{size, shapeOf}
 use Rattle.partition.proofs.Sizes.{sized-of}
 use Rattle.any_size.proofs.Rows.{said-of, short}
 use Rattle.any_size.proofs.Calls.{formats}
@@ -26,9 +27,10 @@ use Rattle.any_size.proofs.Histories.{own-second}
 use Rattle.partition.specs.Partition.{Row as StoredRow}
 use Rattle.partition.proofs.Reorders.{length-same}
 use Rattle.store.specs.Accepted.{Accepted}
+use Rattle.page.specs.declared.Place.{Place}
 use Rattle.store.specs.Demands.{Call, Made, Sized, put, remove, ok}
 use Rattle.store.specs.Pages.{rowsHeld}
-use Rattle.store.specs.Tables.{Out, formatted, checkTable, formatSized}
+use Rattle.store.specs.Tables.{Out, refused, refusedAt, formatted, checkTable, formatSized, putTable, removeTable}
 use Rattle.store.proofs.Accepted.Format.{accepted-always}
 use Rattle.store.proofs.Demands.Kept.{refusal-keeps}
 use Rattle.store.proofs.Showing.Walked.{listed-once}
@@ -36,9 +38,11 @@ use Rattle.lots.specs.declared.Outcome.{Outcome}
 use Rattle.lots.specs.declared.Outcome.the-variants.{Silent, Unknown as NotKnown, Told, Changed, Listed, Format as Formats, Stopped}
 use Rattle.lots.specs.declared.Session.{Session}
 use Rattle.lots.specs.Known.{Known}
-use Rattle.lots.specs.Obeys.{Outcomes, Passes, Untouched, Does, Obeys}
+use Rattle.filling.specs.Filling.{fillTable}
+use Rattle.filling.proofs.Laws.{fill-laws, fill-done}
+use Rattle.lots.specs.Obeys.{Outcomes, Passes, TellsOnly, Numbers, Untouched, ListAsked, PageAsked, InspectAsked, Does, Obeys}
 use Rattle.store.proofs.Demands.Unchecked.{check-says}
-use Rattle.lots.specs.Sessions.{Leaves, After, Alike, SessionHolds, Kept}
+use Rattle.lots.specs.Sessions.{Leaves, After, Alike, Changes, Learnt, SessionHolds, Kept}
 
 -- a check that is no refusal accepts
 pub checked-accepted : (s : List ℕ) (o : Out) → Answers (checkTable (shapeOf s) fnv s) o → ok o ≡ true → Accepted (shapeOf s) fnv s
@@ -54,6 +58,10 @@ page-inside p z n b =
     let m : suc p * z ≤ n / z * z = mul-le-mul-right z b in
     omega (arith, m, suc-mul p z, div-mul-le-self n z)
 
+-- page 0 of an accepted store has room for the number of rows
+pub counts-room : (s : List ℕ) → Accepted (shapeOf s) fnv s → 28 ≤ length s
+counts-room s a = omega (arith, page-inside 0 (size (shapeOf s)) (length s) (omega (arith, a .long .least)), sized-of s .least)
+
 -- how many rows the listing has
 pub listing-counts : (S : Shape) (s : List ℕ) → Sized S → Accepted S fnv s → length (rowsHeld S s) ≡ length (listing S fnv (rowsHeld S s))
 listing-counts S s z a = length-same (listed-once S fnv z fnv-lt s a .1)
@@ -64,19 +72,22 @@ some-row [] n h e = omega arith
 some-row (x ∷ l) zero h e = none-some e refl
 some-row (x ∷ l) (suc n) h e = some-row l n (omega arith) e
 
--- a call whose refusal is told leaves every byte
-pub told-leaves : (c : Call) (s : List ℕ) (a : Out) (o : Outcome) (t : List ℕ) → Made (shapeOf s) fnv c s a t → Outcomes a o → Leaves o → t ≡ s
-told-leaves c s a (Told x) t m r l = refusal-keeps (shapeOf s) fnv c s a t m (r .1)
-told-leaves c s a (Formats n size) t m r l = absurd r
-told-leaves c s a Silent t m r l = absurd r
-told-leaves c s a NotKnown t m r l = absurd r
-told-leaves c s a (Listed n) t m r l = absurd r
-told-leaves c s a (Changed x) t m r l = absurd l
-told-leaves c s a Stopped t m r l = absurd l
+-- a call whose refusal is told leaves every byte, where a refusal keeps them
+told-leaves : (a : Out) (o : Outcome) (s t : List ℕ) → (ok a ≡ false → t ≡ s) → Outcomes a o → Leaves o → t ≡ s
+told-leaves a (Told x) s t f r l = f (r .1)
+told-leaves a (Formats n size) s t f r l = absurd r
+told-leaves a Silent s t f r l = absurd r
+told-leaves a NotKnown s t f r l = absurd r
+told-leaves a (Listed n) s t f r l = absurd r
+told-leaves a (Changed x) s t f r l = absurd l
+told-leaves a Stopped s t f r l = absurd l
+
+made-leaves : (c : Call) (s : List ℕ) (a : Out) (o : Outcome) (t : List ℕ) → Made (shapeOf s) fnv c s a t → Outcomes a o → Leaves o → t ≡ s
+made-leaves c s a o t m = told-leaves a o s t (refusal-keeps (shapeOf s) fnv c s a t m)
 
 does-leaves : (k : List ℕ) (c : Command) (s : List ℕ) (o : Outcome) (t : List ℕ) → Does k c s o t → Leaves o → t ≡ s
-does-leaves k (Put n p m) s o t d l = told-leaves (put (take n k) p m) s (d .answer) o t (d .made) (d .told) l
-does-leaves k (Remove n) s o t d l = told-leaves (remove (take n k)) s (d .answer) o t (d .made) (d .told) l
+does-leaves k (Put n p m) s o t d l = made-leaves (put (take n k) p m) s (d .answer) o t (d .made) (d .told) l
+does-leaves k (Remove n) s o t d l = made-leaves (remove (take n k)) s (d .answer) o t (d .made) (d .told) l
 does-leaves k (Format n size) s o t d l = d .1
 does-leaves k Nothing s o t d l = d .1
 does-leaves k Unknown s o t d l = d .1
@@ -85,6 +96,7 @@ does-leaves k Count s o t d l = d .1
 does-leaves k (Row n) s o t d l = d .1
 does-leaves k Listing s o t d l = d .1
 does-leaves k Check s o t d l = d .1
+does-leaves k Counts s o t d l = told-leaves (d .answer) o s t (fill-laws (shapeOf s) fnv (sized-of s) .kept s (d .answer) t (d .made)) (d .told) l
 does-leaves k (Inspect n) s o t d l = d .1
 does-leaves k Report s o t d l = d .1
 
@@ -115,6 +127,19 @@ still-made c s o t a m =
     let x = accepted-always (shapeOf s) fnv (sized-of s) c s o t a m in
     record { again = subst (λ S. Accepted S fnv t) (sym (said-of fnv s t (x .0))) (x .0); long = x .1 }
 
+-- so it is of a store whose counts are filled in
+still-done : (s : List ℕ) (o : Out) (t : List ℕ) → Answers (fillTable (shapeOf s) fnv s) (o, t) → ok o ≡ true → Still s t
+still-done s o t m e =
+    let x = fill-done (shapeOf s) fnv (sized-of s) s o t m e in
+    record { again = subst (λ S. Accepted S fnv t) (sym (said-of fnv s t (x .again))) (x .again); long = x .long }
+
+still-filled : (s : List ℕ) (o : Out) (t : List ℕ) → Accepted (shapeOf s) fnv s → Answers (fillTable (shapeOf s) fnv s) (o, t) → Still s t
+still-filled s o t a m = go (ok o) refl
+  where
+    go : (b : Bool) → ok o ≡ b → Still s t
+    go true e = still-done s o t m e
+    go false e = still-same s t a (fill-laws (shapeOf s) fnv (sized-of s) .kept s o t m e)
+
 does-still : (k : List ℕ) (c : Command) (s : List ℕ) (o : Outcome) (t : List ℕ) → Does k c s o t → Accepted (shapeOf s) fnv s → Still s t
 does-still k (Put n p m) s o t d a = still-made (put (take n k) p m) s (d .answer) t a (d .made)
 does-still k (Remove n) s o t d a = still-made (remove (take n k)) s (d .answer) t a (d .made)
@@ -126,8 +151,97 @@ does-still k Count s o t d a = still-same s t a (d .1)
 does-still k (Row n) s o t d a = still-same s t a (d .1)
 does-still k Listing s o t d a = still-same s t a (d .1)
 does-still k Check s o t d a = still-same s t a (d .1)
+does-still k Counts s o t d a = still-filled s (d .answer) t a (d .made)
 does-still k (Inspect n) s o t d a = still-same s t a (d .1)
 does-still k Report s o t d a = still-same s t a (d .1)
+
+-- ---- what a change makes known
+
+told-done : (a : Out) (o : Outcome) → Outcomes a o → Changes o → ok a ≡ true
+told-done a (Changed x) r c = r .1
+told-done a (Told x) r c = absurd c
+told-done a (Formats n size) r c = absurd c
+told-done a Silent r c = absurd c
+told-done a NotKnown r c = absurd c
+told-done a (Listed n) r c = absurd c
+told-done a Stopped r c = absurd c
+
+unchanged : (o : Outcome) → Untouched o → Changes o → ⊥
+unchanged (Changed x) u c = u
+unchanged (Told x) u c = c
+unchanged (Formats n size) u c = c
+unchanged Silent u c = c
+unchanged NotKnown u c = c
+unchanged (Listed n) u c = c
+unchanged Stopped u c = c
+
+-- a put or a remove that is no refusal was made on an accepted store
+module _ (S : Shape) (s : List ℕ) where
+  refused-not : {A : Type 0} {n : ℕ} {t : List ℕ} (x : Out × List ℕ) → x ≡ (refused n, t) → ok (x .0) ≡ true → A
+  refused-not x e f = absurd (true≢false (sym f ∙ ap (λ y. ok (y .0)) e))
+
+  broken-not : {A : Type 0} {p : ℕ} {t : List ℕ} (x : Out × List ℕ) → x ≡ (refusedAt 2 p, t) → ok (x .0) ≡ true → A
+  broken-not x e f = absurd (true≢false (sym f ∙ ap (λ y. ok (y .0)) e))
+
+  put-on : (c : List ℕ) (p : Place) (m : ℕ) (x : Out × List ℕ) → Answers (putTable S fnv s c p m) x → ok (x .0) ≡ true → Accepted S fnv s
+  unfolding putTable
+  put-on c p m = each (λ x. ok (x .0) ≡ true → Accepted S fnv s) (putTable S fnv s c p m)
+      ((λ _ _. refused-not), (λ _. ((λ _ _. refused-not), (λ _. ((λ _ _. refused-not), (λ _. ((λ _ _. refused-not), (λ _. ((λ _ _. broken-not), (λ _ a. ((λ _ _ _ _ _. a), (λ _. ((λ _ _ _ _ _. a), (λ _. ((λ _ _ _ _ _. a), (λ _. ((λ _ _ _ _ _. a), (λ _. ((λ _ _ _ _ _. a), (λ _ _ _ _. a))))))))))))))))))))
+
+  remove-on : (c : List ℕ) (x : Out × List ℕ) → Answers (removeTable S fnv s c) x → ok (x .0) ≡ true → Accepted S fnv s
+  unfolding removeTable
+  remove-on c = each (λ x. ok (x .0) ≡ true → Accepted S fnv s) (removeTable S fnv s c)
+      ((λ _ _. refused-not), (λ _. ((λ _ _. refused-not), (λ _. ((λ _ _. broken-not), (λ _ a. ((λ _ _ _ _ _. a), (λ _ _ _ _. a))))))))
+
+reads-untouched : (a : Out) (o : Outcome) → TellsOnly a o → Untouched o
+reads-untouched a NotKnown p = tt
+reads-untouched a Stopped p = tt
+reads-untouched a Silent p = tt
+reads-untouched a (Told x) p = tt
+reads-untouched a (Listed n) p = tt
+reads-untouched a (Changed x) p = p
+reads-untouched a (Formats n size) p = p
+
+numbers-untouched : (n : ℕ) (o : Outcome) → Numbers n o → Untouched o
+numbers-untouched n NotKnown p = tt
+numbers-untouched n Stopped p = tt
+numbers-untouched n Silent p = tt
+numbers-untouched n (Told x) p = tt
+numbers-untouched n (Listed m) p = tt
+numbers-untouched n (Changed x) p = p
+numbers-untouched n (Formats m size) p = p
+
+-- inspect changes nothing, whichever of its ways it goes
+page-unchanged : {g : List ℕ} (o : Outcome) → PageAsked g o → Changes o → ⊥
+page-unchanged o d w = unchanged o (reads-untouched _ o (d .refused (λ k. unchanged o (numbers-untouched _ o (d .rows k)) w))) w
+
+inspect-unchanged : (n : ℕ) (s : List ℕ) (o : Outcome) → InspectAsked n s o → Changes o → ⊥
+inspect-unchanged n s o d w = unchanged o (passes-untouched o (d .absent (λ h. page-unchanged o (d .there h) w))) w
+
+listed-untouched : {s : List ℕ} {o : Outcome} → ListAsked s o → Untouched o
+listed-untouched {s} {o} d = go (ok (d .answer)) refl
+  where
+    go : (b : Bool) → ok (d .answer) ≡ b → Untouched o
+    go true e = numbers-untouched _ o (d .rows e)
+    go false e = reads-untouched (d .answer) o (d .refused e)
+
+-- a line that has changed the store leaves an accepted one, whatever was known of it
+does-changed : (k : List ℕ) (c : Command) (s : List ℕ) (o : Outcome) (t : List ℕ) → Does k c s o t → Changes o → Still s t
+does-changed k (Put n p m) s o t d w =
+    still-made (put (take n k) p m) s (d .answer) t (put-on (shapeOf s) s (take n k) p m (d .answer, t) (d .made) (told-done (d .answer) o (d .told) w)) (d .made)
+does-changed k (Remove n) s o t d w =
+    still-made (remove (take n k)) s (d .answer) t (remove-on (shapeOf s) s (take n k) (d .answer, t) (d .made) (told-done (d .answer) o (d .told) w)) (d .made)
+does-changed k Counts s o t d w = still-done s (d .answer) t (d .made) (told-done (d .answer) o (d .told) w)
+does-changed k (Format n size) s o t d w = absurd (subst Changes (d .0) w)
+does-changed k Nothing s o t d w = absurd (subst Changes (d .0) w)
+does-changed k Unknown s o t d w = absurd (unchanged o (passes-untouched o (d .0)) w)
+does-changed k (Lookup n) s o t d w = absurd (unchanged o (reads-untouched (d .0 .answer) o (d .0 .told)) w)
+does-changed k Count s o t d w = absurd (unchanged o (reads-untouched (d .0 .answer) o (d .0 .told)) w)
+does-changed k (Row n) s o t d w = absurd (unchanged o (reads-untouched (d .0 .asked .answer) o (d .0 .asked .told)) w)
+does-changed k Listing s o t d w = absurd (unchanged o (listed-untouched (d .0)) w)
+does-changed k Check s o t d w = absurd (unchanged o (reads-untouched (d .0 .answer) o (d .0 .told)) w)
+does-changed k (Inspect n) s o t d w = absurd (inspect-unchanged n s o (d .0) w)
+does-changed k Report s o t d w = absurd (unchanged o (d .0 .reads) w)
 
 -- the first n bytes, lent and back as ys
 pub front-back : (xs ys : List ℕ) (n : ℕ) → length ys ≡ n → take n (take 0 xs ++ (ys ++ drop (n - 0) (drop 0 xs))) ≡ ys
@@ -152,6 +266,20 @@ still-holds {z} {line} {xs} {ys} {o} h x l = record {
   within = l;
   known = λ e. still-front xs ys (z .len) (h .within) (does-still (x .code) (x .command) _ o ys (x .does) (lent-known {z = z} {xs = xs} h e)) refl;
 }
+
+-- and where the line has changed them, they are accepted
+pub learnt-holds : {z y : Session} {line xs ys : List ℕ} {o : Outcome} → Learnt z o y → SessionHolds z xs → Obeys line (take (z .len - 0) (drop 0 xs)) o ys
+    → z .len ≤ length (take 0 xs ++ (ys ++ drop (z .len - 0) (drop 0 xs))) → SessionHolds y (take 0 xs ++ (ys ++ drop (z .len - 0) (drop 0 xs)))
+learnt-holds {z} {y} {line} {xs} {ys} {o} L h x l = record {
+  within = omega (arith, L .len, l);
+  known = λ e. subst (λ n. Accepted (shapeOf (take n back)) fnv (take n back)) (sym (L .len)) (⊎-elim
+      (λ f. still-holds {z = z} {line = line} {xs = xs} {ys = ys} {o = o} h x l .known (sym f ∙ e))
+      (λ w. still-front xs ys (z .len) (h .within) (does-changed (x .code) (x .command) _ o ys (x .does) w) refl)
+      (L .known));
+}
+  where
+    back : List ℕ
+    back = take 0 xs ++ (ys ++ drop (z .len - 0) (drop 0 xs))
 
 -- a session that begins with what the check says
 pub begun : {z : Session} {xs : List ℕ} (n : ℕ) (b : Bool) → z .len ≡ n → z .known ≡ b → Says b (Accepted (shapeOf (take (n - 0) (drop 0 xs))) fnv (take (n - 0) (drop 0 xs))) → n ≤ length xs → SessionHolds z xs
@@ -228,3 +356,14 @@ taken-in a f h = record {
   long = λ q. a .len;
   holds = holds-as (a .len) (a .known) h;
 }
+
+-- with what it makes known
+pub learnt-in : {z y r : Session} {o : Outcome} {s t : List ℕ} → Learnt z o y → After y o r → (Leaves o → t ≡ s) → SessionHolds y t → Kept z s r t
+learnt-in L a f h =
+    let k = taken-in a f h in
+    record {
+      quiet = λ q. let p = k .quiet q in (sym (L .changed) ∙ p .0, sym (L .stopped) ∙ p .1);
+      same = k .same;
+      long = λ q. k .long q ∙ L .len;
+      holds = k .holds;
+    }

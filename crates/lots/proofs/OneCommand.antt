@@ -1,4 +1,4 @@
--- A line asks one command only: its first three bytes say which. Assumes nothing.
+-- A line asks one command only: its first three bytes and its sixth say which. Assumes nothing.
 use Prim.Native.Nat.{ℕ, _+_}
 use mathlib.Core.Path.{_≡_, refl, sym, ap, subst, _∙_}
 use mathlib.Core.List.{List, [], _∷_, _++_}
@@ -8,7 +8,7 @@ use lib.Dec.{eqb}
 use lib.ListN.{length}
 use Rattle.ground.specs.Lists.{byte}
 use Rattle.commands.specs.declared.Command.{Command}
-use Rattle.commands.specs.declared.Command.the-variants.{Nothing, Unknown, Format, Put, Lookup, Remove, Count, Row, Listing, Check, Inspect, Report}
+use Rattle.commands.specs.declared.Command.the-variants.{Nothing, Unknown, Format, Put, Lookup, Remove, Count, Row, Listing, Check, Counts, Inspect, Report}
 use Rattle.commands.specs.Lines.{Paged, formatWord, putWord, addWord, moveWord, PutBy, Asks, AsksNothing, Means, WithinLimits}
 use Rattle.commands.specs.Numbers.{Decimal}
 use Rattle.commands.proofs.Unread.{split-one, no-space, digits-spaceless}
@@ -27,37 +27,41 @@ kind Count = 5
 kind (Row n) = 6
 kind Listing = 7
 kind Check = 8
+kind Counts = 12
 kind (Inspect n) = 9
 kind Report = 11
 kind Unknown = 10
 
--- the command that the first three bytes begin
-sort : ℕ → ℕ → ℕ → ℕ
-sort a b c =
+-- the command that the first three bytes begin, with the sixth, which only counts has of those that begin as count does
+sort : ℕ → ℕ → ℕ → ℕ → ℕ
+sort a b c d =
     pick (eqb a 102) 1 (pick (eqb a 112) 20 (pick (eqb a 97) 21 (pick (eqb a 109) 22 (pick (eqb a 105) 9
-    (pick (eqb a 108) (pick (eqb b 111) 3 7) (pick (eqb a 114) (pick (eqb b 101) (pick (eqb c 112) 11 4) 6) (pick (eqb a 99) (pick (eqb b 111) 5 8) 0)))))))
+    (pick (eqb a 108) (pick (eqb b 111) 3 7) (pick (eqb a 114) (pick (eqb b 101) (pick (eqb c 112) 11 4) 6) (pick (eqb a 99) (pick (eqb b 111) (pick (eqb d 115) 12 5) 8) 0)))))))
 
-sorted-as : (l : List ℕ) (n : ℕ) (t : List ℕ) → l ≡ t → sort (byte t 0) (byte t 1) (byte t 2) ≡ n → sort (byte l 0) (byte l 1) (byte l 2) ≡ n
-sorted-as l n t e h = subst (λ x. sort (byte x 0) (byte x 1) (byte x 2) ≡ n) (sym e) h
+abbrev sortOf : List ℕ → ℕ
+sortOf l = sort (byte l 0) (byte l 1) (byte l 2) (byte l 5)
+
+sorted-as : (l : List ℕ) (n : ℕ) (t : List ℕ) → l ≡ t → sortOf t ≡ n → sortOf l ≡ n
+sorted-as l n t e h = subst (λ x. sortOf x ≡ n) (sym e) h
 
 empty : (l : List ℕ) → length l ≡ 0 → l ≡ []
 empty [] e = refl
 empty (x ∷ l) e = absurd (omega arith)
 
-comment : (a b c : ℕ) → a ≡ 35 → sort a b c ≡ 0
+comment : (a b c d : ℕ) → a ≡ 35 → sort a b c d ≡ 0
 unfolding sort
-comment a b c e = rw e refl
+comment a b c d e = rw e refl
 
-put-kind : (l w t : List ℕ) (m : ℕ) → l ≡ w ++ t → PutBy w m → sort (byte l 0) (byte l 1) (byte l 2) ≡ 20 + m
+put-kind : (l w t : List ℕ) (m : ℕ) → l ≡ w ++ t → PutBy w m → sortOf l ≡ 20 + m
 unfolding sort
 put-kind l w t m e (inl x) = sorted-as l 20 (putWord ++ t) (e ∙ ap (λ v. v ++ t) (x .1)) refl ∙ ap (λ n. 20 + n) (sym (x .0))
 put-kind l w t m e (inr (inl x)) = sorted-as l 21 (addWord ++ t) (e ∙ ap (λ v. v ++ t) (x .1)) refl ∙ ap (λ n. 20 + n) (sym (x .0))
 put-kind l w t m e (inr (inr x)) = sorted-as l 22 (moveWord ++ t) (e ∙ ap (λ v. v ++ t) (x .1)) refl ∙ ap (λ n. 20 + n) (sym (x .0))
 
-asked-kind : (l k : List ℕ) (c : Command) → Asks l k c → sort (byte l 0) (byte l 1) (byte l 2) ≡ kind c
+asked-kind : (l k : List ℕ) (c : Command) → Asks l k c → sortOf l ≡ kind c
 unfolding sort
 asked-kind l k Nothing (inl e) = sorted-as l 0 [] (empty l e) refl
-asked-kind l k Nothing (inr e) = comment (byte l 0) (byte l 1) (byte l 2) e
+asked-kind l k Nothing (inr e) = comment (byte l 0) (byte l 1) (byte l 2) (byte l 5) e
 asked-kind l k (Format n size) x = sorted-as l 1 _ (x .line) refl
 asked-kind l k (Put n p m) x = put-kind l (x .word) _ m (x .line .line) (x .by)
 asked-kind l k (Lookup n) x = sorted-as l 3 _ (x .line) refl
@@ -66,6 +70,7 @@ asked-kind l k Count x = sorted-as l 5 _ x refl
 asked-kind l k (Row n) x = sorted-as l 6 _ (x .line) refl
 asked-kind l k Listing x = sorted-as l 7 _ x refl
 asked-kind l k Check x = sorted-as l 8 _ x refl
+asked-kind l k Counts x = sorted-as l 12 _ x refl
 asked-kind l k (Inspect n) x = sorted-as l 9 _ (x .line) refl
 asked-kind l k Report x = sorted-as l 11 _ (x .line) refl
 asked-kind l k Unknown x = absurd x
@@ -100,6 +105,7 @@ taken l k Count m = inr m
 taken l k (Row n) m = inr m
 taken l k Listing m = inr m
 taken l k Check m = inr m
+taken l k Counts m = inr m
 taken l k (Inspect n) m = inr m
 taken l k Report m = inr m
 taken l k Unknown m = inl (refl, m)

@@ -6,7 +6,7 @@ use mathlib.Core.List.{List}
 use mathlib.Core.Option.{some}
 use lib.ListN.{length, take, getElem?}
 use Rattle.commands.specs.declared.Command.{Command}
-use Rattle.commands.specs.declared.Command.the-variants.{Nothing, Unknown, Format, Put, Lookup, Remove, Count, Row, Listing, Check, Inspect, Report}
+use Rattle.commands.specs.declared.Command.the-variants.{Nothing, Unknown, Format, Put, Lookup, Remove, Count, Row, Listing, Check, Counts, Inspect, Report}
 use Rattle.commands.specs.Lines.{Means}
 use Rattle.ground.specs.Ladder.{Answers}
 use Rattle.hash.specs.Fnv.{fnv}
@@ -18,6 +18,7 @@ use Rattle.store.specs.Pages.{pages, page, read, rowsOn, rowsHeld}
 use Rattle.store.specs.Tables.{Out, refusedAt, meaning, giving, PageKeeps, inspectTable}
 use Rattle.report.specs.declared.Sums.{Sums}
 use Rattle.report.specs.Report.{summed}
+use Rattle.filling.specs.Filling.{fillTable}
 use Rattle.lots.specs.declared.Outcome.{Outcome}
 use Rattle.lots.specs.Reports.{Reports}
 use Rattle.lots.specs.declared.Outcome.the-variants.{Silent, Unknown as NotKnown, Told, Changed, Listed, Format as Formats, Stopped}
@@ -144,6 +145,12 @@ pub record ReportAsked (s : List ℕ) (o : Outcome) : Type 0 where
   pub reads : Untouched o
   pub rows : (n : ℕ) → o ≡ Listed n → (fl : List ℕ) × ((x : Sums) × Reports s fl n (summed x))
 
+-- the counts of the store s are filled in, and the answer is told
+pub record CountsAsked (s : List ℕ) (o : Outcome) (t : List ℕ) : Type 0 where
+  pub answer : Out
+  pub made : Answers (fillTable (shapeOf s) fnv s) (answer, t)
+  pub told : Outcomes answer o
+
 -- a command on the store s; its code begins the buffer k
 abbrev pub Does : List ℕ → Command → List ℕ → Outcome → List ℕ → Type 0
 Does k (Put n p m) s o t = Written (put (take n k) p m) s o t
@@ -156,6 +163,7 @@ Does k Count s o t = Asked count s o × (t ≡ s)
 Does k (Row n) s o t = RowAsked n s o × (t ≡ s)
 Does k Listing s o t = ListAsked s o × (t ≡ s)
 Does k Check s o t = Asked check s o × (t ≡ s)
+Does k Counts s o t = CountsAsked s o t
 Does k (Inspect n) s o t = InspectAsked n s o × (t ≡ s)
 Does k Report s o t = ReportAsked s o × (t ≡ s)
 

@@ -47,6 +47,24 @@ pub record After (z : Session) (o : Outcome) (r : Session) : Type 0 where
   pub quiet : Quiet r → Quiet z
   pub leaves : Quiet r → Leaves o
 
+-- the line has changed the store
+abbrev pub Changes : Outcome → Type 0
+Changes (Changed x) = Unit {0}
+Changes Silent = ⊥
+Changes Unknown = ⊥
+Changes (Told x) = ⊥
+Changes (Listed n) = ⊥
+Changes (Format n size) = ⊥
+Changes Stopped = ⊥
+
+-- what a line makes known of the store: nothing, or, where it has changed it, that it is accepted
+pub record Learnt (z : Session) (o : Outcome) (r : Session) : Type 0 where
+  pub len : r .len ≡ z .len
+  pub fill : r .fill ≡ z .fill
+  pub changed : r .changed ≡ z .changed
+  pub stopped : r .stopped ≡ z .stopped
+  pub known : (r .known ≡ z .known) ⊎ Changes o
+
 -- from z with the store s to r with the store t: where r is quiet, z was, and the store is as it was
 pub record Kept (z : Session) (s : List ℕ) (r : Session) (t : List ℕ) : Type 0 where
   pub quiet : Quiet r → Quiet z

@@ -71,6 +71,9 @@ fn stands_alone(word: &[u8]) -> bool {
     if same(word, b"check") {
         return true;
     }
+    if same(word, b"counts") {
+        return true;
+    }
     if same(word, b"help") {
         return true;
     }

@@ -5,7 +5,7 @@ ghost use mathlib.Core.Logic.{_⊎_};
 ghost use Prim.Native.Nat.{_*_, _≤_};
 ghost use lib.ListN.{length};
 ghost use Rattle.lots.specs.Runs.{BeforeAnew, Ran, Turned, Went};
-ghost use Rattle.lots.specs.Sessions.{After, Alike, FormatAsked, FormatTold, SessionHolds, Kept};
+ghost use Rattle.lots.specs.Sessions.{After, Alike, FormatAsked, FormatTold, Learnt, SessionHolds, Kept};
 use super::known;
 use super::obey;
 use super::say;
@@ -156,6 +156,17 @@ fn before_anew(line: &[u8]) -> usize
     e
 }
 
+// What a line makes known: a store that a call has changed is accepted.
+fn learnt(z: Session, o: Outcome) -> Session
+    ensures { λ r. ⌜ Learnt z o r ⌝ }
+{
+    let mut y = z;
+    if let Outcome::Changed(_) = o {
+        y.known = true;
+    }
+    y
+}
+
 // A command on the store.
 fn command(store: &mut [u8], z: Session, line: &[u8]) -> Session
     requires { ⌜ SessionHolds z (now store) ⌝ }
@@ -167,7 +178,7 @@ fn command(store: &mut [u8], z: Session, line: &[u8]) -> Session
     if let Outcome::Format(p, size) = o {
         return ask_format(store, z, p, size, n < line.len());
     }
-    after(z, o)
+    after(learnt(z, o), o)
 }
 
 // A whole line.

@@ -37,8 +37,7 @@ pub fn count_known(s: &[u8], known: bool) -> Answer
     if !known {
         return query::count(s);
     }
-    let z = partition::shape_of(s);
-    Answer::Rows(query::count_rows(s, z, s.len() / (8 + z.capacity)))
+    Answer::Rows(counts::rows_counted(s))
 }
 
 pub fn lookup_known(s: &[u8], key: &[u8], known: bool) -> Answer

@@ -219,7 +219,7 @@ fn list(s: &[u8], known: bool, number: usize) -> Outcome
         return told(a, number);
     }
     let z = partition::shape_of(s);
-    let n = query::count_rows(s, z, s.len() / (8 + z.capacity));
+    let n = counts::rows_counted(s);
     let mut lines = io::buffer();
     list_rows(s, z, n, &mut lines)
 }
@@ -331,6 +331,7 @@ pub fn obey(s: &mut [u8], line: &[u8], number: usize, known: bool) -> Outcome
         Command::Check => told(check_known(s, known), number),
         Command::Inspect(p) => inspect(s, p, number),
         Command::Report => bid::ask(s, &line[7..], number),
+        Command::Counts => wrote(filling::fill_counts(s), number),
     }
 }
 

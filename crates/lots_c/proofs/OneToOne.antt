@@ -20,6 +20,8 @@ use Rattle.store.specs.Tables.{Out, refused, refusedAt, formatted, accepted, ne
 use Rattle.store.proofs.Demands.Said.{RefusedBelow, Placed, Rowed, Counted, Kept, Said, format-said, check-said, count-said, lookup-said, put-said, remove-said, row-said, inspect-said}
 use Rattle.batch.specs.Batch.{Runs, batchTable}
 use Rattle.batch.proofs.Settled.{batch-said}
+use Rattle.filling.specs.Filling.{fillTable}
+use Rattle.filling.proofs.Laws.{fill-said}
 use Rattle.lots_c.specs.Words.{plain, placeWord, refusalWord, word, lengthAfter, Tells, TellsAnd, TellsAll, TellsRow}
 
 -- ---- what a caller reads off a word
@@ -134,6 +136,10 @@ module _ (s : List ℕ) where
 pub format-one : (s t u v : List ℕ) (m n r : ℕ) (a : TellsAnd (formatSized m s) u r) (b : TellsAnd (formatSized n t) v r) → a .out ≡ b .out
 format-one s t u v m n r a b = one (λ _. formatted) (λ o. o ≡ formatted) (λ o e. subst (λ x. readOff (λ _. formatted) (word x) ≡ x) (sym e) refl) (omega arith) (omega arith) (a .is) (b .is)
     (format-sized s m (a .out, u) (a .allowed)) (format-sized t n (b .out, v) (b .allowed))
+
+pub fill-one : (s t u v : List ℕ) (r : ℕ) (a : TellsAnd (fillTable (shapeOf s) fnv s) u r) (b : TellsAnd (fillTable (shapeOf t) fnv t) v r) → a .out ≡ b .out
+fill-one s t u v r a b = one (λ _. formatted) (λ o. o ≡ formatted) (λ o e. subst (λ x. readOff (λ _. formatted) (word x) ≡ x) (sym e) refl) (few s) (few t) (a .is) (b .is)
+    (fill-said (shapeOf s) fnv (sized-of s) s (a .out, u) (a .allowed)) (fill-said (shapeOf t) fnv (sized-of t) t (b .out, v) (b .allowed))
 
 pub check-one : (s t : List ℕ) (r : ℕ) (a : Tells (checkTable (shapeOf s) fnv s) r) (b : Tells (checkTable (shapeOf t) fnv t) r) → a .out ≡ b .out
 check-one s t r a b = one (λ _. accepted) (λ o. o ≡ accepted) (λ o e. subst (λ x. readOff (λ _. accepted) (word x) ≡ x) (sym e) refl) (few s) (few t) (a .is) (b .is)

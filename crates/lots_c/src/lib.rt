@@ -7,6 +7,7 @@ ghost use Rattle.page.specs.declared.Place.{Place};
 ghost use Rattle.partition.specs.Sizes.{shapeFor, shapeOf};
 ghost use Rattle.store.specs.Tables.{formatSized, checkTable, countTable, lookupTable, putTable, removeTable, rowTable, inspectTable, meaning};
 ghost use Rattle.batch.specs.Batch.{runs, batchTable};
+ghost use Rattle.filling.specs.Filling.{fillTable};
 ghost use Rattle.report.specs.Report.{reported, reportTable};
 ghost use Rattle.lots_c.specs.Words.{plain, placeWord, refusalWord, word, lengthAfter, Tells, TellsAnd, TellsAll, TellsRow, noSums, reportWords, TellsReport};
 use page::Place;
@@ -208,6 +209,13 @@ pub extern "C" fn lots_put_all(
         (runs (now (codes .entry)) (now (lengths .entry)) (now (places .entry)) (now (answers .entry))) mode) (now (store .exit)) (now (answers .exit)) r ⌝ }
 {
     word_of(batch::put_all(store, codes, lengths, places, answers, mode))
+}
+
+#[no_mangle]
+pub extern "C" fn lots_fill_counts(store: &mut [u8]) -> u64
+    ensures { λ r. ⌜ TellsAnd (fillTable (shapeOf (now (store .entry))) fnv (now (store .entry))) (now (store .exit)) r ⌝ }
+{
+    word_of(filling::fill_counts(store))
 }
 
 #[no_mangle]

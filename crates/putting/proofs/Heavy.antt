@@ -4,13 +4,16 @@ use mathlib.Core.Path.{_≡_, refl, sym, ap, subst, _∙_}
 use mathlib.Core.List.{List, [], _∷_, map, List·Memᴰ, List·Memᴰ·cases-cons}
 use mathlib.Core.Logic.{_⊎_, inl, inr, ⊎-elim, _↔_}
 use mathlib.Core.Option.{none}
-use Prim.Native.Nat.{ℕ, suc, _+_, _-_, _/_, _≤_, _<_}
+use Prim.Native.Nat.{ℕ, suc, _+_, _-_, _/_, _^_, _≤_, _<_}
 use native.Mathlib.Omega.{arith}
-use lib.ListN.{length, take, length-map}
+use lib.ListN.{length, getD, take, length-map, length-set}
+use lib.Pow.{pow-mono}
+use lib.Seq.{getD-set-same, getD-set-other}
 use Rattle.ground.proofs.Tests.{none-some}
 use Rattle.ground.specs.Lists.{byte}
 use Rattle.ground.specs.Ladder.{Answers}
 use Rattle.ground.proofs.Sides.{side}
+use Rattle.words.specs.Le.{le32}
 use Rattle.page.specs.Page.{Slotted, Belongs, depth, rows}
 use Rattle.page.specs.Page as InPage
 use Rattle.partition.specs.Bits.{top}
@@ -18,34 +21,49 @@ use Rattle.partition.specs.declared.Shape.{Shape}
 use Rattle.partition.specs.Partition.{Row, need, needs, rowsOf, buckets}
 use Rattle.partition.specs.Listing.{placeOf}
 use Rattle.partition.proofs.Bits.{top-lt}
-use Rattle.partition.proofs.Reorders.{needs-same}
+use Rattle.partition.proofs.Reorders.{length-same, needs-same}
 use Rattle.partition.proofs.Rows.{same-load}
-use Rattle.store.specs.Pages.{size, pages, page, dirDepth, entryAt, Page, contents, asRow, rowsIn, rowsHeld, deepestIn}
+use Rattle.partition.proofs.Sizes.{twelve}
+use Rattle.store.specs.Pages.{size, pages, page, dirDepth, entryAt, Page, bucket, contents, asRow, rowsIn, rowsHeld, deepestIn}
 use Rattle.store.specs.Accepted.{Calls, Accepted}
 use Rattle.store.specs.Moves.{packed, written, putNew, frees}
+use Rattle.store.specs.Counts.{oneAt, bucketsAt}
 use Rattle.store.specs.Tables.{new, refused, Refusal6, Refusal7, putAccepted}
 use Rattle.store.specs.Demands.{Sized, Hash}
 use Rattle.store.proofs.Showing.Shows.{prefixOn, Shows}
 use Rattle.store.proofs.Accepted.Rules.{opened}
 use Rattle.store.proofs.Showing.Shown.{page-row}
 use Rattle.store.proofs.Showing.Showing.{first-code, accepted-shows, pages-held}
-use Rattle.store.proofs.Accepted.Unique.{page-long}
+use Rattle.store.proofs.Accepted.Unique.{within, page-long}
 use Rattle.store.proofs.Accepted.Spelled.{held-folded, one-more}
 use Rattle.store.proofs.Accepted.Reading.{Naming, place-on}
 use Rattle.store.proofs.Paging.PageTies.{found-not, fits-needs}
 use Rattle.store.proofs.Put.PutCases.{here-six, splits-seven, put-splits-is}
 use Rattle.store.proofs.Put.PutRows.{put-shown}
-use Rattle.store.proofs.Put.EveryStep.{Roomy}
-use Rattle.directory.specs.Directory.{CallsFor, EntryFor, none as unnamed, names, PrefixNamed, Directed, Rewritten}
+use Rattle.store.proofs.Put.EveryStep.{Roomy, packed-used}
+use Rattle.store.proofs.Counts.Ones.{ones}
+use Rattle.store.proofs.Counts.Counted.{split-count}
+use Rattle.store.proofs.Counts.Words.{buckets-few}
+use Rattle.store.proofs.Demands.Said.{rows-few}
+use Rattle.counts.specs.Tallies.{SameCounts, BucketsCounted, CountsNow, oneLess}
+use Rattle.counts.proofs.Raises.{word-kept, buckets-read, buckets-less}
+use Rattle.directory.specs.Directory.{CallsFor, EntryFor, none as unnamed, names, PrefixNamed, Directed, Settleable, Recounted, Rewritten}
 use Rattle.directory.proofs.Directories.{calls-same}
 use Rattle.directory.proofs.Laying.{directable}
 use Rattle.directory.proofs.Renews.{prefix-pages, prefix-holds, prefix-kept, one-calls, renewed}
 use Rattle.putting.specs.Put.{newRow, Puttable, Crowded}
-use Rattle.putting.specs.Split.{keyed, withNew, below, Source, takenNext, Room, NewPage, pagesBelow, Writable, BucketsWritten}
+use Rattle.putting.specs.Split.{keyed, withNew, below, Source, takenNext, untaken, Room, NewPage, pagesBelow, CountedBelow, SplitCounted, Writable, BucketsWritten}
 use Rattle.putting.proofs.Puts.{home-page, begins}
 use Rattle.putting.proofs.Weighs.{load-any, below-shared, below-all}
-use Rattle.directory.proofs.Settles.{unwritten, settling, settled}
+use Rattle.putting.proofs.Counting.{same-depths}
+use Rattle.directory.proofs.Recounts.{same-contents, directed-then, recounted-now}
+use Rattle.directory.proofs.Settles.{unwritten, settling, settleable, settled}
 use Rattle.putting.proofs.Splits.{first-given, rewritten-then, rewritten-self, long-then}
+
+-- what is left of a page that the first takes
+taken-some : (p : ℕ) (ns : List Page) → untaken p ns ≡ 0 → 2 ≤ p → 0 < length ns
+taken-some p [] e l = absurd (omega (arith, e, l))
+taken-some p (n ∷ ns) e l = omega arith
 
 module _ (S : Shape) (h : List ℕ → ℕ) (hash : Hash h) (s : List ℕ) (p i : ℕ) (c pl : List ℕ) (C : Crowded S h s p i c pl) where
   abbrev P : Puttable S h s c pl
@@ -94,6 +112,12 @@ module _ (S : Shape) (h : List ℕ → ℕ) (hash : Hash h) (s : List ℕ) (p i 
 
   pub shallow : depth (page S s p) ≤ S .deepest
   shallow = omega (arith, home .low, opened S h s A .page0 .depth)
+
+  -- there is room in an array of the counts for those of the new buckets
+  pub few-counted : (l : List ℕ) → length l ≡ 14 → SameCounts s l → (n : ℕ) → n ≤ 2 ^ S .deepest → (j : ℕ) → j ≤ 12 → getD l (suc j) 0 + n < 4294967296
+  few-counted l long L n b j m =
+      let e : 2 ^ S .deepest ≤ 2 ^ 12 = pow-mono (twelve S sized) in
+      omega (arith, e, b, buckets-read S s l (opened S h s A .counts) long L .each j m, buckets-few j gs, pages-held S s, A .long .most, sized .whole, sized .most)
 
   -- the page's rows and the new one, whatever its place: they share the page's bits, and so their buckets lie below these
   module _ (o : List ℕ) where
@@ -275,19 +299,94 @@ module _ (S : Shape) (h : List ℕ → ℕ) (hash : Hash h) (s : List ℕ) (p i 
                 (λ E. names (E .from) (omega (arith, E .to, same-pages)) (E .calls))
                 (W .named .entries i l)
 
-            pub split-directed : Directed S h t (dirDepth s) (pages S s) t
+            split-directed : Directed S h t (dirDepth s) (pages S s) t
             split-directed = renewed S sized h s A (depth g) v t split-kept (record { pages = its-pages; others = others; own = own })
 
-          pub heavy-new : (u : List ℕ) → Directed S h t (deepestIn (contents S t)) (pages S s) u → ((k : ℕ) → byte u k < 256)
-              → Answers (putAccepted S h s (newRow c pl)) (new, u)
-          heavy-new u D b =
-              inr (
-                (λ _. none-some absent),
+          -- ---- the counts
+
+          held-then : contents S t ≡ written gs (p - 2) ns
+          held-then = W .held ∙ (λ x. written (same-held x) (takenNext (same-held x) p) ns) ∙ (λ x. written gs (first-given gs p (home .from) x) ns)
+
+          -- the same buckets, whatever the new row's place
+          same-below : below S h (withNew g (keyed c)) (depth g) v ≡ below S h rs (depth g) v
+          same-below =
+              lower [] ∙ below-all S h (withNew g (keyed c)) ∙ sym (same-load S h rs (withNew g (keyed c)) (λ k v. load-any h r (keyed c) refl (map asRow (rows g)) (map asRow (rows g)) k v refl))
+              ∙ sym (below-all S h rs) ∙ sym (lower pl)
+
+          some-new : 0 < length ns
+          some-new = taken-some p ns (sym (W .then) ∙ all-taken) (home .from)
+
+          inside : p - 2 < length gs
+          inside = omega (arith, home .from, home .to, pages-held S s)
+
+          low-depth : depth g ≤ 12
+          low-depth = omega (arith, shallow, twelve S sized)
+
+          as-was : (i : ℕ) → 24 ≤ i → i < 80 → byte t i ≡ byte s i
+          as-was i a b = split-kept .low i (omega (arith, sized .least))
+
+          -- the array that is counted in
+          module _ (l : List ℕ) (long : length l ≡ 14) (L : SameCounts s l) (l₁ : List ℕ) (B : CountedBelow S h (withNew (page S s p) (keyed c)) (depth (page S s p)) (top (depth (page S s p)) (h c)) l l₁) where
+            before-split : BucketsCounted gs l
+            before-split = buckets-read S s l (opened S h s A .counts) long L
+
+            split-then : (j : ℕ) → bucketsAt j (contents S t) + oneAt j (bucket (depth g) (rows g)) ≡ bucketsAt j gs + bucketsAt j (pagesBelow S h (withNew g (keyed c)) (depth g) v)
+            split-then j = omega (
+              arith,
+              ap (bucketsAt j) held-then,
+              split-count j gs (p - 2) (depth g) (rows g) (home .holding) inside ns some-new (packed-used h rs (below S h rs (depth g) v)) (room .many),
+              ap (λ ps. bucketsAt j (map (packed h rs) ps)) same-below,
+              same-depths h j (withNew g (keyed c)) rs (below S h (withNew g (keyed c)) (depth g) v),
+            )
+
+            one-there : 1 ≤ getD l₁ (1 + depth g) 0
+            one-there =
+                let e : suc (depth g) ≡ 1 + depth g = omega arith in
+                omega (arith, ap (λ j. getD l₁ j 0) e, ap (λ j. getD l j 0) e, B .each (depth g) low-depth, buckets-less gs (p - 2) (depth g) (rows g) l inside (home .holding) low-depth before-split .0)
+
+            pub split-counted : SplitCounted t (depth (page S s p)) l₁
+            split-counted = record {
+              room = omega (arith, split-kept .long, within S s p (home .to), sized .least);
+              deep = low-depth;
+              array = B .long;
+              one = one-there;
+              few = omega (arith, word-kept s t as-was 0 (omega arith), opened S h s A .counts .rows, rows-few S h sized hash s A, pages-held S s, A .long .most, sized .whole, sized .most);
+            }
+
+            now-counted : BucketsCounted (contents S t) (oneLess l₁ (1 + depth g))
+            now-counted = record {
+              long = length-set l₁ (1 + depth g) _ ∙ B .long;
+              each = λ j b. ⊎-elim
+                  (λ o. let q : suc j ≡ 1 + depth g = omega (arith, o .0) in
+                  omega (arith, ap (λ m. getD (oneLess l₁ (1 + depth g)) m 0) q, getD-set-same l₁ (1 + depth g) (getD l₁ (1 + depth g) 0 - 1) 0 (omega (arith, B .long, low-depth)), ap (λ m. getD l₁ m 0) q, B .each j b, before-split .each j b, split-then j, o .1))
+                  (λ o. omega (arith, getD-set-other l₁ (1 + depth g) (suc j) (getD l₁ (1 + depth g) 0 - 1) 0 (λ q. o .0 (omega (arith, q))), B .each j b, before-split .each j b, split-then j, o .1))
+                  (ones j (depth g) (rows g));
+            }
+
+            pub split-recounted : (t′ : List ℕ) → CountsNow t (le32 t 24 + 1) (oneLess l₁ (1 + depth (page S s p))) t′ → Recounted S t t′
+            split-recounted t′ N = recounted-now S sized t (le32 t 24 + 1) (oneLess l₁ (1 + depth g)) t′ now-counted
+                (omega (arith, word-kept s t as-was 0 (omega arith), opened S h s A .counts .rows, length-same (shown .same))) N
+
+          -- and the counts are true
+          module _ (t′ : List ℕ) (R : Recounted S t t′) where
+            pub split-settleable : Settleable S t′ (pages S s)
+            split-settleable = settleable S sized h hash s A t split-kept t′ (R .old) (R .counts)
+
+            pub split-directed-then : deepestIn (contents S t′) ≡ dirDepth s → Directed S h t′ (dirDepth s) (pages S s) t′
+            split-directed-then e =
+                let l : pages S t ≡ pages S s = ap (λ m. m / size S) (split-kept .long) in
+                directed-then S sized t t′ (R .old) h (dirDepth s) (pages S s) (omega (arith, l)) (split-directed (ap deepestIn (sym (same-contents S sized t t′ (R .old))) ∙ e))
+
+            pub heavy-new : (u : List ℕ) → Directed S h t′ (deepestIn (contents S t′)) (pages S s) u → ((k : ℕ) → byte u k < 256)
+                → Answers (putAccepted S h s (newRow c pl)) (new, u)
+            heavy-new u D b =
                 inr (
-                  (λ _. six),
+                  (λ _. none-some absent),
                   inr (
-                    (λ _. seven),
-                    (refl, rw (← holds) (settled S sized h hash s A t split-kept u D (r ∷ rowsHeld S s) shown (one-more r _ (P .folded) (held-folded S h sized hash s A)) b)),
+                    (λ _. six),
+                    inr (
+                      (λ _. seven),
+                      (refl, rw (← holds) (settled S sized h hash s A t split-kept t′ (R .old) (R .counts) u D (r ∷ rowsHeld S s) shown (one-more r _ (P .folded) (held-folded S h sized hash s A)) b)),
+                    ),
                   ),
-                ),
-              )
+                )

@@ -4,7 +4,7 @@ use mathlib.Core.Bool.{true≢false}
 use mathlib.Core.List.{List, [], _∷_}
 use mathlib.Core.Logic.{_⊎_, inl, inr, ⊎-elim, _↔_}
 use mathlib.Core.Option.{none}
-use Prim.Native.Nat.{ℕ, suc, _+_, _-_, _/_, _^_, _≤_, _<_}
+use Prim.Native.Nat.{ℕ, suc, _+_, _-_, _*_, _/_, _^_, _≤_, _<_}
 use native.Mathlib.Omega.{arith}
 use native.Mathlib.Decide.{ℕ-discrete}
 use lib.ListN.{length, getD, set}
@@ -12,6 +12,8 @@ use Rattle.ground.proofs.Tests.{none-some}
 use Rattle.ground.specs.Lists.{byte}
 use Rattle.ground.specs.Ladder.{Answers}
 use Rattle.ground.proofs.Sides.{side}
+use Rattle.words.specs.Le.{le32}
+use Rattle.words.specs.Moves.{Frame}
 use Rattle.page.specs.Page.{Record, depth, code}
 use Rattle.page.specs.Packed.{Started}
 use Rattle.partition.specs.Bits.{top}
@@ -20,10 +22,13 @@ use Rattle.partition.specs.Partition.{Row, need, needs, rowsOf, buckets}
 use Rattle.partition.specs.Listing.{placeOf}
 use Rattle.partition.proofs.Bits.{top-step}
 use Rattle.partition.proofs.Path.{path-le}
+use Rattle.partition.proofs.Reorders.{length-same}
 use Rattle.partition.proofs.Rows.{load, load-mono}
+use Rattle.partition.proofs.Sizes.{twelve}
 use Rattle.store.specs.Pages.{size, pages, page, dirDepth, entryAt, Page, free, bucket, contents, rowsHeld, deepestIn, setPage}
 use Rattle.store.specs.Accepted.{Calls, Accepted}
 use Rattle.store.specs.Moves.{find, isFree, record-at, putNew, frees}
+use Rattle.store.specs.Counts.{oneAt, bucketsAt}
 use Rattle.store.specs.Tables.{new, refused, Refusal6, Refusal7, putAccepted}
 use Rattle.store.specs.Demands.{Sized, Hash}
 use Rattle.store.proofs.Accepted.Rules.{opened}
@@ -34,17 +39,23 @@ use Rattle.store.proofs.Accepted.Named.{deepest-le, deepest-bound}
 use Rattle.store.proofs.Accepted.Accepting.{accepted-laid}
 use Rattle.store.proofs.Paging.Depths.{kind-byte}
 use Rattle.store.proofs.Paging.Views.{set-same, set-other, set-entry as entry-kept}
-use Rattle.store.proofs.Accepted.Unique.{page-long}
+use Rattle.store.proofs.Accepted.Unique.{within, page-long}
 use Rattle.store.proofs.Accepted.Spelled.{held-folded, one-more}
 use Rattle.store.proofs.Accepted.Reading.{entryOf, lookup-none}
+use Rattle.store.proofs.Counts.Counted.{set-count}
+use Rattle.store.proofs.Counts.Words.{counts-word, buckets-few}
+use Rattle.store.proofs.Demands.Said.{rows-few}
 use Rattle.store.proofs.Put.PutCases.{unheld-six, unheld-seven, put-unheld-is}
 use Rattle.store.proofs.Put.PutRows.{put-shown}
 use Rattle.store_check.proofs.Naming.{room as room-for}
-use Rattle.directory.specs.Directory.{CallsFor, EntryFor, names, PrefixNamed, Directed, Rewritten}
+use Rattle.counts.specs.Tallies.{Raised}
+use Rattle.counts.proofs.Raises.{other-count, word-kept, inside-both, counts-up}
+use Rattle.directory.specs.Directory.{CallsFor, EntryFor, names, PrefixNamed, Directed, Recounted, Rewritten}
 use Rattle.directory.proofs.Frees.{used-page}
 use Rattle.directory.proofs.Renews.{prefix-pages, prefix-holds, prefix-kept, renewed}
 use Rattle.putting.specs.Put.{newRow, Puttable, Homeless, Unset, Vacant}
 use Rattle.directory.proofs.Vacancy.{off, set-entry, some-row}
+use Rattle.directory.proofs.Recounts.{same-contents, directed-then}
 use Rattle.directory.proofs.Settles.{rewritten-set, set-holds, unwritten, settled}
 use Rattle.putting.proofs.Splits.{rewritten-then, rewritten-self}
 
@@ -218,15 +229,59 @@ module _ (S : Shape) (h : List ℕ → ℕ) (hash : Hash h) (s : List ℕ) (x : 
       directed : Directed S h t (deepestIn (contents S t)) (pages S s) t
       directed = subst (λ n. Directed S h t n (pages S s) t) (sym same-depth) (renewed S sized h s A k v t kept (record { pages = each; others = others; own = own }))
 
-      pub unheld-new : ((i : ℕ) → byte t i < 256) → Answers (putAccepted S h s (newRow c pl)) (new, t)
-      unheld-new b =
-          inr (
-            (λ _. none-some absent),
-            inr (
-              (λ _. six),
-              inr (
-                (λ _. room),
-                (refl, rw (← holds-then) (settled S sized h hash s A t kept t directed (r ∷ rowsHeld S s) (rw holds-then (put-shown S h sized hash s r A absent six room)) (one-more r _ (P .folded) (held-folded S h sized hash s A)) b)),
-              ),
-            ),
+      -- page 0 is as it was, and its counts can be one more
+      as-was : (i : ℕ) → 24 ≤ i → i < 80 → byte t i ≡ byte s i
+      as-was i a b = kept .low i (omega (arith, sized .least))
+
+      long-then : 80 ≤ length t
+      long-then = omega (arith, kept .long, within S s f to, sized .least)
+
+      low-k : k ≤ 12
+      low-k = omega (arith, K .low, low-d, twelve S sized)
+
+      pub row-more : (28 + 4 * 0 ≤ length t) × (le32 t (24 + 4 * 0) + 1 < 4294967296)
+      row-more = (
+        omega (arith, long-then),
+        omega (arith, word-kept s t as-was 0 (omega arith), opened S h s A .counts .rows, rows-few S h sized hash s A, pages-held S s, A .long .most, sized .whole, sized .most),
+      )
+
+      pub bucket-more : (u : List ℕ) → Raised t 0 u → (28 + 4 * (1 + k) ≤ length u) × (le32 u (24 + 4 * (1 + k)) + 1 < 4294967296)
+      bucket-more u R =
+          let q : suc k ≡ 1 + k = omega arith in
+          let now : le32 t (24 + 4 * suc k) ≡ bucketsAt k gs = word-kept s t as-was (suc k) (omega (arith, low-k)) ∙ counts-word S s (opened S h s A .counts) (suc k) (omega (arith, low-k)) in (
+            omega (arith, R .old .len, long-then, low-k),
+            omega (arith, other-count t u 0 _ (omega arith) R (1 + k) (λ z. omega (arith, z)), ap (λ j. le32 t (24 + 4 * j)) q, now, buckets-few k gs, pages-held S s, A .long .most, sized .whole, sized .most),
           )
+
+      pub recounted-new : (u w : List ℕ) → Raised t 0 u → Raised u (1 + k) w → Recounted S t w
+      recounted-new u w R D =
+          let F : Frame t 24 56 w = inside-both t u w 0 (1 + k) _ _ (omega arith) (omega (arith, low-k)) R D in
+          let at = find-free gs some in
+          let g : Page = bucket k (record-at 8 r ∷ []) in
+          record {
+            old = F;
+            counts = counts-up S s t u w (putNew S h gs r) k (record-at 8 r ∷ []) (opened S h s A .counts) as-was low-k R D (same-contents S sized t w F ∙ holds-then)
+                (length-same (put-shown S h sized hash s r A absent six room .same) ∙ omega arith)
+                (λ i. omega (arith, ap (bucketsAt i) is, set-count i gs (find isFree gs) g (at .0), ap (oneAt i) (at .1)));
+          }
+
+      -- and the counts are true
+      module _ (u : List ℕ) (R : Recounted S t u) where
+        directed-now : Directed S h u (deepestIn (contents S u)) (pages S s) u
+        directed-now =
+            let l : pages S t ≡ pages S s = ap (λ n. n / size S) (kept .long) in
+            subst (λ gs. Directed S h u (deepestIn gs) (pages S s) u) (sym (same-contents S sized t u (R .old)))
+            (directed-then S sized t u (R .old) h (deepestIn (contents S t)) (pages S s) (omega (arith, l)) directed)
+
+        pub unheld-new : ((i : ℕ) → byte u i < 256) → Answers (putAccepted S h s (newRow c pl)) (new, u)
+        unheld-new b =
+            inr (
+              (λ _. none-some absent),
+              inr (
+                (λ _. six),
+                inr (
+                  (λ _. room),
+                  (refl, rw (← holds-then) (settled S sized h hash s A t kept u (R .old) (R .counts) u directed-now (r ∷ rowsHeld S s) (rw holds-then (put-shown S h sized hash s r A absent six room)) (one-more r _ (P .folded) (held-folded S h sized hash s A)) b)),
+                ),
+              ),
+            )

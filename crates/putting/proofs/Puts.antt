@@ -5,6 +5,7 @@ use mathlib.Core.Logic.{inl, inr, ⊎-elim}
 use mathlib.Core.Option.{some, none}
 use Prim.Native.Nat.{ℕ, _+_, _-_, _*_, _≤_, _<_}
 use native.Mathlib.Omega.{arith}
+use native.Mathlib.Nat.{mul-le-mul-right}
 use lib.ListN.{length, getD, take, drop, set, length-set}
 use lib.Seq.{length-take-le}
 use Rattle.ground.proofs.Tests.{none-some}
@@ -12,6 +13,8 @@ use Rattle.ground.specs.Lists.{byte}
 use Rattle.ground.specs.Ladder.{Answers}
 use Rattle.ground.proofs.Sides.{side}
 use Rattle.ground.proofs.Tables.{length-tab}
+use Rattle.words.specs.Le.{le32}
+use Rattle.words.specs.Moves.{Frame}
 use Rattle.page.specs.Page.{Slotted, BucketPage, depth, count, frontier, code, place, rows, rowAt}
 use Rattle.words.specs.Folds.{Folded}
 use Rattle.page.specs.Steps.{Overwritten}
@@ -23,7 +26,7 @@ use Rattle.partition.specs.Partition.{Row, need, needs}
 use Rattle.partition.specs.Listing.{insert, without, inOrder, placeOf}
 use Rattle.partition.proofs.Tree.{pfx}
 use Rattle.partition.proofs.Sorted.{by-code, in-order-reordered, order-put}
-use Rattle.partition.proofs.Reorders.{turned, mem-reordered}
+use Rattle.partition.proofs.Reorders.{turned, length-same, mem-reordered}
 use Rattle.partition.proofs.Directory.{holds-top}
 use Rattle.store.specs.Pages.{size, page, dirDepth, Page, free, bucket, contents, asRow, rowsHeld, setPage}
 use Rattle.store.specs.Accepted.{Accepted}
@@ -32,7 +35,7 @@ use Rattle.store.specs.Tables.{replaced, new, Refusal6, Refusal7, putAccepted}
 use Rattle.store.specs.Demands.{Sized, Hash}
 use Rattle.store.proofs.Showing.Shows.{prefixOn, Holding, Shows}
 use Rattle.store.proofs.Showing.Shown.{within-pages, page-row, find-only}
-use Rattle.store.proofs.Accepted.Unique.{page-long}
+use Rattle.store.proofs.Accepted.Unique.{within, page-long}
 use Rattle.store.proofs.Accepted.Spelled.{held-folded, one-more, one-less}
 use Rattle.store.proofs.Showing.Showing.{accepted-shows, pages-held}
 use Rattle.store.proofs.Accepted.Reading.{Naming, lookup-page, place-on}
@@ -41,10 +44,16 @@ use Rattle.store.proofs.Remove.MoveRows.{over-shown}
 use Rattle.store.proofs.Paging.PageTies.{slot-of, found-at, found-not, page-order, fits-needs, added-rows, overwritten-rows}
 use Rattle.store.proofs.Paging.Records.{rows-added}
 use Rattle.store.proofs.Showing.Rooms.{set-holds}
+use Rattle.store.proofs.Demands.Said.{rows-few}
 use Rattle.store.proofs.Put.PutCases.{fits-six, fits-seven, put-fits-is}
 use Rattle.store.proofs.Put.PutRows.{put-shown}
-use Rattle.store.proofs.Accepted.Accepting.{Laid, accepted-laid, laid-becomes}
-use Rattle.store.proofs.Paging.Views.{page-back, set-long}
+use Rattle.store.specs.Counts.{bucketsAt, Counts}
+use Rattle.store.proofs.Accepted.Rules.{opened}
+use Rattle.store.proofs.Accepted.Accepting.{Laid, accepted-laid, laid-becomes, recounted}
+use Rattle.store.proofs.Counts.Counted.{over-count, over-rows, same-depth-count}
+use Rattle.counts.specs.Tallies.{Raised}
+use Rattle.counts.proofs.Raises.{inside-counts, counts-same, counts-more, word-kept}
+use Rattle.store.proofs.Paging.Views.{page-back, set-below, set-long}
 use Rattle.directory.proofs.OnePage.{laid-set}
 use Rattle.putting.specs.Put.{newRow, Homed}
 
@@ -86,6 +95,18 @@ module _ (S : Shape) (h : List ℕ → ℕ) (sized : Sized S) (hash : Hash h) (s
   pub placed : placeOf (rowsHeld S s) c ≡ placeOf (map asRow (rows g)) c
   placed = place-on S h (rowsHeld S s) gs shows c (p - 2) (depth g) (rows g) (U .holding) (sym begins)
 
+  -- page 0 stays
+  counts-below : (q : List ℕ) → length q ≡ size S → (k : ℕ) → 24 ≤ k → k < 80 → byte (setPage S s p q) k ≡ byte s k
+  counts-below q m k a b = set-below S s p q (U .to) m k (omega (arith, mul-le-mul-right (size S) (U .from), sized .least))
+
+  -- and the number of rows can be one more
+  row-more : (q : List ℕ) → length q ≡ size S → (28 + 4 * 0 ≤ length (setPage S s p q)) × (le32 (setPage S s p q) (24 + 4 * 0) + 1 < 4294967296)
+  row-more q m =
+      let e : le32 (setPage S s p q) 24 ≡ le32 s 24 = word-kept s (setPage S s p q) (counts-below q m) 0 (omega arith) in (
+        omega (arith, set-long S s p q (U .to) m, within S s p (U .to), sized .least),
+        omega (arith, e, opened S h s A .counts .rows, rows-few S h sized hash s A, pages-held S s, A .long .most, sized .whole, sized .most),
+      )
+
   -- ---- a known code
 
   module _ (i : ℕ) (b : i < count g) (e : code g i ≡ c) (pl q : List ℕ) (O : Overwritten g i pl q) where
@@ -125,7 +146,8 @@ module _ (S : Shape) (h : List ℕ → ℕ) (sized : Sized S) (hash : Hash h) (s
               refl,
               laid-becomes S h sized hash (setPage S s p q) (known-row ∷ without (λ x. x .code) c (rowsHeld S s)) (overwritten gs known-row) known-laid
                   (over-shown S h sized hash s known-row (place g i) A old)
-                  (one-more known-row _ (subst Folded e (U .bytes .folded i b)) (one-less c (rowsHeld S s) (held-folded S h sized hash s A))) s (set-long S s p q (U .to) (O .long ∙ long)) small,
+                  (one-more known-row _ (subst Folded e (U .bytes .folded i b)) (one-less c (rowsHeld S s) (held-folded S h sized hash s A))) s (set-long S s p q (U .to) (O .long ∙ long)) small
+                  (counts-same S s (setPage S s p q) (overwritten gs known-row) (opened S h s A .counts) (counts-below q (O .long ∙ long)) (known-laid .holds) (over-rows gs known-row) (λ k. over-count k gs known-row)),
             ),
           ),
         )
@@ -186,19 +208,26 @@ module _ (S : Shape) (h : List ℕ → ℕ) (sized : Sized S) (hash : Hash h) (s
         ap (λ l. getD l (p - 2) free) is ∙ set-holds gs (p - 2) (depth g) (rows q) (within-pages gs (p - 2) (depth g) (rows g) (U .holding)) in
         sym (page-row S h (new-row ∷ rowsHeld S s) (depth g) (rows q) (later .page (p - 2) (depth g) (rows q) holding) new-row .0 there .1) ∙ sym begins
 
-    pub put-fitted : ((k : ℕ) → byte (setPage S s p q) k < 256) → Answers (putAccepted S h s (newRow c pl)) (new, setPage S s p q)
-    put-fitted small =
+    pub fitted-more : (28 + 4 * 0 ≤ length (setPage S s p q)) × (le32 (setPage S s p q) (24 + 4 * 0) + 1 < 4294967296)
+    fitted-more = row-more q (page-now .long ∙ long)
+
+    pub put-fitted : (u : List ℕ) → Raised (setPage S s p q) 0 u → ((k : ℕ) → byte u k < 256) → Answers (putAccepted S h s (newRow c pl)) (new, u)
+    put-fitted u R small =
         let N = page-now in
         let Q : BucketPage q = record { rules = N .page; some = let w = slot-of q new-row there in omega (arith, w .1) } in
         let L : Laid S h (setPage S s p q) (putNew S h gs new-row) = subst (Laid S h (setPage S s p q)) (sym is)
         (laid-set S h sized s gs (accepted-laid S h sized hash s A) p (depth g) (rows g) (U .from) (U .to) (U .holding) q Q (N .long ∙ long) (N .deep) begins-now) in
+        let F : Frame (setPage S s p q) 24 56 u = inside-counts (setPage S s p q) u 0 _ (omega arith) R in
+        let M : Laid S h u (putNew S h gs new-row) = recounted S h sized (setPage S s p q) u (putNew S h gs new-row) F L in
+        let C : Counts S u = counts-more S s (setPage S s p q) u (putNew S h gs new-row) (opened S h s A .counts) (counts-below q (N .long ∙ long)) R (M .holds) (length-same (later .same) ∙ omega arith)
+        (λ k. ap (bucketsAt k) is ∙ same-depth-count k gs (p - 2) (depth g) (rows g) (rows q) (within-pages gs (p - 2) (depth g) (rows g) (U .holding)) (U .holding)) in
         inr (
           (λ _. none-some absent),
           inr (
             (λ _. six),
             inr (
               (λ _. seven),
-              (refl, laid-becomes S h sized hash (setPage S s p q) (new-row ∷ rowsHeld S s) (putNew S h gs new-row) L later (one-more new-row _ folded (held-folded S h sized hash s A)) s (set-long S s p q (U .to) (N .long ∙ long)) small),
+              (refl, laid-becomes S h sized hash u (new-row ∷ rowsHeld S s) (putNew S h gs new-row) M later (one-more new-row _ folded (held-folded S h sized hash s A)) s (F .len ∙ set-long S s p q (U .to) (N .long ∙ long)) small C),
             ),
           ),
         )

@@ -6,12 +6,14 @@ use Prim.Native.Nat.{ℕ, zero, suc, _+_, _-_, _^_, _≤_, _<_}
 use lib.ListN.{length, getD, take, drop}
 use Rattle.ground.specs.Lists.{byte}
 use Rattle.words.specs.Codes.{GoodCode}
+use Rattle.words.specs.Le.{le32}
 use Rattle.page.specs.Page.{Slotted, BucketPage, Belongs, Natural, depth, count, code, rows, rowAt}
 use Rattle.partition.specs.declared.Shape.{Shape}
 use Rattle.partition.specs.Partition.{Row, Prefix, needs, rowsOf, grade, walk}
 use Rattle.partition.specs.Listing.{inOrder, Rising}
 use Rattle.store.specs.Pages.{pages, page, entryAt, Page, contents, asRow}
 use Rattle.store.specs.Accepted.{GoodLength, Calls}
+use Rattle.store.specs.Counts.{bucketsAt}
 use Rattle.store.specs.Demands.{Sized}
 use Rattle.store.specs.Moves.{find, isFree, frees, packFrom, packed, written}
 use Rattle.query.specs.Spots.{DirectoryOf}
@@ -60,10 +62,26 @@ pub record PrefixIn (S : Shape) (k v : ℕ) : Type 0 where
   pub deep : k ≤ S .deepest
   pub bits : v < 2 ^ k
 
--- the buckets of rows at the prefix v of k bits and below it, in prefix order
+-- the buckets of rs at the prefix v of k bits and below it, in prefix order
 unfoldable pub below : Shape → (List ℕ → ℕ) → List Row → ℕ → ℕ → List Prefix
 unfolding walk grade rowsOf
 below S h rs k v = walk (λ j w. grade (S .capacity) (rowsOf h rs j w)) (S .deepest - k) (grade (S .capacity) (rowsOf h rs k v)) k v
+
+-- the same written packed
+abbrev pub pagesBelow : Shape → (List ℕ → ℕ) → List Row → ℕ → ℕ → List Page
+pagesBelow S h rs k v = map (packed h rs) (below S h rs k v)
+
+-- the buckets of the rows of the page g and a row of the code c can be counted in the array, too
+pub record Countable (S : Shape) (h : List ℕ → ℕ) (g c hs ns : List ℕ) (k v : ℕ) (tallies : List ℕ) : Type 0 where
+  pub weighed : Weighed h g c hs ns
+  pub prefix : PrefixIn S k v
+  pub array : length tallies ≡ 14
+  pub few : (j : ℕ) → j ≤ 12 → getD tallies (suc j) 0 + length (below S h (withNew g (keyed c)) k v) < 4294967296
+
+-- t is the array with the buckets of rs at the prefix v of k bits and below it counted besides
+pub record CountedBelow (S : Shape) (h : List ℕ → ℕ) (rs : List Row) (k v : ℕ) (tallies t : List ℕ) : Type 0 where
+  pub long : length t ≡ 14
+  pub each : (j : ℕ) → j ≤ 12 → getD t (suc j) 0 ≡ getD tallies (suc j) 0 + bucketsAt j (pagesBelow S h rs k v)
 
 -- the rows of a page's slots from a up to b
 abbrev pub slots : List ℕ → ℕ → ℕ → List Row
@@ -158,10 +176,6 @@ pub record PageComing (S : Shape) (s : List ℕ) (at : ℕ) : Type 0 where
 abbrev pub Room : List Page → ℕ → List Page → Type 0
 Room gs at ns = (m : ℕ) → m < length ns → (0 < at → 0 < m) → 0 < frees (written gs (takenNext gs at) (take m ns))
 
--- the buckets of rs at the prefix v of k bits and below it, written packed
-abbrev pub pagesBelow : Shape → (List ℕ → ℕ) → List Row → ℕ → ℕ → List Page
-pagesBelow S h rs k v = map (packed h rs) (below S h rs k v)
-
 -- page q of t is new, of a prefix that begins with the k bits of v: in s no bucket, but for page at; what it calls for in a directory of depth d names it
 pub record NewPage (S : Shape) (h : List ℕ → ℕ) (s : List ℕ) (d k v at : ℕ) (t : List ℕ) (q : ℕ) : Type 0 where
   pub was : byte (page S s q) 0 ≡ 1 → q ≡ at
@@ -218,3 +232,11 @@ pub record BucketsWritten (S : Shape) (h : List ℕ → ℕ) (d : ℕ) (rs : Lis
   pub held : contents S t ≡ written (contents S s) (takenNext (contents S s) at) (pagesBelow S h rs k v)
   pub then : p ≡ untaken at (pagesBelow S h rs k v)
   pub named : EntriesWritten S h s d k v at t p
+
+-- a bucket of k bits is counted in the array, and page 0 can have its counts and a row more
+pub record SplitCounted (s : List ℕ) (k : ℕ) (tallies : List ℕ) : Type 0 where
+  pub room : 80 ≤ length s
+  pub deep : k ≤ 12
+  pub array : length tallies ≡ 14
+  pub one : 1 ≤ getD tallies (1 + k) 0
+  pub few : le32 s 24 + 1 < 4294967296

@@ -48,6 +48,7 @@ fn insert_new(
     let a = p * size;
     let e = a + size;
     page::insert_row(&mut s[a..e], i, key, place, scratch);
+    counts::raise(s, 0);
     store::Answer::New
 }
 
@@ -91,6 +92,7 @@ fn insert_fitting(
     let f = words::get16(&s[a..e], 4);
     if f + 4 * n + 12 + key.len() <= size {
         page::insert_at_frontier(&mut s[a..e], i, key, place);
+        counts::raise(s, 0);
         return store::Answer::New;
     }
     insert_lent(s, z, p, i, key, place)
@@ -113,6 +115,8 @@ fn new_bucket(s: &mut [u8], z: Shape, x: u32, key: &[u8], place: &[u8]) -> store
     let e = a + size;
     page::start_page(&mut s[a..e], k as u8, key, place);
     name_prefix(s, z, x, k, d, p);
+    counts::raise(s, 0);
+    counts::raise(s, 1 + k as usize);
     store::Answer::New
 }
 

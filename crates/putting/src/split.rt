@@ -1,13 +1,15 @@
 // A page that is split.
 ghost use mathlib.Core.Path.{_≡_};
 ghost use Prim.Native.Nat.{_+_, _^_, _≤_, _<_};
+ghost use Rattle.words.specs.Le.{le32};
+ghost use Rattle.counts.specs.Tallies.{CountsNow, oneLess};
 ghost use Rattle.ground.specs.Ladder.{Answers};
 ghost use Rattle.hash.specs.Fnv.{fnv};
 ghost use Rattle.partition.specs.Bits.{top};
 ghost use Rattle.store.specs.Pages.{pages, contents};
 ghost use Rattle.store.specs.Tables.{putAccepted, meaning};
 ghost use Rattle.putting.specs.Put.{newRow, Crowded, Lent};
-ghost use Rattle.putting.specs.Split.{withNew, takenNext, PageComing, NamingBucket, NamedIf, Spread, BucketsWritten};
+ghost use Rattle.putting.specs.Split.{withNew, takenNext, PageComing, NamingBucket, NamedIf, Spread, BucketsWritten, SplitCounted};
 use super::bucket::write_bucket;
 use super::weigh::count_below;
 use super::weigh::gather;
@@ -85,6 +87,16 @@ fn write_below(
     write_below(s, z, d, from, i, key, place, hs, ns, k + 1, 2 * v + 1, next)
 }
 
+// The counts in page 0 after a split of a bucket of k bits: the array has those before it and those of the new buckets.
+fn write_split(s: &mut [u8], k: u32, tallies: &mut [u32])
+    requires { ⌜ SplitCounted (now s) k (now tallies) ⌝ }
+    ensures { λ _. ⌜ CountsNow (now (s .entry)) (le32 (now (s .entry)) 24 + 1) (oneLess (now (tallies .entry)) (1 + k)) (now (s .exit)) ⌝ }
+{
+    counts::count_down(tallies, 1 + k as usize);
+    let rows = counts::rows_counted(s);
+    counts::write_counted(s, tallies, rows + 1);
+}
+
 // The new code, which belongs at slot i of page p, does not fit there: the page is split into the buckets of its rows and the new one. What it works in is lent.
 fn split(
     s: &mut [u8],
@@ -96,8 +108,9 @@ fn split(
     from: &mut [u8],
     hs: &mut [u32],
     ns: &mut [u32],
+    tallies: &mut [u32],
 ) -> store::Answer
-    requires { ⌜ Crowded z fnv (now s) p i (now key) (now place) × Lent z (now from) (now hs) (now ns) ⌝ }
+    requires { ⌜ Crowded z fnv (now s) p i (now key) (now place) × Lent z (now from) (now hs) (now ns) (now tallies) ⌝ }
     ensures { λ r. ⌜ Answers (putAccepted z fnv (now (s .entry)) (newRow (now (key .entry)) (now (place .entry)))) (meaning r, now (s .exit)) ⌝ }
 {
     let size = 8 + z.capacity;
@@ -113,14 +126,16 @@ fn split(
     let n = s.len() / size;
     let k = from[1] as u32;
     let v = partition::top_bits(x, k);
-    let m = count_below(from, z, key, hs, ns, k, v);
+    counts::read_counts(s, tallies);
+    let m = count_below(from, z, key, hs, ns, k, v, tallies);
     if free_pages(s, z, n, m) + 1 < m {
         return store::Answer::Refused(store::Refusal::PagesFull);
     }
     let d = words::get32(s, 16);
     name_prefix(s, z, x, k, d as u32, 0);
     write_below(s, z, d as u32, from, i, key, place, hs, ns, k, v, p);
-    settle_depth(s, z, n, d);
+    write_split(s, k, tallies);
+    settle_depth(s, z, n, d, z.deepest);
     store::Answer::New
 }
 
@@ -137,15 +152,38 @@ pub fn split_lent(
     ensures { λ r. ⌜ Answers (putAccepted z fnv (now (s .entry)) (newRow (now (key .entry)) (now (place .entry)))) (meaning r, now (s .exit)) ⌝ }
 {
     let size = 8 + z.capacity;
+    let mut tallies = [0u32; 14];
     if size <= 1024 {
         let mut from = [0u8; 1024];
         // Such a page has at most 78 rows, one of 16,384 bytes at most 1,259, and here comes one more.
         let mut hs = [0u32; 79];
         let mut ns = [0u32; 79];
-        return split(s, z, p, i, key, place, &mut from[0..size], &mut hs, &mut ns);
+        return split(
+            s,
+            z,
+            p,
+            i,
+            key,
+            place,
+            &mut from[0..size],
+            &mut hs,
+            &mut ns,
+            &mut tallies,
+        );
     }
     let mut from = [0u8; 16384];
     let mut hs = [0u32; 1260];
     let mut ns = [0u32; 1260];
-    split(s, z, p, i, key, place, &mut from[0..size], &mut hs, &mut ns)
+    split(
+        s,
+        z,
+        p,
+        i,
+        key,
+        place,
+        &mut from[0..size],
+        &mut hs,
+        &mut ns,
+        &mut tallies,
+    )
 }

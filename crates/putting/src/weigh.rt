@@ -7,7 +7,7 @@ ghost use Rattle.hash.specs.Fnv.{fnv};
 ghost use Rattle.partition.specs.Bits.{top};
 ghost use Rattle.partition.specs.Partition.{needs, rowsOf};
 ghost use Rattle.store.specs.Moves.{pick};
-ghost use Rattle.putting.specs.Split.{keyed, withNew, below, Weighable, Weighed, PrefixIn};
+ghost use Rattle.putting.specs.Split.{keyed, withNew, below, Weighable, Weighed, Countable, CountedBelow};
 use partition::Shape;
 
 // The hashes and needs of the page's rows, slot by slot, and then of a row of the code.
@@ -53,7 +53,7 @@ pub fn load(page: &[u8], key: &[u8], hs: &[u32], ns: &[u32], k: u32, v: u64) -> 
     sum as usize
 }
 
-// The number of buckets at the prefix v of k bits and below it.
+// The number of buckets at the prefix v of k bits and below it, which are counted in the array by their depths, too.
 pub fn count_below(
     page: &[u8],
     z: Shape,
@@ -62,21 +62,24 @@ pub fn count_below(
     ns: &[u32],
     k: u32,
     v: u64,
+    tallies: &mut [u32],
 ) -> usize
-    requires { ⌜ Weighed fnv (now page) (now key) (now hs) (now ns) × PrefixIn z k v ⌝ }
-    ensures { λ r. ⌜ r ≡ length (below z fnv (withNew (now (page .entry)) (keyed (now (key .entry)))) k v) ⌝ }
+    requires { ⌜ Countable z fnv (now page) (now key) (now hs) (now ns) k v (now tallies) ⌝ }
+    ensures many { λ r. ⌜ r ≡ length (below z fnv (withNew (now (page .entry)) (keyed (now (key .entry)))) k v) ⌝ }
+    ensures counted { λ r. ⌜ CountedBelow z fnv (withNew (now (page .entry)) (keyed (now (key .entry)))) k v (now (tallies .entry)) (now (tallies .exit)) ⌝ }
 {
     let n = load(page, key, hs, ns, k, v);
     if n == 0 {
         return 0;
     }
     if n <= z.capacity {
+        counts::count_up(tallies, 1 + k as usize);
         return 1;
     }
     if k as usize == z.deepest {
         return 0;
     }
-    let left = count_below(page, z, key, hs, ns, k + 1, 2 * v);
-    let right = count_below(page, z, key, hs, ns, k + 1, 2 * v + 1);
+    let left = count_below(page, z, key, hs, ns, k + 1, 2 * v, tallies);
+    let right = count_below(page, z, key, hs, ns, k + 1, 2 * v + 1, tallies);
     left + right
 }

@@ -80,46 +80,6 @@ module _ (S : Shape) (sz : Sized S) (s : List ℕ) (a : Accepted S fnv s) where
 pub entry-inside : (S : Shape) → Sized S → (d x : ℕ) → d ≤ S .deepest → x < 2 ^ 32 → top d x < S .entries
 entry-inside S sz d x l h = let m : 2 ^ d ≤ 2 ^ S .deepest = pow-mono l in omega (arith, top-lt x d h, sz .deep)
 
--- ---- counting
-
-count-by : (b : ℕ) (g : List ℕ) → (b ≡ 0 → length (rowsOn (reading b g)) ≡ 0) × ((b ≡ 0 → ⊥) → length (rowsOn (reading b g)) ≡ count g)
-count-by zero g = ((λ e. refl), (λ n. absurd (n refl)))
-count-by (suc b) g = ((λ e. absurd (omega arith)), (λ n. ap length (tab-map asRow (rowAt g) (count g)) ∙ length-tab (λ i. asRow (rowAt g i)) (count g)))
-
-pub rows-free : (S : Shape) (s : List ℕ) (p : ℕ) → byte s (p * size S) ≡ 0 → length (rowsOn (read (page S s p))) ≡ 0
-unfolding read
-rows-free S s p e = count-by (byte (page S s p) 0) (page S s p) .0 (kind-byte S s p ∙ e)
-
-pub rows-used : (S : Shape) (s : List ℕ) (p : ℕ) → (byte s (p * size S) ≡ 0 → ⊥) → length (rowsOn (read (page S s p))) ≡ le16 s (p * size S + 2)
-unfolding read le16
-rows-used S s p n =
-    let e₃ : byte s (p * size S + 2 + 1) ≡ byte s (p * size S + 3) = ap (byte s) (omega arith) in
-    count-by (byte (page S s p) 0) (page S s p) .1 (λ e. n (sym (kind-byte S s p) ∙ e))
-    ∙ omega (arith, page-byte S s p 2 (omega arith), page-byte S s p 3 (omega arith))
-
--- the rows of the pages from 2 below p
-pub rowsTo : Shape → List ℕ → ℕ → ℕ
-rowsTo S s p = total (λ i. length (rowsOn (read (page S s (i + 2))))) (p - 2)
-
-pub rows-none : (S : Shape) (s : List ℕ) → rowsTo S s 2 ≡ 0
-unfolding rowsTo total
-rows-none S s = refl
-
-pub rows-next : (S : Shape) (s : List ℕ) (p : ℕ) → 2 ≤ p → rowsTo S s (p + 1) ≡ rowsTo S s p + length (rowsOn (read (page S s p)))
-unfolding rowsTo
-rows-next S s p h =
-    let f : ℕ → ℕ = λ i. length (rowsOn (read (page S s (i + 2)))) in
-    let e : p + 1 - 2 ≡ suc (p - 2) = omega arith in
-    let g : p - 2 + 2 ≡ p = omega arith in
-    ap (total (λ i. length (rowsOn (read (page S s (i + 2)))))) e
-    ∙ total-insert (λ i. length (rowsOn (read (page S s (i + 2))))) (λ i. length (rowsOn (read (page S s (i + 2))))) (p - 2) (p - 2) (le-refl (p - 2)) (λ i l. refl) (λ i l m. absurd (omega arith))
-    ∙ add-comm (length (rowsOn (read (page S s (p - 2 + 2))))) (total (λ i. length (rowsOn (read (page S s (i + 2))))) (p - 2))
-    ∙ ap (λ q. total (λ i. length (rowsOn (read (page S s (i + 2))))) (p - 2) + length (rowsOn (read (page S s q)))) g
-
-pub rows-all : (S : Shape) (s : List ℕ) (n : ℕ) → length s ≡ n * size S → rowsTo S s n ≡ length (rowsHeld S s)
-unfolding rowsTo
-rows-all S s n e = let q : length s / size S ≡ n = ap (λ m. m / size S) e ∙ mul-div-cancel n (omega arith) in ap (λ m. total (λ i. length (rowsOn (read (page S s (i + 2))))) (m - 2)) (sym q) ∙ sym (count-rows S s)
-
 -- ---- the listing, from an entry on
 
 -- the rows of the listing from place n on are those from `left` on of what the entries from i on list

@@ -21,7 +21,6 @@ use store_check::Length;
 
 mod spots;
 
-pub use spots::count_rows;
 pub use spots::cursor_at;
 pub use spots::entries_of;
 pub use spots::entry_of;
@@ -60,7 +59,7 @@ pub fn check(s: &[u8]) -> Answer
     Answer::Accepted
 }
 
-// The number of rows.
+// The number of rows: page 0 has it.
 pub fn count(s: &[u8]) -> Answer
     ensures { λ r. ⌜ Answers (countTable (shapeOf (now (s .entry))) fnv (now (s .entry))) (meaning r) ⌝ }
 {
@@ -72,7 +71,7 @@ pub fn count(s: &[u8]) -> Answer
     if p < n {
         return Answer::Refused(Refusal::BadPage(p));
     }
-    Answer::Rows(spots::count_rows(s, z, n))
+    Answer::Rows(counts::rows_counted(s))
 }
 
 // The place of a code as it is stored, on an accepted store.

@@ -1,11 +1,11 @@
-// The rows of an accepted store: found by code, counted, and by their place in the listing.
+// The rows of an accepted store: found by code, and by their place in the listing.
 ghost use mathlib.Core.Path.{_≡_};
 ghost use Prim.Native.Nat.{ℕ, _+_, _-_, _*_, _^_, _≤_, _<_};
 ghost use lib.ListN.{length};
 ghost use Rattle.ground.specs.Lists.{byte};
 ghost use Rattle.hash.specs.Fnv.{fnv};
 ghost use Rattle.partition.specs.Bits.{top};
-ghost use Rattle.store.specs.Pages.{size, page, read, rowsOn, dirDepth, entryAt, rowsHeld};
+ghost use Rattle.store.specs.Pages.{size, dirDepth, entryAt};
 ghost use Rattle.store.specs.Accepted.{Accepted};
 ghost use Rattle.store.specs.Demands.{Sized};
 ghost use Rattle.query.specs.Asked.{Sought};
@@ -43,32 +43,6 @@ pub fn find_row(s: &[u8], z: Shape, key: &[u8], x: u32) -> Spot
         Found::At(i) => Spot::Here(p, i),
         Found::Absent(_) => Spot::Nowhere,
     }
-}
-
-// The number of rows on page p.
-fn rows_on(s: &[u8], z: Shape, p: usize) -> usize
-    requires { ⌜ p * size z + size z ≤ length (now s) ⌝ }
-    ensures { λ r. ⌜ (r ≡ length (rowsOn (read (page z (now (s .entry)) p)))) × (r < 65536) ⌝ }
-{
-    let a = p * (8 + z.capacity);
-    if s[a] == 0 {
-        return 0;
-    }
-    words::get16(s, a + 2)
-}
-
-// The number of rows of a store of n pages: each page once.
-pub fn count_rows(s: &[u8], z: Shape, n: usize) -> usize
-    requires { ⌜ (length (now s) ≡ n * size z) × (2 ≤ n) × (n ≤ 4098) ⌝ }
-    ensures { λ r. ⌜ r ≡ length (rowsHeld z (now (s .entry))) ⌝ }
-{
-    let mut sum = 0;
-    let mut p = 2;
-    while p < n {
-        sum += rows_on(s, z, p);
-        p += 1;
-    }
-    sum
 }
 
 // The number of entries of the page at offset a, in a directory of depth d.

@@ -12,26 +12,39 @@ use Rattle.ground.specs.Lists.{byte, tab}
 use Rattle.ground.proofs.Sides.{side}
 use Rattle.ground.proofs.Tables.{tab-same, tab-map}
 use Rattle.ground.proofs.Tests.{untrue}
-use Rattle.page.specs.Page.{BucketPage}
+use Rattle.page.specs.Page.{Slotted, BucketPage, depth, rows}
 use Rattle.partition.specs.Bits.{top}
 use Rattle.partition.specs.Partition.{Row, first, after, Reordered}
 use Rattle.partition.specs.declared.Shape.{Shape}
 use Rattle.partition.proofs.Directory.{holds-range}
 use Rattle.partition.proofs.Maps.{cut}
+use Rattle.partition.proofs.Sizes.{twelve}
 use Rattle.partition.proofs.Tree.{pfx}
 use Rattle.store.specs.Pages.{size, pages, Page, free, page, read, dirDepth, entryAt, contents, setPage}
 use Rattle.store.specs.Accepted.{Calls}
 use Rattle.store.specs.Moves.{pick, find, within}
 use Rattle.store.proofs.Accepted.Unique.{held}
 use Rattle.store.proofs.Paging.Depths.{kind-byte}
-use Rattle.store.proofs.Paging.PageTies.{zeros, read-cleared}
+use Rattle.store.proofs.Paging.PageTies.{zeros, read-cleared, read-slotted}
 use Rattle.store.proofs.Paging.Views.{set-long, set-same, set-other, set-below, set-contents}
 use Rattle.store.proofs.Showing.Shown.{find-least, find-passes}
 use Rattle.store.proofs.Showing.Showing.{pages-held}
+use Rattle.counts.specs.Tallies.{BucketsCounted, oneLess}
+use Rattle.counts.proofs.Raises.{buckets-less}
 use Rattle.directory.specs.Directory.{SoundPage, free as unused, Settling}
 use Rattle.removal.specs.Join.{Taking, Gathered, PageTaking, Used, isOf, OfPrefix, Prefixed, Emptied, rowsAt, othersIn}
-use Rattle.removal.proofs.Prefixes.{read-free, used-page, many, page-at, listed, page-there, page-below}
+use Rattle.removal.proofs.Prefixes.{read-free, used-page, used-shallow, many, page-at, listed, page-there, page-below}
 use Rattle.removal.proofs.Gathers.{Coming, coming-all, coming-none, coming-reordered, next-taking, next-coming, others-on, othersOn, one-out, all-out}
+
+-- a page cleared: its bucket is no longer counted
+pub page-gone : (S : Shape) (t : List ℕ) (m : ℕ) → 2 ≤ m → m < pages S t → Slotted (page S t m) → depth (page S t m) ≤ 12 → (l : List ℕ) → BucketsCounted (contents S t) l
+    → (1 ≤ getD l (1 + depth (page S t m)) 0) × BucketsCounted (contents S (setPage S t m (replicate (size S) 0))) (oneLess l (1 + depth (page S t m)))
+page-gone S t m a b Z d l B =
+    let g : List ℕ = page S t m in
+    let w = buckets-less (contents S t) (m - 2) (depth g) (rows g) l (omega (arith, a, b, pages-held S t)) (held S t m a b ∙ read-slotted g Z) d B in
+    let e : contents S (setPage S t m (replicate (size S) 0)) ≡ set (contents S t) (m - 2) free =
+    set-contents S t m (replicate (size S) 0) b (length-replicate {A = ℕ} (size S) 0) a ∙ ap (set (contents S t) (m - 2)) (read-cleared (size S)) in
+    (w .0, subst (λ gs. BucketsCounted gs (oneLess l (1 + depth g))) (sym e) (w .1))
 
 -- all pages of the prefix cleared
 module _ (S : Shape) (h : List ℕ → ℕ) (s : List ℕ) (n j v : ℕ) (P : Settling S s n) where
@@ -163,7 +176,13 @@ module _ (S : Shape) (h : List ℕ → ℕ) (s : List ℕ) (n x j : ℕ) (P : Pr
           coming-reordered (subst₂ (λ y g. Reordered (rows-in t) (y ++ othersIn h j v c g)) b (sym a) (one-out h j v c (contents S t) (m - 2) l)) (K .rest)
 
       pub page-taking : Taking p (othersIn h j (top j x) c (contents S s)) → PageTaking S q t (entryAt S s i) c
-      page-taking T = record { there = entry-there; slots = bucket-there .rules; room = next-taking its-rows (rows-in then) coming T }
+      page-taking T = record {
+        from = its .from;
+        there = entry-there;
+        slots = bucket-there .rules;
+        shallow = omega (arith, ap depth same, used-shallow S (P .sound .pages m (its .from) (its .to)) (in-use (u .some)), twelve S (P .sized));
+        room = next-taking its-rows (rows-in then) coming T;
+      }
 
       pub taken-next : (r : ℕ) (q′ : List ℕ) → Gathered q (cut c (rowsAt (page S t (entryAt S s i)))) q′ → r ≡ min low (entryAt S s i)
           → Taken S h s n x j c p (i + 1) r q′ (setPage S t (entryAt S s i) (replicate (size S) 0))

@@ -1,12 +1,13 @@
 -- The gathered rows, packed into the lowest-numbered page of the prefix. Over any page size. Assumes nothing.
 use mathlib.Core.Path.{_≡_, refl, sym, ap, subst, subst₂, _∙_}
+use mathlib.Core.Bool.{true}
 use mathlib.Core.Logic.{⊎-elim}
 use mathlib.Core.List.{List, [], _∷_, _++_, map}
 use Prim.Native.Nat.{ℕ, zero, suc, _+_, _-_, _*_, _/_, _≤_, _<_}
 use native.Mathlib.Omega.{arith}
 use native.Mathlib.Nat.{mul-le-mul-right}
 use native.Mathlib.Decide.{ℕ-discrete}
-use lib.ListN.{length, set, take, drop, replicate}
+use lib.ListN.{length, getD, set, take, drop, replicate}
 use Rattle.ground.specs.Lists.{tab}
 use Rattle.ground.proofs.Sides.{side}
 use Rattle.page.specs.Page.{BucketPage, count, depth, rowAt}
@@ -15,15 +16,21 @@ use Rattle.partition.specs.Bits.{top}
 use Rattle.partition.specs.Partition.{Row, needs, Reordered}
 use Rattle.partition.specs.Listing.{inOrder}
 use Rattle.partition.proofs.Reorders.{needs-same}
+use Rattle.partition.proofs.Sizes.{twelve}
 use Rattle.partition.proofs.Sorted.{order-same}
 use Rattle.partition.specs.declared.Shape.{Shape}
-use Rattle.store.specs.Pages.{size, pages, Page, bucket, page, read, contents, asRow, setPage}
-use Rattle.store.specs.Moves.{find, within, packFrom}
-use Rattle.store.proofs.Paging.PageTies.{page-needs, page-once, page-order, packed-rows, read-slotted}
+use Rattle.store.specs.Pages.{size, pages, Page, free, bucket, page, read, contents, asRow, setPage}
+use Rattle.store.specs.Moves.{pick, find, within, packFrom}
+use Rattle.store.proofs.Accepted.Unique.{held}
+use Rattle.store.proofs.Paging.PageTies.{page-needs, page-once, page-order, packed-rows, read-cleared, read-slotted}
 use Rattle.store.proofs.Paging.Views.{set-long, set-same, set-other, set-below, set-contents}
+use Rattle.store.proofs.Showing.Shown.{find-passes}
+use Rattle.store.proofs.Showing.Showing.{pages-held}
+use Rattle.counts.specs.Tallies.{BucketsCounted, oneMore}
+use Rattle.counts.proofs.Raises.{buckets-more, buckets-low}
 use Rattle.directory.specs.Directory.{SoundPage, used}
-use Rattle.removal.specs.Join.{Housed, Taking, Gathered, rowsAt, othersIn, Emptied, Joinable, Rejoined}
-use Rattle.removal.proofs.Prefixes.{many, listed}
+use Rattle.removal.specs.Join.{Housed, Taking, Gathered, rowsAt, othersIn, isOf, Emptied, Joinable, Rejoined}
+use Rattle.removal.proofs.Prefixes.{many, page-at, listed}
 use Rattle.removal.proofs.Empties.{emptied-sound, emptied-holds}
 
 -- the first n of the zeros that are lent are n zeros
@@ -92,6 +99,12 @@ module _ (S : Shape) (h : List ℕ → ℕ) (s : List ℕ) (n x j : ℕ) (c : Li
     there : low < pages S u
     there = subst (λ m. low < m) (sym (ap (λ m. m / size S) (E .long) ∙ many S s n (J .prefix .sound))) low-within
 
+    at : low - 2 ≡ find (within h j v) gs
+    at = omega arith
+
+    now-reads : read k ≡ bucket j (packFrom 8 (inOrder (othersIn h j v c gs)))
+    now-reads = read-slotted k (K .page) ∙ (λ i. bucket (deep i) ((packed-rows g (G .tight .page) k K ∙ ap (packFrom 8) sorted) i))
+
     pub rejoined : Rejoined S h s n j v c low (setPage S u low k)
     rejoined = record {
       long = set-long S u low k there long ∙ E .long;
@@ -106,8 +119,28 @@ module _ (S : Shape) (h : List ℕ → ℕ) (s : List ℕ) (n x j : ℕ) (c : Li
         go x f t (yes e) = subst (SoundPage S) (sym (ap (page S (setPage S u low k)) e ∙ set-same S u low k there long)) (used its (omega (arith, deep, J .prefix .bits, J .prefix .deep)))
         go x f t (no ne) = subst (SoundPage S) (sym (set-other S u low k there long x ne)) (emptied-sound S h s n j v (J .prefix .sound) u E x f t)
 
-        at : low - 2 ≡ find (within h j v) gs
-        at = omega arith
+    -- the page was cleared, and its bucket counts again
+    is-low : isOf S h j v s low ≡ true
+    is-low =
+        ap (within h j v) (sym (page-at S s n (J .prefix .sound) low (omega arith) low-within) ∙ ap (λ m. getD gs m free) at) ∙ find-passes (within h j v) gs (J .there)
 
-        now-reads : read k ≡ bucket j (packFrom 8 (inOrder (othersIn h j v c gs)))
-        now-reads = read-slotted k (K .page) ∙ (λ i. bucket (deep i) ((packed-rows g (G .tight .page) k K ∙ ap (packFrom 8) sorted) i))
+    gone : getD (contents S u) (low - 2) free ≡ free
+    gone =
+        held S u low (omega arith) there ∙ ap read (E .pages low (omega arith) low-within ∙ ap (λ b. pick b (replicate (size S) 0) (page S s low)) is-low)
+        ∙ read-cleared (size S)
+
+    low-bits : j ≤ 12
+    low-bits = omega (arith, J .prefix .bits, J .prefix .deep, twelve S (J .prefix .sized))
+
+    module _ (tallies : List ℕ) (B : BucketsCounted (contents S u) tallies) where
+      pub joined-more : (1 + j < length tallies) × (getD tallies (1 + j) 0 + 1 < 4294967296)
+      joined-more =
+          let P = J .prefix .sound in
+          let z = J .prefix .sized in (
+            omega (arith, B .long, low-bits),
+            omega (arith, buckets-low (contents S u) tallies B j low-bits, pages-held S u, ap (λ m. m / size S) (E .long), many S s n P, P .most, z .whole, z .most),
+          )
+
+      pub joined-counted : BucketsCounted (contents S (setPage S u low k)) (oneMore tallies (1 + j))
+      joined-counted = subst (λ gs. BucketsCounted gs (oneMore tallies (1 + j))) (sym (set-contents S u low k there long (omega arith) ∙ ap (set (contents S u) (low - 2)) now-reads))
+          (buckets-more (contents S u) (low - 2) j _ tallies (omega (arith, there, pages-held S u)) gone low-bits B)

@@ -3,4 +3,5 @@ pub mod Runs
 pub mod Gathers
 pub mod Empties
 pub mod Joins
+pub mod Lowers
 pub mod Removes

@@ -27,6 +27,10 @@ pub used-page : (S : Shape) {g : List ℕ} → SoundPage S g → (byte g 0 ≡ 0
 used-page S (unused z) n = absurd (n (z 0))
 used-page S (used b d) n = b
 
+pub used-shallow : (S : Shape) {g : List ℕ} → SoundPage S g → BucketPage g → depth g ≤ S .deepest
+used-shallow S (unused z) b = absurd (omega (arith, z 0, b .rules .one))
+used-shallow S (used b d) n = d
+
 within-tab : (h : List ℕ → ℕ) (j v k : ℕ) (f : ℕ → Record) (n : ℕ) → 1 ≤ n → within h j v (bucket k (tab f n)) ≡ eqb (top j (h (f 0 .code))) v
 unfolding tab
 within-tab h j v k f zero l = absurd (omega arith)

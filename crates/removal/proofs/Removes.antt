@@ -16,7 +16,7 @@ use Rattle.ground.proofs.Tests.{untrue}
 use Rattle.ground.specs.Lists.{byte}
 use Rattle.ground.proofs.Sides.{side}
 use Rattle.ground.proofs.Tables.{length-tab}
-use Rattle.page.specs.Page.{Slotted, BucketPage, depth, count, code, place, rows, rowAt}
+use Rattle.page.specs.Page.{Record, Slotted, BucketPage, depth, count, code, place, rows, rowAt}
 use Rattle.page.specs.Steps.{Removed}
 use Rattle.page.proofs.Sums.{len-of-code}
 use Rattle.partition.specs.Bits.{top}
@@ -29,21 +29,32 @@ use Rattle.partition.proofs.Bits.{top-step, top-lt}
 use Rattle.partition.proofs.Laws.{Shallowest, share-fewer, bucket-shallowest}
 use Rattle.partition.proofs.Maps.{cut, cut-none, cut-front, cut-length, cut-same, cut-gone, once-remove}
 use Rattle.partition.proofs.Path.{fit-above}
-use Rattle.partition.proofs.Reorders.{needs-same, rows-same, mem-reordered}
+use Rattle.partition.proofs.Reorders.{length-same, needs-same, rows-same, mem-reordered}
 use Rattle.partition.proofs.Rising.{tab-in, tab-member, without-member, without-map}
 use Rattle.partition.proofs.Rows.{load, load-mono, rows-on, some-need}
 use Rattle.partition.proofs.Sorted.{by-code, order-same, in-order-reordered, some-none, some-once}
 use Rattle.partition.specs.declared.Shape.{Shape}
-use Rattle.store.specs.Pages.{size, pages, Page, free, bucket, page, read, entryAt, dirDepth, contents, asRow, rowsHeld, deepestIn, setPage}
+use Rattle.store.specs.Pages.{size, pages, Page, free, bucket, page, read, entryAt, dirDepth, contents, asRow, rowsIn, rowsHeld, deepestIn, setPage}
 use Rattle.store.specs.Accepted.{Bucket, Stands, unused, used, Calls}
+use Rattle.words.specs.Le.{le32}
+use Rattle.words.specs.Moves.{Frame}
 use Rattle.words.proofs.Bytes.{le32-same}
 use Rattle.store.specs.Moves.{pick, find, holds, within, packFrom, packed, clearedOn, removed}
 use Rattle.store.specs.Tables.{Becomes}
+use Rattle.store.specs.Counts.{oneAt, bucketsAt}
 use Rattle.store.specs.Demands.{Sized, Hash}
 use Rattle.store.proofs.Accepted.Rules.{opened}
+use Rattle.store.proofs.Counts.Counted.{set-count, same-depth-count}
+use Rattle.store.proofs.Counts.Ones.{ones}
+use Rattle.store.proofs.Counts.Words.{counts-word}
+use Rattle.counts.specs.Tallies.{BucketsCounted, CountsNow, Lowered}
+use Rattle.counts.proofs.Deepest.{deepest-low, none-above}
+use Rattle.counts.proofs.Raises.{inside-counts, inside-both, other-count, word-kept, counts-down}
+use Rattle.removal.proofs.Lowers.{counts-fewer}
 use Rattle.store.proofs.Showing.Shows.{firstCode, prefixOn, Holding, OnPage, Shows}
 use Rattle.store.proofs.Showing.Shown.{within-on, within-pages, find-least, find-passes}
 use Rattle.store.proofs.Accepted.Named.{calls-hash}
+use Rattle.store.proofs.Accepted.Unique as Unique
 use Rattle.store.proofs.Accepted.Unique.{read-zero, read-used, held, page-long}
 use Rattle.store.proofs.Accepted.Owner.{entry-within}
 use Rattle.store.proofs.Showing.Showing.{first-of, first-code, calls-top, accepted-shows, pages-held}
@@ -54,10 +65,10 @@ use Rattle.store.proofs.Remove.MoveRows.{remove-shown}
 use Rattle.store.proofs.Remove.RemoveCases as Cases
 use Rattle.store.proofs.Showing.Within.{one-depth, rows-within}
 use Rattle.store.proofs.Accepted.Spelled.{AllFolded, held-folded, one-less}
-use Rattle.store.proofs.Accepted.Accepting.{Laid, accepted-laid, laid-becomes}
+use Rattle.store.proofs.Accepted.Accepting.{Laid, accepted-laid, laid-becomes, recounted}
 use Rattle.store.proofs.Paging.PageTies.{row-in, zeros, read-cleared, page-once, found-at, removed-rows}
 use Rattle.store.proofs.Paging.Views.{set-long, set-same, set-other, set-below, set-contents}
-use Rattle.directory.specs.Directory.{CallsFor, none, names, PrefixNamed, Directed, SoundPage, free as vacant, used as occupied, Rewritten}
+use Rattle.directory.specs.Directory.{CallsFor, none, names, PrefixNamed, Directed, SoundPage, free as vacant, used as occupied, Settleable, Recounted, Rewritten}
 use Rattle.directory.proofs.Directories.{calls-same}
 use Rattle.directory.proofs.Laying.{on-page}
 use Rattle.directory.proofs.Renews.{packed-bits, prefix-pages, prefix-holds, prefix-kept, one-calls, entry-calls, renewed}
@@ -65,9 +76,20 @@ use Rattle.removal.specs.Prefix.{Climbed}
 use Rattle.removal.specs.Join.{othersIn, OfPrefix, NamedBy, Joinable, joinedPages, Rejoined}
 use Rattle.removal.specs.Remove.{Leaving, rowsLeft, Fits}
 use Rattle.directory.proofs.OnePage.{laid-set}
-use Rattle.directory.proofs.Settles.{unwritten, settling, settled}
+use Rattle.directory.proofs.Recounts.{same-contents, directed-then, recounted-now}
+use Rattle.directory.proofs.Settles.{unwritten, settling, settleable, settled}
 use Rattle.removal.proofs.Prefixes.{within-used}
 use Rattle.removal.proofs.Gathers.{cut-append, cut-same as cut-key}
+
+-- pages cleared have no more buckets
+cleared-few : (f : Page → Bool) (k : ℕ) (gs : List Page) → bucketsAt k (map (λ g. pick (f g) free g) gs) ≤ bucketsAt k gs
+unfolding bucketsAt
+cleared-few f k [] = omega arith
+cleared-few f k (g ∷ gs) = omega (arith, go (f g), cleared-few f k gs)
+  where
+    go : (b : Bool) → oneAt k (pick b free g) ≤ oneAt k g
+    go true = omega arith
+    go false = omega arith
 
 module _ (S : Shape) (sized : Sized S) (h : List ℕ → ℕ) (hash : Hash h) (s : List ℕ) (p i : ℕ) (c : List ℕ) (L : Leaving S h s p i c) where
   abbrev g : List ℕ
@@ -128,6 +150,10 @@ module _ (S : Shape) (sized : Sized S) (h : List ℕ → ℕ) (hash : Hash h) (s
   page-shallow (vacant z) = absurd (omega (arith, z 0, slotted .one))
   page-shallow (occupied b d) = d
 
+  -- no bucket is deeper than the directory
+  not-deeper : (m : ℕ) → dirDepth s < m → bucketsAt m gs ≡ 0
+  not-deeper m l = none-above gs (dirDepth s) (omega (arith, accepted-laid S h sized hash s (L .accepted) .deep)) m l
+
   -- ---- going up
 
   sum : (j : ℕ) → needs (rowsOf h rs j (top j x)) ≡ 12 + length c + needs (rowsOf h (rowsLeft S s c) j (top j x))
@@ -183,6 +209,16 @@ module _ (S : Shape) (sized : Sized S) (h : List ℕ → ℕ) (hash : Hash h) (s
     after : Shows S h (rowsLeft S s c) (removed S h gs c)
     after = remove-shown S h sized hash s c old (L .accepted) (L .known)
 
+    one-left : length rs ≡ suc (length (rowsLeft S s c))
+    one-left = cut-length c old rs (shows .once) (L .known)
+
+    -- there is a row to lose, and one less then
+    pub some-rows : le32 s 24 ≡ suc (length (rowsLeft S s c))
+    some-rows = opened S h s (L .accepted) .counts .rows ∙ one-left
+
+    pub rows-then : (t : List ℕ) → contents S t ≡ removed S h gs c → length (rowsHeld S t) + 1 ≡ le32 s 24
+    rows-then t e = omega (arith, some-rows, ap (λ y. length (rowsIn y)) e, length-same (after .same))
+
     -- ---- rows left at the page's own depth: the record goes
 
     module _ (own : j ≡ k) (two : 2 ≤ count g) (q : List ℕ) (R : Removed g i q) where
@@ -218,19 +254,48 @@ module _ (S : Shape) (sized : Sized S) (h : List ℕ → ℕ) (hash : Hash h) (s
           positive : 0 < needs (rowsOf h (rowsLeft S s c) j (top j x))
           positive = omega (arith, ap (λ d. needs (rowsOf h (rowsLeft S s c) d (top d x))) own, rest-needs, some-need rest .0 (omega (arith, many)))
 
-      pub loses : ((m : ℕ) → byte (setPage S s p q) m < 256) → Becomes S h s (removed S h gs c) (setPage S s p q)
-      loses small =
-          laid-becomes S h sized hash (setPage S s p q) (rowsLeft S s c) (removed S h gs c)
-          (subst (Laid S h (setPage S s p q)) (sym written)
-          (laid-set S h sized s gs (accepted-laid S h sized hash s (L .accepted)) p k (rows g) (L .from) (L .to) holding q kept (R .long ∙ long) (R .deep) still))
-          after spelled s (set-long S s p q (L .to) (R .long ∙ long)) small
+      abbrev s₁ : List ℕ
+      s₁ = setPage S s p q
 
-    -- pages written anew and settled
-    module _ {t u : List ℕ} (W : Rewritten S s t) (holds-then : contents S t ≡ removed S h gs c) (D : Directed S h t (deepestIn (contents S t)) (pages S s) u) where
-      pub settles : ((m : ℕ) → byte u m < 256) → Becomes S h s (removed S h gs c) u
-      settles small =
+      -- page 0 stays
+      counts-below : (m : ℕ) → 24 ≤ m → m < 80 → byte s₁ m ≡ byte s m
+      counts-below m a b = set-below S s p q (L .to) (R .long ∙ long) m (omega (arith, mul-le-mul-right (size S) (L .from), sized .least))
+
+      -- and the number of rows can be one less
+      pub row-less : (28 + 4 * 0 ≤ length (setPage S s p q)) × (1 ≤ le32 (setPage S s p q) (24 + 4 * 0))
+      row-less =
+          let e : le32 s₁ 24 ≡ le32 s 24 = word-kept s s₁ counts-below 0 (omega arith) in (
+            omega (arith, set-long S s p q (L .to) (R .long ∙ long), Unique.within S s p (L .to), sized .least),
+            omega (arith, e, opened S h s (L .accepted) .counts .rows, one-left),
+          )
+
+      pub loses : (u : List ℕ) → Lowered (setPage S s p q) 0 u → ((m : ℕ) → byte u m < 256) → Becomes S h s (removed S h gs c) u
+      loses u D small =
+          let F : Frame s₁ 24 56 u = inside-counts s₁ u 0 _ (omega arith) D in
+          let M : Laid S h u (removed S h gs c) = recounted S h sized s₁ u (removed S h gs c) F (subst (Laid S h s₁) (sym written)
+          (laid-set S h sized s gs (accepted-laid S h sized hash s (L .accepted)) p k (rows g) (L .from) (L .to) holding q kept (R .long ∙ long) (R .deep) still)) in
+          laid-becomes S h sized hash u (rowsLeft S s c) (removed S h gs c) M after spelled s (F .len ∙ set-long S s p q (L .to) (R .long ∙ long)) small
+          (counts-fewer S s s₁ u (removed S h gs c) (opened S h s (L .accepted) .counts) counts-below D (M .holds) (omega (arith, length-same (after .same), one-left))
+          (λ m. ap (bucketsAt m) written ∙ same-depth-count m gs (p - 2) k (rows g) (rows q) (within-pages gs (p - 2) k (rows g) holding) holding))
+
+    -- pages written anew, counted and settled
+    module _ {t t′ : List ℕ} (W : Rewritten S s t) (N : Recounted S t t′) where
+      pub can-settle : Settleable S t′ (pages S s)
+      can-settle = settleable S sized h hash s (L .accepted) t W t′ (N .old) (N .counts)
+
+      -- none is deeper than the directory was
+      pub low-then : ((m : ℕ) → dirDepth s < m → bucketsAt m (contents S t) ≡ 0) → deepestIn (contents S t′) ≤ dirDepth s
+      low-then f = subst (λ y. deepestIn y ≤ dirDepth s) (sym (same-contents S sized t t′ (N .old))) (deepest-low (contents S t) (dirDepth s) f)
+
+      pub directed-still : Directed S h t (dirDepth s) (pages S s) t → Directed S h t′ (dirDepth s) (pages S s) t′
+      directed-still D =
+          let l : pages S t ≡ pages S s = ap (λ n. n / size S) (W .long) in
+          directed-then S sized t t′ (N .old) h (dirDepth s) (pages S s) (omega (arith, l)) D
+
+      pub settles : {u : List ℕ} → contents S t ≡ removed S h gs c → Directed S h t′ (deepestIn (contents S t′)) (pages S s) u → ((m : ℕ) → byte u m < 256) → Becomes S h s (removed S h gs c) u
+      settles {u} holds-then D small =
           subst (λ l. Becomes S h s l u) holds-then
-          (settled S sized h hash s (L .accepted) t W u D (rowsLeft S s c) (subst (Shows S h (rowsLeft S s c)) (sym holds-then) after) spelled small)
+          (settled S sized h hash s (L .accepted) t W t′ (N .old) (N .counts) u D (rowsLeft S s c) (subst (Shows S h (rowsLeft S s c)) (sym holds-then) after) spelled small)
 
     -- ---- nothing left on the page: it is cleared
 
@@ -275,6 +340,50 @@ module _ (S : Shape) (sized : Sized S) (h : List ℕ → ℕ) (hash : Hash h) (s
 
         pub clear-then : contents S u ≡ removed S h gs c
         clear-then = prefix-holds S t u (dirDepth s) k (top k x) 0 N ∙ clear-holds
+
+        -- page 0 is as it was, and its counts can be one less
+        as-was : (m : ℕ) → 24 ≤ m → m < 80 → byte u m ≡ byte s m
+        as-was m a b = clear-kept .low m (omega (arith, sized .least))
+
+        room-then : 80 ≤ length u
+        room-then = omega (arith, clear-kept .long, Unique.within S s p (L .to), sized .least)
+
+        low-k : k ≤ 12
+        low-k = omega (arith, page-low, opened S h s (L .accepted) .page0 .depth, twelve S sized)
+
+        inside : p - 2 < length gs
+        inside = within-pages gs (p - 2) k (rows g) holding
+
+        one-gone : (m : ℕ) → bucketsAt m (removed S h gs c) + oneAt m (bucket k (rows g)) ≡ bucketsAt m gs
+        one-gone m =
+            let e : contents S t ≡ set gs (p - 2) free = set-contents S s p (replicate (size S) 0) (L .to) zero-long (L .from) ∙ ap (set gs (p - 2)) (read-cleared (size S)) in
+            omega (arith, ap (bucketsAt m) (sym clear-holds ∙ e), set-count m gs (p - 2) free inside, ap (oneAt m) holding)
+
+        pub clear-row : (28 + 4 * 0 ≤ length u) × (1 ≤ le32 u (24 + 4 * 0))
+        clear-row = (omega (arith, room-then), omega (arith, word-kept s u as-was 0 (omega arith), some-rows))
+
+        pub clear-bucket : (w : List ℕ) → Lowered u 0 w → (28 + 4 * (1 + k) ≤ length w) × (1 ≤ le32 w (24 + 4 * (1 + k)))
+        clear-bucket w R =
+            let e : suc k ≡ 1 + k = omega arith in
+            let now : le32 u (24 + 4 * suc k) ≡ bucketsAt k gs = word-kept s u as-was (suc k) (omega (arith, low-k)) ∙ counts-word S s (opened S h s (L .accepted) .counts) (suc k) (omega (arith, low-k)) in (
+              omega (arith, R .old .len, room-then, low-k),
+              ⊎-elim
+                  (λ o. omega (arith, other-count u w 0 _ (omega arith) R (1 + k) (λ z. omega (arith, z)), ap (λ y. le32 u (24 + 4 * y)) e, now, one-gone k, o .1))
+                  (λ o. absurd (o .0 refl))
+                  (ones k k (rows g)),
+            )
+
+        pub clear-none : (m : ℕ) → dirDepth s < m → bucketsAt m (contents S u) ≡ 0
+        clear-none m l = omega (arith, one-gone m, not-deeper m l, ap (bucketsAt m) clear-then)
+
+        pub clear-recounted : (w t′ : List ℕ) → Lowered u 0 w → Lowered w (1 + k) t′ → Recounted S u t′
+        clear-recounted w t′ R D =
+            let E : Frame u 24 56 t′ = inside-both u w t′ 0 (1 + k) _ _ (omega arith) (omega (arith, low-k)) R D in
+            record {
+              old = E;
+              counts = counts-down S s u w t′ (removed S h gs c) k (rows g) (opened S h s (L .accepted) .counts) as-was low-k R D (same-contents S sized u t′ E ∙ clear-then)
+                  (omega (arith, length-same (after .same), one-left)) one-gone;
+            }
 
         still-there : (q : ℕ) → 2 ≤ q → q < pages S s → page S u q ≡ page S t q
         still-there q a b = prefix-pages S t u (dirDepth s) k (top k x) 0 N q a (subst (λ n. q < n / size S) (sym (clear-written .long)) b)
@@ -560,3 +669,19 @@ module _ (S : Shape) (sized : Sized S) (h : List ℕ → ℕ) (hash : Hash h) (s
             others = λ i l n. ⊎-elim (λ w. absurd (n (w .0))) (λ w. w .1 ∙ entry-before i l) (N .entry i l);
             own = λ i l w. ⊎-elim (λ o. rw (o .1) (names low-from low-to (calls-low i w))) (λ o. absurd (o .0 w)) (N .entry i l);
           })
+
+          -- a joined bucket is not deeper than the directory was, and the others are as they were
+          pub join-none : (m : ℕ) → dirDepth s < m → bucketsAt m (contents S u) ≡ 0
+          join-none m l =
+              let cs : List Page = map (λ y. pick (within h j v y) free y) gs in
+              let rs : List Record = packFrom 8 (inOrder (othersIn h j v c gs)) in
+              let w = set-count m cs (find (within h j v) gs) (bucket j rs) (omega (arith, inside-low, length-map gs (λ y. pick (within h j v y) free y))) in
+              ⊎-elim
+              (λ o. absurd (omega (arith, o .0, l, less, page-low)))
+              (λ o. omega (arith, ap (bucketsAt m) (prefix-holds S t u (dirDepth s) j v low N ∙ R .holds), w, o .1, cleared-few (within h j v) m gs, not-deeper m l))
+              (ones m j rs)
+
+          -- and the counts written anew
+          pub join-recounted : (m : ℕ) (tallies w : List ℕ) → BucketsCounted (contents S t) tallies → m ≡ le32 s 24 - 1 → CountsNow u m tallies w → Recounted S u w
+          join-recounted m tallies w B e C = recounted-now S sized u m tallies w (subst (λ gs. BucketsCounted gs tallies) (sym (prefix-holds S t u (dirDepth s) j v low N)) B)
+              (omega (arith, e, rows-then u join-then)) C

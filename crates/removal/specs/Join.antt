@@ -15,6 +15,7 @@ use Rattle.store.specs.Pages.{size, Page, free, bucket, page, read, dirDepth, e
 use Rattle.store.specs.Accepted.{Calls}
 use Rattle.store.specs.Moves.{pick, find, within, packFrom}
 use Rattle.store.specs.Demands.{Sized}
+use Rattle.counts.specs.Tallies.{BucketsCounted}
 use Rattle.directory.specs.Directory.{SoundPage, Settling}
 
 -- ---- rows on a page
@@ -70,8 +71,10 @@ pub record SlotTaking (p g : List ℕ) (i : ℕ) (c : List ℕ) : Type 0 where
 
 -- page q of the store s, and room on p for its rows that are
 pub record PageTaking (S : Shape) (p s : List ℕ) (q : ℕ) (c : List ℕ) : Type 0 where
+  pub from : 2 ≤ q
   pub there : q * size S + size S ≤ length s
   pub slots : Slotted (page S s q)
+  pub shallow : depth (page S s q) ≤ 12
   pub room : Taking p (others c (rowsAt (page S s q)))
 
 -- those of the pages of the prefix
@@ -122,6 +125,11 @@ pub record Joinable (S : Shape) (h : List ℕ → ℕ) (s : List ℕ) (n x j : �
   pub housed : Housed (size S) (othersIn h j (top j x) c (contents S s))
   pub some : 0 < needs (othersIn h j (top j x) c (contents S s))
   pub there : find (within h j (top j x)) (contents S s) < length (contents S s)
+
+-- and the array has the counts of buckets
+pub record JoinCounted (S : Shape) (h : List ℕ → ℕ) (s : List ℕ) (n x j : ℕ) (c tallies : List ℕ) : Type 0 where
+  pub joinable : Joinable S h s n x j c
+  pub counted : BucketsCounted (contents S s) tallies
 
 -- what the pages hold with those rows packed into the lowest-numbered page of the prefix, and its other pages cleared
 abbrev pub joinedPages : (List ℕ → ℕ) → ℕ → ℕ → List ℕ → List Page → List Page

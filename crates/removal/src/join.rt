@@ -10,7 +10,8 @@ ghost use Rattle.partition.specs.Bits.{top};
 ghost use Rattle.store.specs.Pages.{size as sizeOf, page as pageOf, contents, setPage};
 ghost use Rattle.store.specs.Moves.{find, within};
 ghost use Rattle.removal.specs.Join.{Taking, Gathered, Storable, rowOf, rowsAt, others, otherAt, SlotTaking, PageTaking, othersIn};
-ghost use Rattle.removal.specs.Join.{Used, Emptied, Joinable, Rejoined};
+ghost use Rattle.removal.specs.Join.{Used, Emptied, JoinCounted, Rejoined};
+ghost use Rattle.counts.specs.Tallies.{BucketsCounted};
 use page::Found;
 use partition::Shape;
 use words::Order;
@@ -77,16 +78,26 @@ fn is_used(s: &[u8], z: Shape, p: usize) -> bool
     true
 }
 
-// Page p's rows of another code go to another page, and page p is cleared; the lower of two page numbers.
-fn take_page(to: &mut [u8], s: &mut [u8], z: Shape, p: usize, key: &[u8], low: usize) -> usize
-    requires { ⌜ PageTaking z (now to) (now s) p (now key) ⌝ }
+// Page p's rows of another code go to another page, and page p is cleared and no longer counted; the lower of two page numbers.
+fn take_page(
+    to: &mut [u8],
+    s: &mut [u8],
+    z: Shape,
+    p: usize,
+    key: &[u8],
+    low: usize,
+    tallies: &mut [u32],
+) -> usize
+    requires { ⌜ PageTaking z (now to) (now s) p (now key) × BucketsCounted (contents z (now s)) (now tallies) ⌝ }
     ensures gathered { λ _. ⌜ Gathered (now (to .entry)) (others (now (key .entry)) (rowsAt (pageOf z (now (s .entry)) p))) (now (to .exit)) ⌝ }
     ensures wrote { λ _. ⌜ now (s .exit) ≡ setPage z (now (s .entry)) p (replicate (sizeOf z) 0) ⌝ }
+    ensures counted { λ _. ⌜ BucketsCounted (contents z (now (s .exit))) (now (tallies .exit)) ⌝ }
     ensures lowest { λ r. ⌜ r ≡ min low p ⌝ }
 {
     let size = 8 + z.capacity;
     let start = p * size;
     let end = start + size;
+    counts::count_down(tallies, 1 + s[start + 1] as usize);
     add_rows(to, &s[start..end], key);
     page::clear_page(&mut s[start..end]);
     if low < p {
@@ -95,11 +106,21 @@ fn take_page(to: &mut [u8], s: &mut [u8], z: Shape, p: usize, key: &[u8], low: u
     p
 }
 
-// The rows of another code on the pages of the prefix of j bits of x go to another page, and these pages are cleared: entry after entry of the prefix's run, so that no other page is looked at. The lowest-numbered of them.
-fn gather(to: &mut [u8], s: &mut [u8], z: Shape, n: usize, x: u32, j: u32, key: &[u8]) -> usize
-    requires { ⌜ Joinable z fnv (now s) n x j (now key) × Taking (now to) (othersIn fnv j (top j x) (now key) (contents z (now s))) ⌝ }
+// The rows of another code on the pages of the prefix of j bits of x go to another page, and these pages are cleared and no longer counted: entry after entry of the prefix's run, so that no other page is looked at. The lowest-numbered of them.
+fn gather(
+    to: &mut [u8],
+    s: &mut [u8],
+    z: Shape,
+    n: usize,
+    x: u32,
+    j: u32,
+    key: &[u8],
+    tallies: &mut [u32],
+) -> usize
+    requires { ⌜ JoinCounted z fnv (now s) n x j (now key) (now tallies) × Taking (now to) (othersIn fnv j (top j x) (now key) (contents z (now s))) ⌝ }
     ensures gathered { λ _. ⌜ Gathered (now (to .entry)) (othersIn fnv j (top j x) (now (key .entry)) (contents z (now (s .entry)))) (now (to .exit)) ⌝ }
     ensures cleared { λ _. ⌜ Emptied z fnv (now (s .entry)) n j (top j x) (now (s .exit)) ⌝ }
+    ensures counted { λ _. ⌜ BucketsCounted (contents z (now (s .exit))) (now (tallies .exit)) ⌝ }
     ensures lowest { λ r. ⌜ r ≡ 2 + find (within fnv j (top j x)) (contents z (now (s .entry))) ⌝ }
 {
     let d = words::get32(s, 16) as u32;
@@ -111,40 +132,60 @@ fn gather(to: &mut [u8], s: &mut [u8], z: Shape, n: usize, x: u32, j: u32, key: 
         let p = words::get32(s, 8 + z.capacity + 4 * i);
         i += 1;
         if is_used(s, z, p) {
-            low = take_page(to, s, z, p, key, low);
+            low = take_page(to, s, z, p, key, low, tallies);
         }
     }
     low
 }
 
 // The rows of the prefix of another code go packed into the lowest-numbered of its pages, and the others are cleared; they are gathered on a page lent. The page that they are on.
-fn join(s: &mut [u8], z: Shape, n: usize, x: u32, j: u32, key: &[u8], scratch: &mut [u8]) -> usize
-    requires { ⌜ (length (now scratch) ≡ sizeOf z) × Joinable z fnv (now s) n x j (now key) ⌝ }
-    ensures { λ r. ⌜ Rejoined z fnv (now (s .entry)) n j (top j x) (now (key .entry)) r (now (s .exit)) ⌝ }
+fn join(
+    s: &mut [u8],
+    z: Shape,
+    n: usize,
+    x: u32,
+    j: u32,
+    key: &[u8],
+    tallies: &mut [u32],
+    scratch: &mut [u8],
+) -> usize
+    requires { ⌜ (length (now scratch) ≡ sizeOf z) × JoinCounted z fnv (now s) n x j (now key) (now tallies) ⌝ }
+    ensures joined { λ r. ⌜ Rejoined z fnv (now (s .entry)) n j (top j x) (now (key .entry)) r (now (s .exit)) ⌝ }
+    ensures counted { λ r. ⌜ BucketsCounted (contents z (now (s .exit))) (now (tallies .exit)) ⌝ }
 {
     page::new_page(scratch, j as u8);
-    let low = gather(scratch, s, z, n, x, j, key);
+    let low = gather(scratch, s, z, n, x, j, key, tallies);
     let size = 8 + z.capacity;
     let start = low * size;
     let end = start + size;
     page::pack_into(&mut s[start..end], scratch);
+    counts::count_up(tallies, 1 + j as usize);
     low
 }
 
 // The same with a page lent, by the size, so that a small one pays for no more.
-pub fn join_lent(s: &mut [u8], z: Shape, n: usize, x: u32, j: u32, key: &[u8]) -> usize
-    requires { ⌜ Joinable z fnv (now s) n x j (now key) ⌝ }
-    ensures { λ r. ⌜ Rejoined z fnv (now (s .entry)) n j (top j x) (now (key .entry)) r (now (s .exit)) ⌝ }
+pub fn join_lent(
+    s: &mut [u8],
+    z: Shape,
+    n: usize,
+    x: u32,
+    j: u32,
+    key: &[u8],
+    tallies: &mut [u32],
+) -> usize
+    requires { ⌜ JoinCounted z fnv (now s) n x j (now key) (now tallies) ⌝ }
+    ensures joined { λ r. ⌜ Rejoined z fnv (now (s .entry)) n j (top j x) (now (key .entry)) r (now (s .exit)) ⌝ }
+    ensures counted { λ r. ⌜ BucketsCounted (contents z (now (s .exit))) (now (tallies .exit)) ⌝ }
 {
     let size = 8 + z.capacity;
     if size <= 1024 {
         let mut scratch = [0u8; 1024];
-        return join(s, z, n, x, j, key, &mut scratch[0..size]);
+        return join(s, z, n, x, j, key, tallies, &mut scratch[0..size]);
     }
     if size <= 4096 {
         let mut scratch = [0u8; 4096];
-        return join(s, z, n, x, j, key, &mut scratch[0..size]);
+        return join(s, z, n, x, j, key, tallies, &mut scratch[0..size]);
     }
     let mut scratch = [0u8; 16384];
-    join(s, z, n, x, j, key, &mut scratch[0..size])
+    join(s, z, n, x, j, key, tallies, &mut scratch[0..size])
 }

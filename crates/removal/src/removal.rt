@@ -32,18 +32,25 @@ fn take_out(s: &mut [u8], z: Shape, p: usize, i: usize, key: &[u8], x: u32)
     let j = climb(s, z, x, k, 12 + key.len());
     let d = words::get32(s, 16);
     if j < k {
-        let low = join_lent(s, z, n, x, j, key);
+        let rows = counts::rows_counted(s);
+        let mut tallies = [0u32; 14];
+        counts::read_counts(s, &mut tallies);
+        let low = join_lent(s, z, n, x, j, key, &mut tallies);
         name_prefix(s, z, x, j, d as u32, low);
-        settle_depth(s, z, n, d);
+        counts::write_counted(s, &mut tallies, rows - 1);
+        settle_depth(s, z, n, d, d);
         return;
     }
     if words::get16(&s[a..e], 2) == 1 {
         page::clear_page(&mut s[a..e]);
         name_prefix(s, z, x, k, d as u32, 0);
-        settle_depth(s, z, n, d);
+        counts::lower(s, 0);
+        counts::lower(s, 1 + k as usize);
+        settle_depth(s, z, n, d, d);
         return;
     }
     page::remove_slot(&mut s[a..e], i);
+    counts::lower(s, 0);
 }
 
 // Remove of a code as it is stored, on an accepted store.

@@ -1,4 +1,5 @@
 pub mod Paging
+pub mod Counts
 pub mod Accepted
 pub mod Showing
 pub mod Put

@@ -15,6 +15,7 @@ use Rattle.partition.specs.declared.Shape.{Shape}
 use Rattle.partition.specs.Partition.{rowsOf, needs}
 use Rattle.partition.specs.Sizes.{sizeNumber}
 use Rattle.store.specs.Pages.{S1024, size, pages, page, dirDepth, entryAt, contents, rowsHeld, deepestIn}
+use Rattle.store.specs.Counts.{Counts}
 
 -- a multiple of the page size, 3 to 258 pages
 pub record GoodLength (S : Shape) (s : List ℕ) : Type 0 where
@@ -22,15 +23,19 @@ pub record GoodLength (S : Shape) (s : List ℕ) : Type 0 where
   pub least : 3 ≤ pages S s
   pub most : pages S s ≤ S .entries + 2
 
--- Page 0: number of pages, the directory's offset, the entry count, the first bucket's offset, the depth, the size. The rest is zero.
-pub record Page0 (S : Shape) (s : List ℕ) : Type 0 where
+-- Page 0: number of pages, the directory's offset, the entry count, the first bucket's offset, the depth, the size. It is zero from an offset on.
+pub record Page0From (zeros : ℕ) (S : Shape) (s : List ℕ) : Type 0 where
   pub number : le32 s 0 ≡ pages S s
   pub directory : le32 s 4 ≡ size S
   pub entries : le32 s 8 ≡ S .entries
   pub first : le32 s 12 ≡ 2 * size S
   pub depth : dirDepth s ≤ S .deepest
   pub size-number : le32 s 20 ≡ sizeNumber S
-  pub rest : (k : ℕ) → 24 ≤ k → k < size S → byte s k ≡ 0
+  pub rest : (k : ℕ) → zeros ≤ k → k < size S → byte s k ≡ 0
+
+-- from 80 on, behind the counts
+abbrev pub Page0 : Shape → List ℕ → Type 0
+Page0 S s = Page0From 80 S s
 
 -- page 0 as document 01 has it, before there were sizes
 pub record Page0Before (s : List ℕ) : Type 0 where
@@ -84,13 +89,21 @@ rule p P = record { at = p; holds = P }
 abbrev pub upward : ℕ → (ℕ → Type 0) → List Rule
 upward n P = tab (λ i. rule (i + 2) (P (i + 2))) (n - 2)
 
--- The check goes in this order: page 0; page 1; pages 2 upward; again upward; last, page 0.
-unfoldable pub rules : Shape → (List ℕ → ℕ) → List ℕ → List Rule
-rules S h s =
-    rule 0 (Page0 S s) ∷ (rule 1 (Page1 S s) ∷ (
+-- The check goes in this order: page 0; page 1; pages 2 upward; again upward; page 0 for its depth; then what comes last.
+abbrev pub inTurn : Shape → (List ℕ → ℕ) → List ℕ → Type 0 → List Rule → List Rule
+inTurn S h s P0 last =
+    rule 0 P0 ∷ (rule 1 (Page1 S s) ∷ (
     upward (pages S s) (Stands S h s) ++ (
     upward (pages S s) (Parted S h s) ++ (
-    rule 0 (Deepest S s) ∷ []))))
+    rule 0 (Deepest S s) ∷ last))))
+
+-- the old rules, before there were counts: page 0 is zero from 24 on
+unfoldable pub rulesBefore : Shape → (List ℕ → ℕ) → List ℕ → List Rule
+rulesBefore S h s = inTurn S h s (Page0From 24 S s) []
+
+-- the counts are true: page 0, after all other rules
+unfoldable pub rules : Shape → (List ℕ → ℕ) → List ℕ → List Rule
+rules S h s = inTurn S h s (Page0 S s) (rule 0 (Counts S s) ∷ [])
 
 abbrev pub Every : List Rule → Type 0
 Every [] = Unit {0}
@@ -109,3 +122,13 @@ pub record Accepted (S : Shape) (h : List ℕ → ℕ) (s : List ℕ) : Type 0 w
 unfoldable pub Broken : Shape → (List ℕ → ℕ) → List ℕ → ℕ → Type 0
 unfolding rules
 Broken S h s p = Stops (rules S h s) p
+
+-- a store that meets the old rules
+pub record AcceptedBefore (S : Shape) (h : List ℕ → ℕ) (s : List ℕ) : Type 0 where
+  pub long : GoodLength S s
+  pub keeps : Every (rulesBefore S h s)
+
+-- refusal 2 by the old rules
+unfoldable pub BrokenBefore : Shape → (List ℕ → ℕ) → List ℕ → ℕ → Type 0
+unfolding rulesBefore
+BrokenBefore S h s p = Stops (rulesBefore S h s) p

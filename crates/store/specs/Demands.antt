@@ -20,7 +20,8 @@ use Rattle.words.specs.Codes.{order}
 use Rattle.words.specs.Folds.{fold, Folded}
 use Rattle.partition.specs.Listing.{by, without, inOrder, listing, placeOf, Once}
 use Rattle.store.specs.Pages.{S1024, size, pages, page, Page, free, bucket, read, asRow, rowsHeld, dirDepth, entryAt}
-use Rattle.store.specs.Accepted.{Zero, Bucket, Page0, Page0Before, Page1, Stands, Parted, Deepest, Accepted}
+use Rattle.store.specs.Accepted.{Zero, Bucket, Page0From, Page0, Page0Before, Page1, Stands, Parted, Deepest, Accepted}
+use Rattle.store.specs.Counts.{Counts}
 use Rattle.store.specs.Moves.{pick}
 use Rattle.page.specs.Places.{place, stored, Negative, InRange}
 use Rattle.store.specs.Tables.{Out, refused, refusedAt, formatted, accepted, new, replaced, found, counted, row, Refusal6, Refusal7, formatTable, checkTable, countTable, lookupTable, putTable, putBefore, removeTable, rowTable, inspectTable}
@@ -75,14 +76,15 @@ WholePages S s = (n : ℕ) × (length s ≡ n * size S) × (3 ≤ n) × (n ≤ S
 abbrev pub Below : ℕ → (ℕ → Type 0) → Type 0
 Below n Keeps = (q : ℕ) → 2 ≤ q → q < n → Keeps q
 
--- The check stops at page p, the first that breaks a rule: page 0; page 1; pages 2 upward; again upward; last, page 0 for its depth.
+-- The check stops at page p, the first that breaks a rule: page 0; page 1; pages 2 upward; again upward; page 0 for its depth; last, page 0 for its counts.
 pub data StopsAt (S : Shape) (h : List ℕ → ℕ) (s : List ℕ) : ℕ → Type 0 where
   page-0 : (Page0 S s → ⊥) → StopsAt S h s 0
   page-1 : Page0 S s → (Page1 S s → ⊥) → StopsAt S h s 1
   first-pass : Page0 S s → Page1 S s → (p : ℕ) → 2 ≤ p → p < pages S s → Below p (Stands S h s) → (Stands S h s p → ⊥) → StopsAt S h s p
   second-pass : Page0 S s → Page1 S s → Below (pages S s) (Stands S h s)
       → (p : ℕ) → 2 ≤ p → p < pages S s → Below p (Parted S h s) → (Parted S h s p → ⊥) → StopsAt S h s p
-  last : Page0 S s → Page1 S s → Below (pages S s) (Stands S h s) → Below (pages S s) (Parted S h s) → (Deepest S s → ⊥) → StopsAt S h s 0
+  depth-0 : Page0 S s → Page1 S s → Below (pages S s) (Stands S h s) → Below (pages S s) (Parted S h s) → (Deepest S s → ⊥) → StopsAt S h s 0
+  counts : Page0 S s → Page1 S s → Below (pages S s) (Stands S h s) → Below (pages S s) (Parted S h s) → Deepest S s → (Counts S s → ⊥) → StopsAt S h s 0
 
 -- inspection carries page number 0, for a page that is neither free nor a bucket of a depth that there is
 abbrev pub NoPage : Shape → (List ℕ → ℕ) → List ℕ → ℕ → Type 0
@@ -344,9 +346,9 @@ Demand3 = (S : Shape) (h : List ℕ → ℕ) → Sized S → Hash h → AfreshAl
 abbrev pub SizeIsSaid : Type 0
 SizeIsSaid = (k : ℕ) → k < 3 → (h : List ℕ → ℕ) (s : List ℕ) → Accepted (shapeAt k) h s → shapeOf s ≡ shapeAt k
 
--- at 1,024 the rule of page 0 is the one before there were sizes
+-- at 1,024 the old rule of page 0 is the one before there were sizes
 abbrev pub SmallAsBefore : Type 0
-SmallAsBefore = (s : List ℕ) → (Page0 S1024 s ↔ Page0Before s)
+SmallAsBefore = (s : List ℕ) → (Page0From 24 S1024 s ↔ Page0Before s)
 
 pub sized-1024 : Sized S1024
 sized-1024 = record { whole = refl; deep = refl; least = omega arith; most = omega arith }

@@ -1,4 +1,5 @@
 pub mod Pages
+pub mod Counts
 pub mod Accepted
 pub mod Moves
 pub mod Tables

@@ -15,7 +15,7 @@ use Rattle.partition.specs.declared.Shape.{Shape}
 use Rattle.store.specs.Demands.{Sized}
 use Rattle.store.specs.Pages.{size, pages, dirDepth, entryAt}
 use Rattle.hash.specs.Fnv.{fnv}
-use Rattle.store.specs.Accepted.{GoodLength, Page0, Page1, Stands}
+use Rattle.store.specs.Accepted.{GoodLength, Page0From, Page1, Stands}
 use Rattle.store_check.specs.Directory.{Entries, EntriesTo, AllAre, AllBelow, InRange, Ranges}
 use Rattle.store_check.specs.Begun.{Begun, AllStand}
 
@@ -97,7 +97,7 @@ module _ (S : Shape) (s dir : List ℕ) (n m : ℕ) (decoded : Entries S s dir) 
   }
 
 -- what the passes over the pages start from
-module _ (S : Shape) (sized : Sized S) (s : List ℕ) (good : GoodLength S s) (zeroth : Page0 S s) where
+module _ (zeros : ℕ) (S : Shape) (sized : Sized S) (s : List ℕ) (good : GoodLength S s) (zeroth : Page0From zeros S s) where
   pub whole-long : length s ≡ pages S s * size S
   whole-long = omega (arith, div-add-mod' (length s) (size S), good .whole)
 

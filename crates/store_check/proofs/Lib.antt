@@ -10,3 +10,4 @@ pub mod Standing
 pub mod Skips
 pub mod Parting
 pub mod Said
+pub mod Counting

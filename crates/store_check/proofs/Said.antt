@@ -13,7 +13,7 @@ use Rattle.partition.specs.Sizes.{size, Sized, S4096, S16384, either, shapeFor,
 use Rattle.partition.proofs.Sizes.{sized-for, sized-of}
 use Rattle.store.specs.Accepted.{GoodLength}
 use Rattle.store.proofs.Paging.PageTies.{zeros}
-use Rattle.store_check.specs.Begun.{Tables, Checkable}
+use Rattle.store_check.specs.Begun.{Judgeable, Tables, Checkable}
 
 pub said-sized : (s : List ℕ) (z : Shape) → z ≡ shapeOf s → Sized z
 said-sized s z e = subst Sized (sym e) (sized-of s)
@@ -59,6 +59,6 @@ blank S = record {
 }
 
 -- they are what the check of a store of that size starts with
-pub fresh : (S z : Shape) (s : List ℕ) → Sized S → size S % 1024 ≡ 0 → (z ≡ S) × GoodLength z s
-    → Checkable z s (replicate (S .entries) 0) (replicate (S .entries + 2) 0) (replicate (S .entries + 2) 0) (replicate (S .entries + 1) 0) (replicate (size S) 0)
-fresh S z s d b p = record { sized = subst Sized (sym (p .0)) d; blocks = subst (λ x. size x % 1024 ≡ 0) (sym (p .0)) b; long = p .1; tables = subst (Blank S) (sym (p .0)) (blank S) }
+pub fresh : (S z : Shape) (s : List ℕ) (k : ℕ) → Sized S → size S % 1024 ≡ 0 → (z ≡ S) × Judgeable z s k
+    → Checkable z s k (replicate (S .entries) 0) (replicate (S .entries + 2) 0) (replicate (S .entries + 2) 0) (replicate (S .entries + 1) 0) (replicate (size S) 0)
+fresh S z s k d b p = record { sized = subst Sized (sym (p .0)) d; blocks = subst (λ x. size x % 1024 ≡ 0) (sym (p .0)) b; judgeable = p .1; tables = subst (Blank S) (sym (p .0)) (blank S) }

@@ -63,6 +63,12 @@ pub record AllStand (S : Shape) (s : List ℕ) (n : ℕ) : Type 0 where
   pub deep : dirDepth s ≤ S .deepest
   pub each : (p : ℕ) → 2 ≤ p → p < n → Stands S fnv s p
 
+-- a store of whole pages, and an offset in page 0 behind the size's number
+pub record Judgeable (S : Shape) (s : List ℕ) (zeros : ℕ) : Type 0 where
+  pub long : GoodLength S s
+  pub behind : 24 ≤ zeros
+  pub within : zeros ≤ 80
+
 -- the check's tables: as long as the size asks, and zero where the passes add to them
 pub record Tables (S : Shape) (dir counts hashes sums tab : List ℕ) : Type 0 where
   pub dir-long : length dir ≡ S .entries
@@ -76,9 +82,9 @@ pub record Tables (S : Shape) (dir counts hashes sums tab : List ℕ) : Type 0 w
   pub no-sums : Zero sums
   pub no-tab : Zero tab
 
--- what the passes start from: a length that is right for a page size of whole blocks of 1,024 bytes, and tables for it
-pub record Checkable (S : Shape) (s dir counts hashes sums tab : List ℕ) : Type 0 where
+-- what the passes start from: a store of whole pages of a size of whole blocks of 1,024 bytes, where page 0's zeros begin, and tables for it
+pub record Checkable (S : Shape) (s : List ℕ) (zeros : ℕ) (dir counts hashes sums tab : List ℕ) : Type 0 where
   pub sized : Sized S
   pub blocks : size S % 1024 ≡ 0
-  pub long : GoodLength S s
+  pub judgeable : Judgeable S s zeros
   pub tables : Tables S dir counts hashes sums tab

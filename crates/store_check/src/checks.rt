@@ -1,11 +1,13 @@
 // The check's passes, in document order.
 ghost use mathlib.Core.Path.{_≡_};
+ghost use Rattle.ground.specs.Says.{Says};
 ghost use Rattle.hash.specs.Fnv.{fnv};
 ghost use Rattle.partition.specs.Partition.{S1024};
 ghost use Rattle.partition.specs.Sizes.{S4096, S16384, shapeOf};
 ghost use Rattle.store.specs.Accepted.{GoodLength};
-ghost use Rattle.store_check.specs.First.{Judged};
-ghost use Rattle.store_check.specs.Begun.{Checkable};
+ghost use Rattle.store.specs.Counts.{Counts};
+ghost use Rattle.store_check.specs.First.{Judged, JudgedFrom};
+ghost use Rattle.store_check.specs.Begun.{AllStand, Checkable, Judgeable};
 use super::entry_runs::page1_ok;
 use super::entry_runs::tally;
 use super::head::page0_ok;
@@ -13,21 +15,22 @@ use super::pages::first_unsound;
 use super::parted::first_joinable;
 use partition::Shape;
 
-// The page at which the check stops, or the number of pages.
+// The page at which the check stops by the rules before there were counts, page 0 zero from an offset on, or the number of pages.
 fn judge(
     s: &[u8],
     z: Shape,
+    zeros: usize,
     dir: &mut [u32],
     counts: &mut [u32],
     hashes: &mut [u32],
     sums: &mut [u32],
     tab: &mut [u8],
 ) -> usize
-    requires { ⌜ Checkable z (now s) (now dir) (now counts) (now hashes) (now sums) (now tab) ⌝ }
-    ensures { λ r. ⌜ Judged z fnv (now (s .entry)) r ⌝ }
+    requires { ⌜ Checkable z (now s) zeros (now dir) (now counts) (now hashes) (now sums) (now tab) ⌝ }
+    ensures { λ r. ⌜ JudgedFrom zeros z fnv (now (s .entry)) r ⌝ }
 {
     let n = s.len() / (8 + z.capacity);
-    if !page0_ok(s, z, n) {
+    if !page0_ok(s, z, n, zeros) {
         return 0;
     }
     let d = words::get32(s, 16) as u32;
@@ -55,9 +58,9 @@ fn judge(
 }
 
 // judge with tables for pages of 1,024 bytes.
-fn judge_1024(s: &[u8], z: Shape) -> usize
-    requires { ⌜ (z ≡ S1024) × GoodLength z (now s) ⌝ }
-    ensures { λ r. ⌜ Judged z fnv (now (s .entry)) r ⌝ }
+fn judge_1024(s: &[u8], z: Shape, zeros: usize) -> usize
+    requires { ⌜ (z ≡ S1024) × Judgeable z (now s) zeros ⌝ }
+    ensures { λ r. ⌜ JudgedFrom zeros z fnv (now (s .entry)) r ⌝ }
 {
     let mut dir = [0u32; 256];
     let mut counts = [0u32; 258];
@@ -67,6 +70,7 @@ fn judge_1024(s: &[u8], z: Shape) -> usize
     judge(
         s,
         z,
+        zeros,
         &mut dir,
         &mut counts,
         &mut hashes,
@@ -76,9 +80,9 @@ fn judge_1024(s: &[u8], z: Shape) -> usize
 }
 
 // judge with tables for pages of 4,096 bytes.
-fn judge_4096(s: &[u8], z: Shape) -> usize
-    requires { ⌜ (z ≡ S4096) × GoodLength z (now s) ⌝ }
-    ensures { λ r. ⌜ Judged z fnv (now (s .entry)) r ⌝ }
+fn judge_4096(s: &[u8], z: Shape, zeros: usize) -> usize
+    requires { ⌜ (z ≡ S4096) × Judgeable z (now s) zeros ⌝ }
+    ensures { λ r. ⌜ JudgedFrom zeros z fnv (now (s .entry)) r ⌝ }
 {
     let mut dir = [0u32; 1024];
     let mut counts = [0u32; 1026];
@@ -88,6 +92,7 @@ fn judge_4096(s: &[u8], z: Shape) -> usize
     judge(
         s,
         z,
+        zeros,
         &mut dir,
         &mut counts,
         &mut hashes,
@@ -97,9 +102,9 @@ fn judge_4096(s: &[u8], z: Shape) -> usize
 }
 
 // judge with tables for pages of 16,384 bytes.
-fn judge_16384(s: &[u8], z: Shape) -> usize
-    requires { ⌜ (z ≡ S16384) × GoodLength z (now s) ⌝ }
-    ensures { λ r. ⌜ Judged z fnv (now (s .entry)) r ⌝ }
+fn judge_16384(s: &[u8], z: Shape, zeros: usize) -> usize
+    requires { ⌜ (z ≡ S16384) × Judgeable z (now s) zeros ⌝ }
+    ensures { λ r. ⌜ JudgedFrom zeros z fnv (now (s .entry)) r ⌝ }
 {
     let mut dir = [0u32; 4096];
     let mut counts = [0u32; 4098];
@@ -109,6 +114,7 @@ fn judge_16384(s: &[u8], z: Shape) -> usize
     judge(
         s,
         z,
+        zeros,
         &mut dir,
         &mut counts,
         &mut hashes,
@@ -117,16 +123,50 @@ fn judge_16384(s: &[u8], z: Shape) -> usize
     )
 }
 
-// The page at which the check of a store stops, or its number of pages. A small store clears no table of a larger size.
+// The same, with tables of the store's own size: a small store clears no table of a larger one.
+fn judge_sized(s: &[u8], z: Shape, zeros: usize) -> usize
+    requires { ⌜ (z ≡ shapeOf (now s)) × Judgeable z (now s) zeros ⌝ }
+    ensures { λ r. ⌜ JudgedFrom zeros z fnv (now (s .entry)) r ⌝ }
+{
+    if z.deepest == 8 {
+        return judge_1024(s, z, zeros);
+    }
+    if z.deepest == 10 {
+        return judge_4096(s, z, zeros);
+    }
+    judge_16384(s, z, zeros)
+}
+
+// Whether the counts in page 0 are those of the n pages.
+fn counts_ok(s: &[u8], z: Shape, n: usize) -> bool
+    requires { ⌜ AllStand z (now s) n ⌝ }
+    ensures { λ r. ⌜ Says r (Counts z (now (s .entry))) ⌝ }
+{
+    let mut tallies = [0u32; 14];
+    counts::tally(s, z, n, &mut tallies);
+    counts::are_counts(s, &tallies)
+}
+
+// The page at which the check of a store stops, or its number of pages. The counts are judged last of all.
 pub fn first_bad(s: &[u8], z: Shape) -> usize
     requires { ⌜ (z ≡ shapeOf (now s)) × GoodLength z (now s) ⌝ }
     ensures { λ r. ⌜ Judged z fnv (now (s .entry)) r ⌝ }
 {
-    if z.deepest == 8 {
-        return judge_1024(s, z);
+    let n = s.len() / (8 + z.capacity);
+    let bad = judge_sized(s, z, 80);
+    if bad < n {
+        return bad;
     }
-    if z.deepest == 10 {
-        return judge_4096(s, z);
+    if !counts_ok(s, z, n) {
+        return 0;
     }
-    judge_16384(s, z)
+    n
+}
+
+// The page at which a store breaks the old rules, or its number of pages.
+pub fn first_bad_before(s: &[u8], z: Shape) -> usize
+    requires { ⌜ (z ≡ shapeOf (now s)) × GoodLength z (now s) ⌝ }
+    ensures { λ r. ⌜ JudgedFrom 24 z fnv (now (s .entry)) r ⌝ }
+{
+    judge_sized(s, z, 24)
 }

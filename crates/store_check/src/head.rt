@@ -1,12 +1,8 @@
 // A store's page size and length, and its page 0.
-ghost use mathlib.Core.Path.{_≡_};
-ghost use Prim.Native.Nat.{_≤_};
-ghost use lib.ListN.{length};
 ghost use Rattle.ground.specs.Says.{Says};
-ghost use Rattle.store.specs.Pages.{size, pages};
-ghost use Rattle.store.specs.Accepted.{GoodLength, Page0};
+ghost use Rattle.store.specs.Accepted.{GoodLength, Page0From};
 ghost use Rattle.store.specs.Demands.{Sized};
-ghost use Rattle.store_check.specs.Said.{SaidShape};
+ghost use Rattle.store_check.specs.Said.{SaidShape, HeadAsked};
 use super::Length;
 use partition::Shape;
 
@@ -43,9 +39,10 @@ pub fn said_shape(s: &[u8]) -> Length
     Length::Of(z)
 }
 
-pub fn page0_ok(s: &[u8], z: Shape, n: usize) -> bool
-    requires { ⌜ Sized z × (n ≡ pages z (now s)) × (size z ≤ length (now s)) ⌝ }
-    ensures { λ r. ⌜ Says r (Page0 z (now (s .entry))) ⌝ }
+// Whether page 0 keeps its rule, zero from an offset on.
+pub fn page0_ok(s: &[u8], z: Shape, n: usize, zeros: usize) -> bool
+    requires { ⌜ HeadAsked z (now s) n zeros ⌝ }
+    ensures { λ r. ⌜ Says r (Page0From zeros z (now (s .entry))) ⌝ }
 {
     let size = 8 + z.capacity;
     if words::get32(s, 0) != n {
@@ -66,5 +63,5 @@ pub fn page0_ok(s: &[u8], z: Shape, n: usize) -> bool
     if words::get32(s, 20) != partition::size_number(z) {
         return false;
     }
-    words::all_zero(&s[24..size])
+    words::all_zero(&s[zeros..size])
 }

@@ -6,6 +6,7 @@ mod pages;
 mod parted;
 
 pub use checks::first_bad;
+pub use checks::first_bad_before;
 pub use head::said_shape;
 use partition::Shape;
 

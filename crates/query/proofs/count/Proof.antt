@@ -3,16 +3,15 @@ use borrow.Author.Needs.{needs}
 use denote.Ref.{now}
 use mathlib.Core.List.{List}
 use mathlib.Core.Logic.{inl, inr}
-use mathlib.Core.Path.{_≡_, refl, ap, subst}
-use native.Mathlib.Nat.{div-add-mod'}
+use mathlib.Core.Path.{_≡_, refl, ap, subst, _∙_}
 use native.Mathlib.Omega.{arith}
-use lib.ListN.{length}
 use Prim.Native.Nat.{ℕ}
 use Rattle.ground.specs.Ladder.{Answers}
 use Rattle.hash.specs.Fnv.{fnv}
 use Rattle.partition.specs.declared.Shape.{Shape}
-use Rattle.partition.specs.Sizes.{size, shapeOf}
-use Rattle.store.proofs.Accepted.Rules.{accepted-whole}
+use Rattle.partition.specs.Sizes.{shapeOf}
+use Rattle.store.proofs.Accepted.Rules.{accepted-whole, opened}
+use Rattle.store.proofs.Accepted.Unique.{within}
 use Rattle.store.specs.Tables.{countTable, counted, refusedAt}
 use Rattle.store.specs.Accepted.{GoodLength}
 use Rattle.store.specs.Demands.{Sized}
@@ -66,11 +65,10 @@ returns-2 c =
     subst (λ S. Answers (countTable S fnv (store k)) (refusedAt 2 (f .first-bad .result))) (said k .0)
     (inr ((λ _ n. n (said k .1)), inl (f .first-bad .result, (f .first-bad .ensures .bad (c .if1 .taken), refl))))
 
-count-rows-requires : tie.Need-count-rows-requires
-count-rows-requires c κs =
+rows-counted-requires : tie.Need-rows-counted-requires
+rows-counted-requires c κs =
     let k = c .before .before in
-    let g = said k .1 in
-    (omega (arith, div-add-mod' (length (store k)) (size (z k)), g .whole), omega (arith, g .least), omega (arith, g .most, sized k .whole, sized k .most))
+    omega (arith, within (z k) (store k) 0 (omega (arith, said k .1 .least)), sized k .least)
 
 returns-3 : tie.Need-returns-3
 unfolding countTable
@@ -78,8 +76,8 @@ returns-3 c =
     let f = c .before .before in
     let k = f .before in
     let a = f .first-bad .ensures .sound (c .before .if1 .left) in
-    subst (λ S. Answers (countTable S fnv (store k)) (counted (c .count-rows .result))) (said k .0)
-    (inr ((λ _ n. n (said k .1)), inr (accepted-whole _ fnv _ a, (a, ap counted (c .count-rows .ensures)))))
+    subst (λ S. Answers (countTable S fnv (store k)) (counted (c .rows-counted .result))) (said k .0)
+    (inr ((λ _ n. n (said k .1)), inr (accepted-whole _ fnv _ a, (a, ap counted (c .rows-counted .ensures ∙ opened _ fnv _ a .counts .rows)))))
 
 pub count-spec : {M : Type 1} → statement M
 count-spec =
@@ -93,5 +91,5 @@ count-spec =
     div-n
     first-bad-requires
     returns-2
-    count-rows-requires
+    rows-counted-requires
     returns-3)

@@ -2,7 +2,7 @@
 use mathlib.Core.Path.{_≡_, refl, sym, ap, subst, subst₂, _∙_}
 use mathlib.Core.List.{List, List·Memᴰ}
 use mathlib.Core.Logic.{_⊎_, inl, inr, _↔_}
-use Prim.Native.Nat.{ℕ, _+_, _-_, _*_, _/_, _^_, _≤_, _<_}
+use Prim.Native.Nat.{ℕ, _+_, _-_, _*_, _/_, _%_, _^_, _≤_, _<_}
 use native.Mathlib.Omega.{arith}
 use native.Mathlib.Nat.{le-trans, mul-le-mul-right}
 use lib.ListN.{length, getD}
@@ -10,6 +10,7 @@ use Rattle.ground.specs.Lists.{byte, tab}
 use Rattle.ground.proofs.Parts.{part-same}
 use Rattle.ground.proofs.Tables.{tab-same}
 use Rattle.words.specs.Le.{le32}
+use Rattle.words.specs.Moves.{Frame}
 use Rattle.words.proofs.Bytes.{le32-same}
 use Rattle.page.specs.Page.{Record, BucketPage, depth, count, code, rows, rowAt}
 use Rattle.partition.specs.Bits.{top}
@@ -20,6 +21,7 @@ use Rattle.partition.proofs.Bits.{top-step}
 use Rattle.partition.proofs.Laws.{load-reordered}
 use Rattle.store.specs.Pages.{size, pages, page, dirDepth, entryAt, Page, free, bucket, read, contents, asRow, rowsIn, rowsHeld, deepestIn}
 use Rattle.store.specs.Accepted.{GoodLength, Zero, Calls, Stands, unused, used, Parted, Accepted}
+use Rattle.store.specs.Counts.{Counts}
 use Rattle.store.specs.Tables.{Becomes}
 use Rattle.store.specs.Demands.{Sized, Hash}
 use Rattle.store.proofs.Accepted.Rules.{Opened, opened, closed}
@@ -38,7 +40,7 @@ pub record Head (S : Shape) (t : List ℕ) : Type 0 where
   pub entries : le32 t 8 ≡ S .entries
   pub first : le32 t 12 ≡ 2 * size S
   pub size-number : le32 t 20 ≡ sizeNumber S
-  pub rest : (k : ℕ) → 24 ≤ k → k < size S → byte t k ≡ 0
+  pub rest : (k : ℕ) → 80 ≤ k → k < size S → byte t k ≡ 0
 
 -- a page that is free or a bucket page, its hashes left aside
 abbrev pub Whole : List ℕ → Type 0
@@ -53,19 +55,24 @@ pub record Laid (S : Shape) (h : List ℕ → ℕ) (t : List ℕ) (gs : List Pag
   pub holds : contents S t ≡ gs
   pub entry : (e : ℕ) → e < S .entries → Entry S h t gs (dirDepth t) (pages S t - 2) e
 
--- page 0 stays so where the bytes around its depth stay
-pub head-kept : (S : Shape) → Sized S → (s t : List ℕ) → length t ≡ length s → ((k : ℕ) → k < 16 → byte t k ≡ byte s k) → ((k : ℕ) → 20 ≤ k → k < size S → byte t k ≡ byte s k) → Head S s → Head S t
-head-kept S sized s t l a b w = record {
+-- page 0 stays so where the bytes around its depth and its counts stay
+pub head-around : (S : Shape) → Sized S → (s t : List ℕ) → length t ≡ length s → ((k : ℕ) → k < 16 → byte t k ≡ byte s k) → ((k : ℕ) → 20 ≤ k → k < 24 → byte t k ≡ byte s k) → ((k : ℕ) → 80 ≤ k → k < size S → byte t k ≡ byte s k)
+    → Head S s → Head S t
+head-around S sized s t l a b c w = record {
   number = word 0 (omega arith) ∙ w .number ∙ ap (λ n. n / size S) (sym l);
   directory = word 4 (omega arith) ∙ w .directory;
   entries = word 8 (omega arith) ∙ w .entries;
   first = word 12 (omega arith) ∙ w .first;
-  size-number = le32-same s t 20 (λ i m. b (20 + i) (omega arith) (omega (arith, sized .least))) ∙ w .size-number;
-  rest = λ k x y. b k (omega arith) y ∙ w .rest k x y;
+  size-number = le32-same s t 20 (λ i m. b (20 + i) (omega arith) (omega arith)) ∙ w .size-number;
+  rest = λ k x y. c k x y ∙ w .rest k x y;
 }
   where
     word : (k : ℕ) → k + 4 ≤ 16 → le32 t k ≡ le32 s k
     word k m = le32-same s t k (λ i b. a (k + i) (omega arith))
+
+-- and where the bytes around its depth stay
+pub head-kept : (S : Shape) → Sized S → (s t : List ℕ) → length t ≡ length s → ((k : ℕ) → k < 16 → byte t k ≡ byte s k) → ((k : ℕ) → 20 ≤ k → k < size S → byte t k ≡ byte s k) → Head S s → Head S t
+head-kept S sized s t l a b w = head-around S sized s t l a (λ k x y. b k x (omega (arith, sized .least))) (λ k x y. b k (omega arith) y) w
 
 -- pages 2 upward stay where the bytes from there on stay
 module _ (S : Shape) (s t : List ℕ) (l : length t ≡ length s) (same : (k : ℕ) → 2 * size S ≤ k → byte t k ≡ byte s k) where
@@ -84,6 +91,34 @@ module _ (S : Shape) (s t : List ℕ) (l : length t ≡ length s) (same : (k : �
 
   pub each-kept : ((p : ℕ) → 2 ≤ p → p < pages S s → Whole (page S s p)) → (p : ℕ) → 2 ≤ p → p < pages S t → Whole (page S t p)
   each-kept f p a b = subst Whole (sym (page-kept p a b)) (f p a (subst (λ n. p < n / size S) l b))
+
+-- bytes that differ in the counts only are laid out for the same pages
+module _ (S : Shape) (h : List ℕ → ℕ) (sized : Sized S) (s t : List ℕ) (gs : List Page) (F : Frame s 24 56 t) (L : Laid S h s gs) where
+  same-many : pages S t ≡ pages S s
+  same-many = ap (λ n. n / size S) (F .len)
+
+  same-depth : dirDepth t ≡ dirDepth s
+  same-depth = le32-same s t 16 (λ i m. F .below (16 + i) (omega arith))
+
+  same-entry : (e : ℕ) → entryAt S t e ≡ entryAt S s e
+  same-entry e = le32-same s t (size S + 4 * e) (λ i m. F .above (size S + 4 * e + i) (omega (arith, sized .least)))
+
+  same-above : (k : ℕ) → 2 * size S ≤ k → byte t k ≡ byte s k
+  same-above k l = F .above k (omega (arith, sized .least))
+
+  re-entry : (d n e : ℕ) → Entry S h s gs d n e → Entry S h t gs d n e
+  re-entry d n e (nothing z f) = nothing (same-entry e ∙ z) f
+  re-entry d n e (names i k qs b m x c) = names i k qs b (same-entry e ∙ m) x c
+
+  pub recounted : Laid S h t gs
+  recounted = record {
+    long = record { whole = ap (λ n. n % size S) (F .len) ∙ L .long .whole; least = subst (λ n. 3 ≤ n) (sym same-many) (L .long .least); most = subst (λ n. n ≤ S .entries + 2) (sym same-many) (L .long .most) };
+    head = head-around S sized s t (F .len) (λ k l. F .below k (omega arith)) (λ k a l. F .below k (omega arith)) (λ k a l. F .above k (omega arith)) (L .head);
+    deep = same-depth ∙ L .deep;
+    each = each-kept S s t (F .len) same-above (L .each);
+    holds = contents-kept S s t (F .len) same-above ∙ L .holds;
+    entry = λ e l. subst₂ (λ d n. Entry S h t gs d n e) (sym same-depth) (ap (λ n. n - 2) (sym same-many)) (re-entry (dirDepth s) (pages S s - 2) e (L .entry e l));
+  }
 
 module _ (S : Shape) (h : List ℕ → ℕ) (sized : Sized S) (hash : Hash h) (t : List ℕ) (rs : List Row) (gs : List Page) (L : Laid S h t gs) (w : Shows S h rs gs)
     (spelled : AllFolded rs) where
@@ -169,9 +204,9 @@ module _ (S : Shape) (h : List ℕ → ℕ) (sized : Sized S) (hash : Hash h) (t
           let r : needs (rowsOf h (rowsHeld S t) j c) ≡ needs (rowsOf h rs j c) = ap (λ l. needs (rowsOf h (rowsIn l) j c)) (L .holds) ∙ load-reordered S h (w .same) j c in
           subst (λ n. S .capacity < n) (ap (λ n. needs (rowsOf h rs j n)) v ∙ sym r) x
 
-  -- BYTES LAID OUT FOR PAGES THAT SHOW ROWS ARE AN ACCEPTED STORE
-  pub laid-accepted : Accepted S h t
-  laid-accepted = closed S h t record {
+  -- BYTES LAID OUT FOR PAGES THAT SHOW ROWS, THEIR COUNTS TRUE, ARE AN ACCEPTED STORE
+  pub laid-accepted : Counts S t → Accepted S h t
+  laid-accepted C = closed S h t record {
     long = L .long;
     page0 = record {
       number = L .head .number;
@@ -186,6 +221,7 @@ module _ (S : Shape) (h : List ℕ → ℕ) (sized : Sized S) (hash : Hash h) (t
     stands = stands;
     parted = parted;
     deepest = L .deep ∙ ap deepestIn (sym (L .holds));
+    counts = C;
   }
     where
       range : (e : ℕ) → Entry S h t gs d (pages S t - 2) e → (entryAt S t e ≡ 0) ⊎ ((2 ≤ entryAt S t e) × (entryAt S t e < pages S t))
@@ -196,8 +232,8 @@ module _ (S : Shape) (h : List ℕ → ℕ) (sized : Sized S) (hash : Hash h) (t
       beyond e (nothing z f) l = z
       beyond e (names i k qs b n x c) l = absurd (omega (arith, c .below))
 
-  pub laid-becomes : (s : List ℕ) → length t ≡ length s → ((k : ℕ) → byte t k < 256) → Becomes S h s gs t
-  laid-becomes s l b = record { byte-size = b; long = l; held = L .holds; again = laid-accepted }
+  pub laid-becomes : (s : List ℕ) → length t ≡ length s → ((k : ℕ) → byte t k < 256) → Counts S t → Becomes S h s gs t
+  laid-becomes s l b C = record { byte-size = b; long = l; held = L .holds; again = laid-accepted C }
 
 -- and an accepted store is laid out for its pages
 pub accepted-laid : (S : Shape) (h : List ℕ → ℕ) → Sized S → Hash h → (s : List ℕ) → Accepted S h s → Laid S h s (contents S s)

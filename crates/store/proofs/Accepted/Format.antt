@@ -23,6 +23,8 @@ use Rattle.words.specs.Le.{bytes}
 use Rattle.store.specs.Tables.{Out, formatted, blank, Refusal1, formatTable}
 use Rattle.store.specs.Demands.{Sized, Made, ok, format, FormatAccepted, AcceptedAgain}
 use Rattle.ground.proofs.Ladders.{each}
+use Rattle.store.specs.Counts.{bucketsAt}
+use Rattle.store.proofs.Counts.Words.{free-none}
 use Rattle.store.proofs.Accepted.Rules.{closed}
 use Rattle.store.proofs.Demands.Kept.{accepted-again}
 use Rattle.store.proofs.Accepted.Unique.{read-zero, page-long}
@@ -120,17 +122,22 @@ module _ (S : Shape) (s : List ℕ) (sized : Sized S) (good : GoodLength S s) wh
   unfolding contents
   no-depth = deep-free (λ i. read (page S t (i + 2))) (pages S t - 2) reads-free
 
+  no-buckets : (k : ℕ) → bucketsAt k (contents S t) ≡ 0
+  unfolding contents
+  no-buckets k = free-none k (λ i. read (page S t (i + 2))) (pages S t - 2) reads-free
+
   entry-zero : (i : ℕ) → entryAt S t i ≡ 0
   entry-zero i = word-zero (size S + 4 * i) (omega (arith, sized .least))
 
   pub blank-accepted : (h : List ℕ → ℕ) → Accepted S h t
   blank-accepted h = closed S h t record {
     long = long;
-    page0 = record { number = word-0 ∙ sym n-same; directory = word-4; entries = word-8; first = word-12; depth = omega (arith, word-16); size-number = word-20; rest = λ k a b. blank-zero k a };
+    page0 = record { number = word-0 ∙ sym n-same; directory = word-4; entries = word-8; first = word-12; depth = omega (arith, word-16); size-number = word-20; rest = λ k a b. blank-zero k (omega arith) };
     page1 = record { range = λ i _. inl (entry-zero i); beyond = λ i _ _. entry-zero i };
     stands = λ p a b. unused (page-zero p (omega arith) b) (λ i _ e. omega (arith, entry-zero i));
     parted = λ p a b j e. omega (arith, page-zero p (omega arith) b 1);
     deepest = word-16 ∙ sym no-depth;
+    counts = record { rows = word-zero 24 (omega arith) ∙ ap length (sym no-rows); buckets = λ k l. word-zero (28 + 4 * k) (omega arith) ∙ sym (no-buckets k) };
   }
 
 -- a length that is not refused is good

@@ -7,8 +7,9 @@ use native.Mathlib.Omega.{arith}
 use Rattle.ground.specs.Lists.{tab}
 use Rattle.partition.specs.declared.Shape.{Shape}
 use Rattle.store.specs.Pages.{pages}
-use Rattle.store.specs.Accepted.{GoodLength, Page0, Page1, Stands, Parted, Deepest, Rule, rule, rules, upward, Every, Stops, Broken, Accepted}
-use Rattle.store.specs.Demands.{Below, StopsAt, page-0, page-1, first-pass, second-pass, last}
+use Rattle.store.specs.Accepted.{GoodLength, Page0, Page1, Stands, Parted, Deepest, Rule, rule, rules, inTurn, upward, Every, Stops, Broken, Accepted}
+use Rattle.store.specs.Counts.{Counts}
+use Rattle.store.specs.Demands.{Below, StopsAt, page-0, page-1, first-pass, second-pass, depth-0, counts}
 
 -- the check stops at one page at most, and at none where every rule holds
 pub stops-one : (l : List Rule) (p q : ℕ) → Stops l p → Stops l q → p ≡ q
@@ -93,6 +94,7 @@ pub record Opened (S : Shape) (h : List ℕ → ℕ) (s : List ℕ) : Type 0 whe
   pub stands : (p : ℕ) → 2 ≤ p → p < pages S s → Stands S h s p
   pub parted : (p : ℕ) → 2 ≤ p → p < pages S s → Parted S h s p
   pub deepest : Deepest S s
+  pub counts : Counts S s
 
 pub opened : (S : Shape) (h : List ℕ → ℕ) (s : List ℕ) → Accepted S h s → Opened S h s
 unfolding rules
@@ -108,6 +110,7 @@ opened S h s a =
       stands = every-up (pages S s) (Stands S h s) (every-left up _ (e .1 .1));
       parted = every-up (pages S s) (Parted S h s) (every-left again _ second);
       deepest = every-right again _ second .0;
+      counts = every-right again _ second .1 .0;
     }
 
 every-append : (l m : List Rule) → Every l → Every m → Every (l ++ m)
@@ -131,7 +134,7 @@ closed S h s o = record {
     (
       o .page1,
       every-append (upward (pages S s) (Stands S h s)) _ (up-every (pages S s) (Stands S h s) (o .stands))
-          (every-append (upward (pages S s) (Parted S h s)) _ (up-every (pages S s) (Parted S h s) (o .parted)) (o .deepest, tt)),
+          (every-append (upward (pages S s) (Parted S h s)) _ (up-every (pages S s) (Parted S h s) (o .parted)) (o .deepest, (o .counts, tt))),
     ),
   );
 }
@@ -157,7 +160,10 @@ module _ (S : Shape) (h : List ℕ → ℕ) (s : List ℕ) where
       (λ w. first-pass z f p (w .0) (w .1) (w .2) (w .3))
       (λ w. ⊎-elim
       (λ v. second-pass z f (w .0) p (v .0) (v .1) (v .2) (v .3))
-      (λ v. ⊎-elim (λ u. at p (u .1) (last z f (w .0) (v .0) (u .0))) (λ u. absurd (u .1)) (v .1))
+      (λ v. ⊎-elim
+      (λ u. at p (u .1) (depth-0 z f (w .0) (v .0) (u .0)))
+      (λ u. ⊎-elim (λ x. at p (x .1) (counts z f (w .0) (v .0) (u .0) (x .0))) (λ x. absurd (x .1)) (u .1))
+      (v .1))
       (stops-up (pages S s) (Parted S h s) _ p (w .1)))
       (stops-up (pages S s) (Stands S h s) _ p a)
 
@@ -168,15 +174,84 @@ module _ (S : Shape) (h : List ℕ → ℕ) (s : List ℕ) where
   stops-broken (first-pass z f p a b g n) = inr (z, inr (f, up-stops (pages S s) (Stands S h s) _ p a b g n))
   stops-broken (second-pass z f e p a b g n) =
       inr (z, inr (f, stops-after (upward (pages S s) (Stands S h s)) _ p (up-every (pages S s) (Stands S h s) e) (up-stops (pages S s) (Parted S h s) _ p a b g n)))
-  stops-broken (last z f e g n) =
+  stops-broken (depth-0 z f e g n) =
       inr (z, inr (f, stops-after (upward (pages S s) (Stands S h s)) _ 0 (up-every (pages S s) (Stands S h s) e) (stops-after (upward (pages S s) (Parted S h s)) _ 0 (up-every (pages S s) (Parted S h s) g) (inl (n, refl)))))
+  stops-broken (counts z f e g d n) =
+      inr (z, inr (f, stops-after (upward (pages S s) (Stands S h s)) _ 0 (up-every (pages S s) (Stands S h s) e) (stops-after (upward (pages S s) (Parted S h s)) _ 0 (up-every (pages S s) (Parted S h s) g) (inr (d, inl (n, refl))))))
 
   pub stops-below : {p : ℕ} → 2 ≤ pages S s → StopsAt S h s p → p < pages S s
   stops-below two (page-0 n) = omega arith
   stops-below two (page-1 z n) = omega arith
   stops-below two (first-pass z f p a b g n) = b
   stops-below two (second-pass z f e p a b g n) = b
-  stops-below two (last z f e g n) = omega arith
+  stops-below two (depth-0 z f e g n) = omega arith
+  stops-below two (counts z f e g d n) = omega arith
 
   pub broken-below : 2 ≤ pages S s → (p : ℕ) → Broken S h s p → p < pages S s
   broken-below two p b = stops-below two (broken-stops p b)
+
+-- ---- the rules in turn, with any rule for page 0 and any rules last
+
+-- what stops a list of rules stops it with more of them behind
+stops-then : (l m n : List Rule) (p : ℕ) → (Stops m p → Stops n p) → Stops (l ++ m) p → Stops (l ++ n) p
+stops-then [] m n p f a = f a
+stops-then (r ∷ l) m n p f (inl a) = inl a
+stops-then (r ∷ l) m n p f (inr a) = inr (a .0, stops-then l m n p f (a .1))
+
+every-then : (l m n : List Rule) → (Every m → Every n) → Every (l ++ m) → Every (l ++ n)
+every-then [] m n f a = f a
+every-then (r ∷ l) m n f a = (a .0, every-then l m n f (a .1))
+
+module _ (S : Shape) (h : List ℕ → ℕ) (s : List ℕ) (P : Type 0) where
+  abbrev up : List Rule
+  up = upward (pages S s) (Stands S h s)
+
+  abbrev again : List Rule
+  again = upward (pages S s) (Parted S h s)
+
+  abbrev deep : Rule
+  deep = rule 0 (Deepest S s)
+
+  pub at-0 : (P → ⊥) → Stops (inTurn S h s P []) 0
+  at-0 n = inl (n, refl)
+
+  pub at-1 : P → (Page1 S s → ⊥) → Stops (inTurn S h s P []) 1
+  at-1 z n = inr (z, inl (n, refl))
+
+  pub at-first : P → Page1 S s → (p : ℕ) → 2 ≤ p → p < pages S s → Below p (Stands S h s) → (Stands S h s p → ⊥) → Stops (inTurn S h s P []) p
+  at-first z f p a b g n = inr (z, inr (f, up-stops (pages S s) (Stands S h s) _ p a b g n))
+
+  pub at-second : P → Page1 S s → Below (pages S s) (Stands S h s) → (p : ℕ) → 2 ≤ p → p < pages S s → Below p (Parted S h s) → (Parted S h s p → ⊥) → Stops (inTurn S h s P []) p
+  at-second z f e p a b g n = inr (z, inr (f, stops-after up _ p (up-every (pages S s) (Stands S h s) e) (up-stops (pages S s) (Parted S h s) _ p a b g n)))
+
+  pub at-depth : P → Page1 S s → Below (pages S s) (Stands S h s) → Below (pages S s) (Parted S h s) → (Deepest S s → ⊥) → Stops (inTurn S h s P []) 0
+  at-depth z f e g n = inr (z, inr (f, stops-after up _ 0 (up-every (pages S s) (Stands S h s) e) (stops-after again _ 0 (up-every (pages S s) (Parted S h s) g) (inl (n, refl)))))
+
+  pub all-in-turn : P → Page1 S s → Below (pages S s) (Stands S h s) → Below (pages S s) (Parted S h s) → Deepest S s → Every (inTurn S h s P [])
+  all-in-turn z f e g d = (z, (f, every-append up _ (up-every (pages S s) (Stands S h s) e) (every-append again _ (up-every (pages S s) (Parted S h s) g) (d, tt))))
+
+  -- with rules behind them
+  pub stops-more : (rs : List Rule) (p : ℕ) → Stops (inTurn S h s P []) p → Stops (inTurn S h s P rs) p
+  stops-more rs p (inl a) = inl a
+  stops-more rs p (inr (z, inl a)) = inr (z, inl a)
+  stops-more rs p (inr (z, inr (f, a))) = inr (z, inr (f, stops-then up (again ++ (deep ∷ [])) (again ++ (deep ∷ rs)) p (stops-then again (deep ∷ []) (deep ∷ rs) p last) a))
+    where
+      last : Stops (deep ∷ []) p → Stops (deep ∷ rs) p
+      last (inl x) = inl x
+      last (inr x) = absurd (x .1)
+
+  pub every-more : (rs : List Rule) → Every (inTurn S h s P []) → Every rs → Every (inTurn S h s P rs)
+  every-more rs a e = (a .0, (a .1 .0, every-then up (again ++ (deep ∷ [])) (again ++ (deep ∷ rs)) (every-then again (deep ∷ []) (deep ∷ rs) (λ x. (x .0, e))) (a .1 .1)))
+
+  pub stops-last : (rs : List Rule) (p : ℕ) → Every (inTurn S h s P []) → Stops rs p → Stops (inTurn S h s P rs) p
+  stops-last rs p a b = inr (
+    a .0,
+    inr (
+      a .1 .0,
+      stops-after up (again ++ (deep ∷ rs)) p (every-left up (again ++ (deep ∷ [])) (a .1 .1))
+          (stops-after again (deep ∷ rs) p (every-left again (deep ∷ []) (every-right up (again ++ (deep ∷ [])) (a .1 .1))) (inr (every-right again (deep ∷ []) (every-right up (again ++ (deep ∷ [])) (a .1 .1)) .0, b))),
+    ),
+  )
+
+  pub all-stand : Every (inTurn S h s P []) → (p : ℕ) → 2 ≤ p → p < pages S s → Stands S h s p
+  all-stand a = every-up (pages S s) (Stands S h s) (every-left up (again ++ (deep ∷ [])) (a .1 .1))

@@ -21,6 +21,8 @@ use Rattle.store.specs.Pages.{size, pages, page, dirDepth, entryAt, Page
 use Rattle.store.specs.Accepted.{Bucket, Zero, Calls, Stands, unused, used}
 use Rattle.store.specs.Tables.{Becomes}
 use Rattle.store.specs.Demands.{Sized}
+use Rattle.store.specs.Counts.{counted}
+use Rattle.store.proofs.Counts.Words.{counts-word}
 use Rattle.store.proofs.Accepted.Rules.{Opened, opened}
 use Rattle.store.proofs.Showing.Shown.{free-not}
 
@@ -106,6 +108,9 @@ module _ (S : Shape) (h : List ℕ → ℕ) (t u : List ℕ) (sized : Sized S) (
   in-word : (a k : ℕ) → a ≤ k → k < a + 4 → le32 t a ≡ le32 u a → byte t k ≡ byte u k
   in-word a k x y w = let q : a + (k - a) ≡ k = omega arith in rw q at (le32-byte t u a (k - a) bt bu w (omega arith))
 
+  same-count : (j : ℕ) → j < 14 → le32 t (24 + 4 * j) ≡ le32 u (24 + 4 * j)
+  same-count j m = counts-word S t (T .counts) j m ∙ ap (λ gs. counted gs j) e ∙ sym (counts-word S u (U .counts) j m)
+
   in-first : (k : ℕ) → k < size S → byte t k ≡ byte u k
   in-first k b =
       let P = T .page0 in
@@ -116,8 +121,9 @@ module _ (S : Shape) (h : List ℕ → ℕ) (t u : List ℕ) (sized : Sized S) (
       (λ v. ⊎-elim (λ w. in-word 12 k v (omega arith) (P .first ∙ sym (Q .first)))
       (λ w. ⊎-elim (λ r. in-word 16 k w (omega arith) same-depth)
       (λ r. ⊎-elim (λ q. in-word 20 k r (omega arith) (P .size-number ∙ sym (Q .size-number)))
-      (λ q. P .rest k q b ∙ sym (Q .rest k q b))
-      (side k 24)) (side k 20)) (side k 16)) (side k 12)) (side k 8)) (side k 4)
+      (λ q. ⊎-elim (λ o. in-word (24 + 4 * ((k - 24) / 4)) k (omega arith) (omega arith) (same-count ((k - 24) / 4) (omega arith)))
+      (λ o. P .rest k o b ∙ sym (Q .rest k o b))
+      (side k 80)) (side k 24)) (side k 20)) (side k 16)) (side k 12)) (side k 8)) (side k 4)
 
   in-second : (k : ℕ) → size S ≤ k → k < 2 * size S → byte t k ≡ byte u k
   in-second k a b =

@@ -113,7 +113,7 @@ module _ (S : Shape) (h : List ℕ → ℕ) where
       slot (inr b) r m = slot-good g (b .0 .rules .rules) r (member (map asRow (rows g)) n r (rw (read-used g (b .0 .rules)) at m))
 
   module _ (sized : Sized S) (hash : Hash h) where
-    rows-few : (s : List ℕ) → Accepted S h s → length (rowsHeld S s) ≤ 16384 * length (contents S s)
+    pub rows-few : (s : List ℕ) → Accepted S h s → length (rowsHeld S s) ≤ 16384 * length (contents S s)
     rows-few s a = few 16384 (contents S s)
         (λ i d rs e. let u = under S h sized hash s (opened S h s a) i d rs e in
         rw (u .its) (omega (arith, length-tab (rowAt (page S s (i + 2))) (count (page S s (i + 2))), u .bytes .rules .rules .room, u .bytes .rules .rules .most)))

@@ -14,14 +14,14 @@ use Rattle.store.proofs.Showing.Shown.{free-not}
 use Rattle.store.proofs.Showing.Rooms.{find-free}
 
 -- a bucket on a free page leaves one free page less
-fill-frees : (gs : List Page) (i l : ℕ) (qs : List Record) → i < length gs → getD gs i free ≡ free → suc (frees (set gs i (bucket l qs))) ≡ frees gs
+pub fill-frees : (gs : List Page) (i l : ℕ) (qs : List Record) → i < length gs → getD gs i free ≡ free → suc (frees (set gs i (bucket l qs))) ≡ frees gs
 fill-frees [] i l qs b e = absurd (omega arith)
 fill-frees (g ∷ gs) zero l qs b e = ap (λ x. frees (x ∷ gs)) (sym e)
 fill-frees (free ∷ gs) (suc i) l qs b e = ap suc (fill-frees gs i l qs (omega arith) e)
 fill-frees (bucket k rs ∷ gs) (suc i) l qs b e = fill-frees gs i l qs (omega arith) e
 
 -- a bucket on a page in use leaves as many
-over-frees : (gs : List Page) (i k : ℕ) (rs : List Record) → Holding gs i k rs → (l : ℕ) (qs : List Record) → frees (set gs i (bucket l qs)) ≡ frees gs
+pub over-frees : (gs : List Page) (i k : ℕ) (rs : List Record) → Holding gs i k rs → (l : ℕ) (qs : List Record) → frees (set gs i (bucket l qs)) ≡ frees gs
 over-frees [] i k rs e l qs = absurd (free-not e)
 over-frees (g ∷ gs) zero k rs e l qs = ap (λ x. frees (x ∷ gs)) (sym e)
 over-frees (free ∷ gs) (suc i) k rs e l qs = ap suc (over-frees gs i k rs e l qs)

@@ -1,11 +1,11 @@
 -- Pages that show rows, and whose records can lie in a page, are what some accepted store of their number holds: page 0, the directory, the pages. Assumes nothing.
 use mathlib.Core.Path.{_≡_, refl, sym, ap, subst, subst₂, _∙_}
-use mathlib.Core.List.{List, _++_}
+use mathlib.Core.List.{List, [], _∷_, _++_, map, flatMap}
 use mathlib.Core.Logic.{⊎-elim}
 use Prim.Native.Nat.{ℕ, zero, suc, _+_, _-_, _*_, _/_, _%_, _^_, _≤_, _<_}
 use native.Mathlib.Nat.{div-add-mod', div-eq-of-lt, mod-eq-of-lt, mul-add-div-right, mul-add-mod-self-right, mul-le-mul-right, suc-mul, div-lt-iff-lt-mul}
 use native.Mathlib.Omega.{arith}
-use lib.ListN.{length, getD, replicate, length-replicate, List·getD-eq-default}
+use lib.ListN.{length, getD, replicate, length-append, length-map, length-replicate, List·getD-append, List·getD-eq-default}
 use lib.Seq.{getD-append-add}
 use Rattle.ground.specs.Lists.{byte, part, tab}
 use Rattle.ground.proofs.Parts.{part-is}
@@ -18,16 +18,18 @@ use Rattle.partition.specs.Sizes.{sizeNumber}
 use Rattle.partition.proofs.Sizes.{number-small}
 use Rattle.partition.specs.Partition.{Row}
 use Rattle.page.specs.Page.{Record}
-use Rattle.store.specs.Pages.{size, pages, page, dirDepth, entryAt, Page, free, bucket, read, contents, deepestIn}
+use Rattle.store.specs.Pages.{size, pages, page, dirDepth, entryAt, Page, free, bucket, read, contents, asRow, rowsIn, deepestIn}
 use Rattle.store.specs.Accepted.{GoodLength, Calls}
 use Rattle.store.specs.Tables.{Becomes}
 use Rattle.store.specs.Demands.{Sized, Hash}
+use Rattle.store.specs.Counts.{counted, Counts}
+use Rattle.store.proofs.Counts.Words.{word-counts, buckets-few}
 use Rattle.store.proofs.Accepted.Accepting.{Whole, Laid, laid-becomes}
 use Rattle.store.proofs.Accepted.Spelled.{AllFolded}
 use Rattle.store.proofs.Result.Decided.{calls}
 use Rattle.store.proofs.Result.Decisions.{some}
 use Rattle.store.proofs.Result.Encoded.{le32-of}
-use Rattle.store.proofs.Result.Fitted.{Fits}
+use Rattle.store.proofs.Result.Fitted.{Each, Fits}
 use Rattle.store.proofs.Accepted.Named.{Entry, nothing, names, deep-small, shown-shallow}
 use Rattle.store.proofs.Result.PageBytes.{tab-list, Holds, page-bytes}
 use Rattle.store.proofs.Paging.PageTies.{zeros}
@@ -98,6 +100,13 @@ module _ (z n : ℕ) (f : ℕ → List ℕ) (some : 0 < z) (long : (p : ℕ) →
         (side k (n * z));
   }
 
+-- pages whose records can lie in a page have fewer rows than bytes
+rows-fit : (z : ℕ) (gs : List Page) → Each z gs → length (rowsIn gs) ≤ z * length gs
+unfolding rowsIn flatMap
+rows-fit z [] f = omega arith
+rows-fit z (free ∷ gs) f = omega (arith, rows-fit z gs (f .1))
+rows-fit z (bucket k rs ∷ gs) f = omega (arith, length-append (map asRow rs) (rowsIn gs), length-map rs asRow, f .0 .room, rows-fit z gs (f .1))
+
 -- ---- the store
 
 module _ (S : Shape) (h : List ℕ → ℕ) (sized : Sized S) (hash : Hash h) (s : List ℕ) (good : GoodLength S s) (shown : List Row) (gs : List Page) (w : Shows S h shown gs)
@@ -152,18 +161,18 @@ module _ (S : Shape) (h : List ℕ → ℕ) (sized : Sized S) (hash : Hash h) (s
 
   -- page 0
   page0 : List ℕ
-  page0 = bytes 4 n ++ (bytes 4 z ++ (bytes 4 (S .entries) ++ (bytes 4 (2 * z) ++ (bytes 4 d ++ (bytes 4 (sizeNumber S) ++ replicate (z - 24) 0)))))
+  page0 = bytes 4 n ++ (bytes 4 z ++ (bytes 4 (S .entries) ++ (bytes 4 (2 * z) ++ (bytes 4 d ++ (bytes 4 (sizeNumber S) ++ (words (counted gs) 14 ++ replicate (z - 80) 0))))))
 
   shallow : d ≤ 32
   shallow = omega (arith, shown-shallow S h hash shown gs w, deep-small S sized)
 
   page0-long : length page0 ≡ z
   unfolding page0 bytes
-  page0-long = omega (arith, length-replicate {A = ℕ} (z - 24) 0, sized .least)
+  page0-long = omega (arith, length-append (words (counted gs) 14) (replicate (z - 80) 0), words-long (counted gs) 14, length-replicate {A = ℕ} (z - 80) 0, sized .least)
 
   page0-small : Small page0
   unfolding page0
-  page0-small = small-append (small-bytes 4 n) (small-append (small-bytes 4 z) (small-append (small-bytes 4 (S .entries)) (small-append (small-bytes 4 (2 * z)) (small-append (small-bytes 4 d) (small-append (small-bytes 4 (sizeNumber S)) (small-zeros (z - 24)))))))
+  page0-small = small-append (small-bytes 4 n) (small-append (small-bytes 4 z) (small-append (small-bytes 4 (S .entries)) (small-append (small-bytes 4 (2 * z)) (small-append (small-bytes 4 d) (small-append (small-bytes 4 (sizeNumber S)) (small-append (words-small (counted gs) 14) (small-zeros (z - 80))))))))
 
   word-0 : le32 page0 0 ≡ n
   unfolding page0 bytes le32 le16
@@ -189,12 +198,33 @@ module _ (S : Shape) (h : List ℕ → ℕ) (sized : Sized S) (hash : Hash h) (s
   unfolding page0 bytes le32 le16
   word-20 = omega (arith, number-small S sized)
 
-  page0-rest : (k : ℕ) → 24 ≤ k → byte page0 k ≡ 0
-  unfolding page0 bytes
+  -- page 0 up to its counts, and what comes behind them
+  front : List ℕ
+  front = bytes 4 n ++ (bytes 4 z ++ (bytes 4 (S .entries) ++ (bytes 4 (2 * z) ++ (bytes 4 d ++ bytes 4 (sizeNumber S)))))
+
+  page0-behind : (j : ℕ) → byte page0 (24 + j) ≡ byte (words (counted gs) 14 ++ replicate (z - 80) 0) j
+  unfolding page0 front bytes
+  page0-behind j = getD-append-add front (words (counted gs) 14 ++ replicate (z - 80) 0) j 0
+
+  page0-rest : (k : ℕ) → 80 ≤ k → byte page0 k ≡ 0
   page0-rest k l =
-      let head : List ℕ = bytes 4 n ++ (bytes 4 z ++ (bytes 4 (S .entries) ++ (bytes 4 (2 * z) ++ (bytes 4 d ++ bytes 4 (sizeNumber S))))) in
-      let e : length head + (k - 24) ≡ k = omega arith in
-      rw e at (getD-append-add head (replicate (z - 24) 0) (k - 24) 0 ∙ zeros (z - 24) (k - 24))
+      let e : 24 + (k - 24) ≡ k = omega arith in
+      let f : length (words (counted gs) 14) + (k - 80) ≡ k - 24 = omega (arith, words-long (counted gs) 14) in
+      sym (ap (byte page0) e) ∙ page0-behind (k - 24) ∙ sym (ap (byte (words (counted gs) 14 ++ replicate (z - 80) 0)) f)
+      ∙ getD-append-add (words (counted gs) 14) (replicate (z - 80) 0) (k - 80) 0 ∙ zeros (z - 80) (k - 80)
+
+  count-small : (j : ℕ) → counted gs j < 2 ^ 32
+  count-small zero =
+      let m : z * length gs ≤ 16384 * length gs = mul-le-mul-right (length gs) (sized .most) in
+      omega (arith, m, rows-fit z gs (fits .each), fits .many, bounds, sized .whole, sized .most)
+  count-small (suc k) = omega (arith, buckets-few k gs, fits .many, bounds, sized .whole, sized .most)
+
+  page0-count : (j : ℕ) → j < 14 → le32 page0 (24 + 4 * j) ≡ counted gs j
+  page0-count j l =
+      le32-moved (words (counted gs) 14) page0 (24 + 4 * j) (4 * j) (λ i m.
+      let e : 24 + (4 * j + i) ≡ 24 + 4 * j + i = omega arith in
+      sym (ap (byte page0) e) ∙ page0-behind (4 * j + i) ∙ List·getD-append (words (counted gs) 14) (replicate (z - 80) 0) 0 (4 * j + i) (omega (arith, words-long (counted gs) 14)))
+      ∙ words-at (counted gs) 14 j l (count-small j)
 
   -- all pages
   numbered : ℕ → List ℕ
@@ -291,6 +321,9 @@ module _ (S : Shape) (h : List ℕ → ℕ) (sized : Sized S) (hash : Hash h) (s
     entry = λ e l. subst₂ (λ x y. Entry S h t gs x (y - 2) e) (sym deep) (sym n-same) (named e l);
   }
 
+  true-counts : Counts S t
+  true-counts = word-counts S t (λ j l. word (24 + 4 * j) (omega (arith, sized .least)) ∙ page0-count j l ∙ ap (λ x. counted x j) (sym held))
+
   -- A STORE THAT HOLDS THEM
   pub store-of : (t : List ℕ) × Becomes S h s gs t
-  store-of = (t, laid-becomes S h sized hash t shown gs laid w spelled s t-long (stacked-small z n numbered positive numbered-long numbered-small .at))
+  store-of = (t, laid-becomes S h sized hash t shown gs laid w spelled s t-long (stacked-small z n numbered positive numbered-long numbered-small .at) true-counts)

@@ -18,8 +18,9 @@ use Rattle.partition.specs.Sizes.{sizeNumber}
 use Rattle.partition.specs.Partition.{needs, rowsOf}
 use Rattle.page.specs.Page.{Slotted, Natural, In, depth, count, frontier, free, off, len, kind, need, place, code}
 use Rattle.store.specs.Pages.{size, pages, page, dirDepth, entryAt, contents, rowsHeld, deepestIn}
-use Rattle.store.specs.Accepted.{GoodLength, Zero, Page0, Page1, Bucket, Calls, Stands, unused, used, Parted, Rule, rule, rules, upward, Every, Stops, Accepted, Broken}
+use Rattle.store.specs.Accepted.{Page0From, GoodLength, Zero, Page0, Page1, Bucket, Calls, Stands, unused, used, Parted, Rule, rule, rules, upward, Every, Stops, Accepted, Broken}
 use Rattle.store.specs.Tables.{PageKeeps}
+use Rattle.store.specs.Counts.{bucketsAt, Counts}
 use Rattle.store.proofs.Result.Decisions.{both, either, implies, not, exactly, all, some, is-less}
 
 -- ---- a page
@@ -123,8 +124,8 @@ module _ (S : Shape) (s : List ℕ) where
       (λ g. search)
       (both (ℕ-discrete (length s % size S) 0) (both (decLe 3 (pages S s)) (decLe (pages S s) (S .entries + 2))))
 
-  page0 : Dec (Page0 S s)
-  page0 = map-dec
+  page0 : (zeros : ℕ) → Dec (Page0From zeros S s)
+  page0 zeros = map-dec
       (λ t. record { number = t .0; directory = t .1 .0; entries = t .1 .1 .0; first = t .1 .1 .1 .0; depth = t .1 .1 .1 .1 .0; size-number = t .1 .1 .1 .1 .1 .0; rest = λ k a b. t .1 .1 .1 .1 .1 .1 k b a })
       (λ g. (g .number, (g .directory, (g .entries, (g .first, (g .depth, (g .size-number, λ k b a. g .rest k a b)))))))
       (both (ℕ-discrete (le32 s 0) (pages S s))
@@ -133,7 +134,13 @@ module _ (S : Shape) (s : List ℕ) where
       (both (ℕ-discrete (le32 s 12) (2 * size S))
       (both (decLe (dirDepth s) (S .deepest))
       (both (ℕ-discrete (le32 s 20) (sizeNumber S))
-      (all (size S) (λ k. 24 ≤ k → byte s k ≡ 0) (λ k l. implies (decLe 24 k) (ℕ-discrete (byte s k) 0)))))))))
+      (all (size S) (λ k. zeros ≤ k → byte s k ≡ 0) (λ k l. implies (decLe zeros k) (ℕ-discrete (byte s k) 0)))))))))
+
+  counts : Dec (Counts S s)
+  counts = map-dec
+      (λ t. record { rows = t .0; buckets = λ k l. t .1 k (omega arith) })
+      (λ c. (c .rows, λ k l. c .buckets k (omega arith)))
+      (both (ℕ-discrete (le32 s 24) (length (rowsHeld S s))) (all 13 (λ k. le32 s (28 + 4 * k) ≡ bucketsAt k (contents S s)) (λ k l. ℕ-discrete (le32 s (28 + 4 * k)) (bucketsAt k (contents S s)))))
 
   page1 : Dec (Page1 S s)
   page1 = map-dec
@@ -211,15 +218,15 @@ unfolding rules Broken
 accepted-or-broken S h s g = ⊎-elim (λ e. inl (record { long = g; keeps = e })) inr (stops-or-not (rules S h s) decided)
   where
     again : List Rule
-    again = upward (pages S s) (Parted S h s) ++ (rule 0 (dirDepth s ≡ deepestIn (contents S s)) ∷ [])
+    again = upward (pages S s) (Parted S h s) ++ (rule 0 (dirDepth s ≡ deepestIn (contents S s)) ∷ (rule 0 (Counts S s) ∷ []))
 
     decided : Decides (rules S h s)
     decided = (
-      page0 S s,
+      page0 S s 80,
       (
         page1 S s,
         decides-append (upward (pages S s) (Stands S h s)) again (decides-tab (λ i. rule (i + 2) (Stands S h s (i + 2))) (pages S s - 2) (λ i. stands S s h (i + 2)))
             (decides-append (upward (pages S s) (Parted S h s)) _ (decides-tab (λ i. rule (i + 2) (Parted S h s (i + 2))) (pages S s - 2) (λ i. parted S s h (i + 2)))
-            (ℕ-discrete (dirDepth s) (deepestIn (contents S s)), tt)),
+            (ℕ-discrete (dirDepth s) (deepestIn (contents S s)), (counts S s, tt))),
       ),
     )

@@ -33,10 +33,22 @@ same-requires-3 c κs = search needs
 returns-3 : tie.Need-returns-3
 returns-3 c = λ k. c .before .same3 .ensures .0 (c .if3 .taken)
 
+slice-aggregate-same-4 : tie.Need-slice-aggregate-same-4
+slice-aggregate-same-4 c = search needs
+
+same-requires-4 : tie.Need-same-requires-4
+same-requires-4 c κs = search needs
+
 returns-4 : tie.Need-returns-4
-returns-4 c =
-    let s = c .before .before .before .before .before .before .before .before .before .before in
-    no-word (s .args .line .now) (s .pre .0) (s .pre .1) (λ e. untrue (sym (c .before .before .before .before .before .before .if1 .left) ∙ c .before .before .before .before .before .before .before .same .ensures .1 e)) (λ e. untrue (sym (c .before .before .before .if2 .left) ∙ c .before .before .before .before .same2 .ensures .1 e)) (λ e. untrue (sym (c .if3 .left) ∙ c .before .same3 .ensures .1 e))
+returns-4 c = λ k. c .before .same4 .ensures .0 (c .if4 .taken)
+
+returns-5 : tie.Need-returns-5
+returns-5 c =
+    let e3 = c .before .before .before in
+    let e2 = e3 .before .before .before in
+    let e1 = e2 .before .before .before in
+    let s = e1 .before .before .before .before in
+    no-word (s .args .line .now) (s .pre .0) (s .pre .1) (λ e. untrue (sym (e1 .if1 .left) ∙ e1 .before .same .ensures .1 e)) (λ e. untrue (sym (e2 .if2 .left) ∙ e2 .before .same2 .ensures .1 e)) (λ e. untrue (sym (e3 .if3 .left) ∙ e3 .before .same3 .ensures .1 e)) (λ e. untrue (sym (c .if4 .left) ∙ c .before .same4 .ensures .1 e))
 
 pub bare-spec : {M : Type 1} → statement M
 bare-spec =
@@ -51,4 +63,7 @@ bare-spec =
     slice-aggregate-same-3
     same-requires-3
     returns-3
-    returns-4)
+    slice-aggregate-same-4
+    same-requires-4
+    returns-4
+    returns-5)

@@ -2,7 +2,7 @@
 use Prim.Native.Nat.{_-_}
 use mathlib.Core.List.{[], _∷_}
 use mathlib.Core.Logic.{inl, inr}
-use mathlib.Core.Path.{subst, sym, refl}
+use mathlib.Core.Path.{subst, sym, refl, _∙_}
 use native.Mathlib.Omega.{arith}
 use lib.Dec.{ltb}
 use lib.ListN.{length, take}
@@ -15,7 +15,7 @@ use Rattle.lots.specs.declared.Outcome.the-variants.{Silent, Unknown, To
 use Rattle.lots.specs.Runs.{Done}
 use Rattle.lots.specs.Sessions.{Leaves}
 use Rattle.lots.proofs.Outcome.{the-type}
-use Rattle.lots.proofs.Leaving.{leaves, lent-known, part-back, still-holds, taken-in, then}
+use Rattle.lots.proofs.Leaving.{leaves, lent-known, part-back, still-holds, learnt-holds, learnt-in, then}
 use Rattle.lots.proofs.Running.{without, formats-did, obeyed-did}
 use borrow.Author.Needs.{needs}
 use Rattle.lots.proofs.input.command.Statement.{statement}
@@ -77,6 +77,9 @@ returns c =
       did = formats-did l (take (a .result) l) (ltb (a .result) (length l)) (s .pre) (without l (a .result) (a .ensures)) b (o .1) (f .2);
     }
 
+learnt-requires : tie.Need-learnt-requires
+learnt-requires c κs = search needs
+
 after-requires : tie.Need-after-requires
 after-requires c κs = search needs
 
@@ -86,14 +89,15 @@ same-length-2 c = search needs
 returns-2 : tie.Need-returns-2
 returns-2 c =
     let a = c .after .ensures in
-    let b = c .before .before .before .before .obey .ensures in
-    let n = c .before .before .before .before .before .before .before .before-anew in
-    let s = c .before .before .before .before .before .before .before .before .before .before in
+    let k = c .before .learnt .ensures in
+    let b = c .before .before .before .before .before .obey .ensures in
+    let n = c .before .before .before .before .before .before .before .before .before-anew in
+    let s = c .before .before .before .before .before .before .before .before .before .before .before in
     let l = now (s .args .line) in
     record {
-      kept = taken-in a (λ x. part-back _ _ 0 (s .args .z .len - 0) (leaves b x)) (still-holds (s .pre) b (search needs));
-      fill = a .fill;
-      did = obeyed-did l (take (n .result) l) (ltb (n .result) (length l)) (c .after .result .len) (s .pre) (search needs) (without l (n .result) (n .ensures)) b (done (c .before .before .before .before .obey .result) (c .before .match .keys2)) (a .len);
+      kept = learnt-in k a (λ x. part-back _ _ 0 (s .args .z .len - 0) (leaves b x)) (learnt-holds k (s .pre) b (search needs));
+      fill = a .fill ∙ k .fill;
+      did = obeyed-did l (take (n .result) l) (ltb (n .result) (length l)) (c .after .result .len) (s .pre) (search needs) (without l (n .result) (n .ensures)) b (done (c .before .before .before .before .before .obey .result) (c .before .before .match .keys2)) (a .len ∙ k .len);
     }
 
 pub command-spec : {M : Type 1} → statement M
@@ -110,6 +114,7 @@ command-spec =
     ask-format-requires
     same-length
     returns
+    learnt-requires
     after-requires
     same-length-2
     returns-2)

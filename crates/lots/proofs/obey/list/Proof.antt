@@ -2,20 +2,20 @@
 use borrow.Author.Needs.{needs}
 use borrow.Author.Tests.{not-true, not-false}
 use denote.Ref.{now}
+use native.Mathlib.Omega.{arith}
 use mathlib.Core.Path.{_≡_, refl, sym, subst, _∙_}
 use mathlib.Core.Bool.{true, false, true≢false}
-use native.Mathlib.Nat.{div-add-mod'}
-use native.Mathlib.Omega.{arith}
 use lib.ListN.{length}
 use Rattle.hash.specs.Fnv.{fnv}
 use Rattle.partition.specs.Listing.{listing}
-use Rattle.partition.specs.Sizes.{size, shapeOf}
+use Rattle.partition.specs.Sizes.{shapeOf}
 use Rattle.store.specs.Accepted.{Accepted}
 use Rattle.store.specs.Demands.{ok}
 use Rattle.store.specs.Pages.{rowsHeld}
+use Rattle.store.proofs.Accepted.Rules.{opened}
 use Rattle.store.specs.Tables.{meaning}
 use Rattle.lots.specs.Obeys.{Numbers}
-use Rattle.lots.proofs.Leaving.{checked-accepted, numbered}
+use Rattle.lots.proofs.Leaving.{checked-accepted, counts-room, numbered}
 use Rattle.lots.proofs.obey.list.Statement.{statement}
 use Rattle.lots.proofs.obey.list.Tie as tie
 
@@ -49,17 +49,8 @@ returns c =
 shape-of-requires : tie.Need-shape-of-requires
 shape-of-requires c κs = numbered _ (sound c)
 
-add-count-rows : tie.Need-add-count-rows
-add-count-rows c = omega (arith, c .before .shape-of .ensures .1 .most)
-
-div-count-rows : tie.Need-div-count-rows
-div-count-rows c = search needs
-
-count-rows-requires : tie.Need-count-rows-requires
-count-rows-requires c κs =
-    let z = c .before .shape-of in
-    let g = at-own (c .before) .long in
-    (omega (arith, div-add-mod' (length (now (c .before .before .before .before .before .before .args .s))) (size (z .result)), g .whole), omega (arith, g .least), omega (arith, g .most, z .ensures .1 .whole, z .ensures .1 .most))
+rows-counted-requires : tie.Need-rows-counted-requires
+rows-counted-requires c κs = counts-room _ (sound (c .before))
 
 buffer-requires : tie.Need-buffer-requires
 buffer-requires c κs = search needs
@@ -70,13 +61,13 @@ slice-aggregate-list-rows c = search needs
 list-rows-requires : tie.Need-list-rows-requires
 list-rows-requires c κs =
     let n = c .before .before in
-    let b = n .before .before in
-    (record { sized = b .shape-of .ensures .1; accepted = at-own b; rows = n .count-rows .ensures }, omega (arith, c .before .buffer .ensures))
+    let b = n .before in
+    (record { sized = b .shape-of .ensures .1; accepted = at-own b; rows = n .rows-counted .ensures ∙ opened _ fnv _ (at-own b) .counts .rows }, omega (arith, c .before .buffer .ensures))
 
 returns-2 : tie.Need-returns-2
 returns-2 c =
     let l = c .before in
-    let b = l .before .before .before .before .before in
+    let b = l .before .before .before .before in
     let k = b .before .before .before .check-known in
     let s = now (b .before .before .before .before .before .args .s) in
     record {
@@ -95,9 +86,7 @@ list-spec =
     told-requires
     returns
     shape-of-requires
-    add-count-rows
-    div-count-rows
-    count-rows-requires
+    rows-counted-requires
     buffer-requires
     slice-aggregate-list-rows
     list-rows-requires

@@ -169,6 +169,15 @@ part-ask-end c = search needs
 ask-requires : tie.Need-ask-requires
 ask-requires c κs = search needs
 
+enum-told-7 : tie.Need-enum-told-7
+enum-told-7 c = search needs
+
+fill-counts-requires : tie.Need-fill-counts-requires
+fill-counts-requires c κs = search needs
+
+wrote-requires-3 : tie.Need-wrote-requires-3
+wrote-requires-3 c κs = search needs
+
 returns : tie.Need-returns
 returns c = done (c .before .before) _ (c .enum-told .given .1) (refl, refl)
 
@@ -232,6 +241,12 @@ same-length-9 c = search needs
 returns-12 : tie.Need-returns-12
 returns-12 c = done (c .before .before .before .before .before) _ (c .before .before .before .enum-told6 .given .1) (c .ask .ensures, refl)
 
+same-length-10 : tie.Need-same-length-10
+same-length-10 c = search needs
+
+returns-13 : tie.Need-returns-13
+returns-13 c = done (c .before .before .before .before .before .before .before) _ (c .before .before .before .before .before .enum-told7 .given .1) (record { answer = meaning (c .before .before .before .fill-counts .result); made = c .before .before .before .fill-counts .ensures; told = c .wrote3 .ensures })
+
 pub obey-spec : {M : Type 1} → statement M
 obey-spec =
     tie.close
@@ -279,6 +294,9 @@ obey-spec =
     part-ask-start
     part-ask-end
     ask-requires
+    enum-told-7
+    fill-counts-requires
+    wrote-requires-3
     returns
     returns-2
     returns-3
@@ -299,4 +317,6 @@ obey-spec =
     same-length-8
     returns-11
     same-length-9
-    returns-12)
+    returns-12
+    same-length-10
+    returns-13)

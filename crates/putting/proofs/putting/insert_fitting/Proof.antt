@@ -1,10 +1,10 @@
 -- `putting::insert_fitting` meets its contract: the page with the row in, which needed no other page to work in where the room at the frontier was enough. Assumes nothing.
 use borrow.Author.Needs.{needs}
-use mathlib.Core.Path.{refl, sym, subst}
-use mathlib.Core.List.{List}
-use Prim.Native.Nat.{ℕ, _+_, _*_, _≤_, _<_}
+use mathlib.Core.Path.{_≡_, refl}
+use mathlib.Core.List.{List, _++_}
+use Prim.Native.Nat.{ℕ, _+_, _-_, _*_, _≤_, _<_}
 use native.Mathlib.Omega.{arith}
-use lib.ListN.{length}
+use lib.ListN.{length, take, drop}
 use denote.Ref.{now}
 use Rattle.ground.specs.Lists.{byte}
 use Rattle.ground.specs.Ladder.{Answers}
@@ -14,13 +14,13 @@ use Rattle.page.specs.Packed.{Fitting, Added}
 use Rattle.page.specs.Steps.{Insertable}
 use Rattle.partition.specs.Bits.{top}
 use Rattle.partition.specs.declared.Shape.{Shape}
-use Rattle.store.specs.Pages.{size, page, dirDepth}
+use Rattle.store.specs.Pages.{size, page, dirDepth, setPage}
 use Rattle.store.specs.Tables.{new, putAccepted}
 use Rattle.store.proofs.Accepted.Unique.{within, page-long}
 use Rattle.store.proofs.Accepted.Reading.{Naming}
 use Rattle.store.proofs.Paging.Views.{page-lent}
 use Rattle.putting.specs.Put.{newRow}
-use Rattle.putting.proofs.Puts.{given-back, home-page, put-fitted}
+use Rattle.putting.proofs.Puts.{given-back, home-page, fitted-more, put-fitted}
 use Rattle.putting.proofs.putting.insert_fitting.Statement.{statement}
 use Rattle.putting.proofs.putting.insert_fitting.Tie as tie
 
@@ -127,23 +127,43 @@ insert-at-frontier-requires c κs =
     record { page = F .page; belongs = F .belongs; natural = F .natural; good = F .good; fits = F .fits; room = omega (arith, roomy (c .before)) } in
     rw (page-lent (S z) (s z) (p z)) here
 
+-- the page with the row in
+module _ (f : tie.After-insert-at-frontier) where
+  abbrev w2 : tie.Then1
+  w2 = f .before .before
+
+  abbrev z2 : tie.Start
+  z2 = z1 w2
+
+  abbrev q : List ℕ
+  q = f .insert-at-frontier .last .0
+
+  back : take (p z2 * size (S z2)) (s z2) ++ (q ++ drop (p z2 * size (S z2) + size (S z2) - p z2 * size (S z2)) (drop (p z2 * size (S z2)) (s z2))) ≡ setPage (S z2) (s z2) (p z2) q
+  back = given-back (S z2) (s z2) (p z2) q
+
+  added : Added (g z2) (z2 .args .i) (key z2) (place z2) (g z2) q (g z2)
+  added = record {
+    roomy = λ h. (rw (page-lent (S z2) (s z2) (p z2)) at (f .insert-at-frontier .ensures), refl);
+    tight = λ h. absurd (omega (arith, roomy w2));
+  }
+
+raise-requires : tie.Need-raise-requires
+raise-requires c κs =
+    let f = c .before .before .before in
+    let z = z2 f in
+    let row = z .pre .row .row in
+    rw (back f) (fitted-more (S z) fnv (row .sized) fnv-lt (s z) (row .accepted) (key z) (p z) (home z) (z .args .i) (place z) (g z) (q f) (g z) (fits z) (added f) (row .folded))
+
 same-length : tie.Need-same-length
 same-length c = search needs
 
 returns : tie.Need-returns
 returns c =
-    let w = c .before .before .before .before in
-    let z = z1 w in
-    let q = c .before .before .insert-at-frontier .last .0 in
-    let back = given-back (S z) (s z) (p z) q in
+    let f = c .before .before .before .before .before .before in
+    let z = z2 f in
     let row = z .pre .row .row in
-    let D : Added (g z) (z .args .i) (key z) (place z) (g z) q (g z) = record {
-      roomy = λ h. (rw (page-lent (S z) (s z) (p z)) at (c .before .before .insert-at-frontier .ensures), refl);
-      tight = λ h. absurd (omega (arith, roomy w));
-    } in
-    subst (λ t. Answers (putAccepted (S z) fnv (s z) (newRow (key z) (place z))) (new, t)) (sym back)
-    (put-fitted (S z) fnv (row .sized) fnv-lt (s z) (row .accepted) (key z) (p z) (home z) (z .args .i) (place z) (g z) q (g z) (fits z) D (row .folded)
-    (λ k. subst (λ t. byte t k < 256) back ((c .slice-known2 .given k) .fits)))
+    put-fitted (S z) fnv (row .sized) fnv-lt (s z) (row .accepted) (key z) (p z) (home z) (z .args .i) (place z) (g z) (q f) (g z) (fits z) (added f) (row .folded)
+    _ (rw (back f) at (c .before .before .raise .ensures)) (λ k. (c .slice-known3 .given k) .fits)
 
 insert-lent-requires : tie.Need-insert-lent-requires
 insert-lent-requires c κs = search needs
@@ -177,6 +197,7 @@ insert-fitting-spec =
     part-insert-at-frontier-start
     part-insert-at-frontier-end
     insert-at-frontier-requires
+    raise-requires
     same-length
     returns
     insert-lent-requires

@@ -1,5 +1,5 @@
 -- `putting::new_bucket` meets its contract: refusal 7, else the row alone in the lowest free page, which its entries then name. Assumes nothing.
-use Rattle.putting.proofs.NewBuckets.{own-unset, unheld-full, wrote, unheld-new}
+use Rattle.putting.proofs.NewBuckets.{own-unset, unheld-full, wrote, row-more, bucket-more, recounted-new, unheld-new}
 use Rattle.putting.proofs.Puts.{given-back}
 use Rattle.query.proofs.Finds.{long-enough}
 use Rattle.directory.proofs.Settles.{long-pages}
@@ -193,19 +193,60 @@ name-prefix-requires c κs =
     } in
     (Z, rw (given-back (S z) (s z) (p l) (q b)) here)
 
+-- its entries name it
+module _ (m : tie.After-name-prefix) where
+  abbrev bn : tie.After-start-page
+  bn = m .before .before .before .before
+
+  abbrev zn : tie.Start
+  zn = zs bn
+
+  abbrev ln : tie.After-lowest-free
+  ln = lowest-at bn
+
+  abbrev t : List ℕ
+  t = m .name-prefix .last .0
+
+  named : PrefixNamed (S zn) (setPage (S zn) (s zn) (p ln) (q bn)) (dirDepth (s zn)) (k bn) (top (k bn) (fnv (key zn))) (p ln) t
+  named = subst₂ (λ d x. PrefixNamed (S zn) (setPage (S zn) (s zn) (p ln) (q bn)) d (k bn) (top (k bn) x) (p ln) t) (deep (bn .before .before .before .before)) (zn .pre .hash) (rw (given-back (S zn) (s zn) (p ln) (q bn)) at (m .name-prefix .ensures))
+
+raise-requires : tie.Need-raise-requires
+raise-requires c κs =
+    let m = c .before .before .before in
+    let b = bn m in
+    let z = zn m in
+    let l = ln m in
+    row-more (S z) fnv fnv-lt (s z) (x z) (key z) (place z) (z .pre) (some (tested l)) (k b) (vacant b) (p l) (l .lowest-free .ensures .0) (to l) (q b) (started b) (t m) (named m)
+
+cast-raise : tie.Need-cast-raise
+cast-raise c = search needs
+
+add-raise : tie.Need-add-raise
+add-raise c = search needs
+
+raise-requires-2 : tie.Need-raise-requires-2
+raise-requires-2 c κs =
+    let r = c .before .before .before in
+    let m = r .before .before .before .before in
+    let b = bn m in
+    let z = zn m in
+    let l = ln m in
+    bucket-more (S z) fnv fnv-lt (s z) (x z) (key z) (place z) (z .pre) (some (tested l)) (k b) (vacant b) (p l) (l .lowest-free .ensures .0) (to l) (q b) (started b) (t m) (named m) _ (r .raise .ensures)
+
 same-length-2 : tie.Need-same-length-2
 same-length-2 c = search needs
 
 returns-2 : tie.Need-returns-2
 returns-2 c =
-    let b = c .before .before .before .before .before .before in
-    let z = zs b in
-    let l = lowest-at b in
-    let g = b .before .before .before .before in
-    let t = c .before .before .name-prefix .last .0 in
-    let N : PrefixNamed (S z) (setPage (S z) (s z) (p l) (q b)) (dirDepth (s z)) (k b) (top (k b) (fnv (key z))) (p l) t =
-    subst₂ (λ d x. PrefixNamed (S z) (setPage (S z) (s z) (p l) (q b)) d (k b) (top (k b) x) (p l) t) (deep g) (z .pre .hash) (rw (given-back (S z) (s z) (p l) (q b)) at (c .before .before .name-prefix .ensures)) in
-    unheld-new (S z) fnv fnv-lt (s z) (x z) (key z) (place z) (z .pre) (some (tested l)) (k b) (vacant b) (p l) (l .lowest-free .ensures .0) (to l) (q b) (started b) t N (λ i. (c .slice-known3 .given i) .fits)
+    let w = c .before .before in
+    let r = w .before .before .before .before in
+    let m = r .before .before .before .before in
+    let b = bn m in
+    let z = zn m in
+    let l = ln m in
+    unheld-new (S z) fnv fnv-lt (s z) (x z) (key z) (place z) (z .pre) (some (tested l)) (k b) (vacant b) (p l) (l .lowest-free .ensures .0) (to l) (q b) (started b) (t m) (named m) _
+    (recounted-new (S z) fnv fnv-lt (s z) (x z) (key z) (place z) (z .pre) (some (tested l)) (k b) (vacant b) (p l) (l .lowest-free .ensures .0) (to l) (q b) (started b) (t m) (named m) _ _ (r .raise .ensures) (w .raise2 .ensures))
+    (λ i. (c .slice-known5 .given i) .fits)
 
 pub new-bucket-spec : {M : Type 1} → statement M
 new-bucket-spec =
@@ -228,5 +269,9 @@ new-bucket-spec =
     cast-start-page
     start-page-requires
     name-prefix-requires
+    raise-requires
+    cast-raise
+    add-raise
+    raise-requires-2
     same-length-2
     returns-2)

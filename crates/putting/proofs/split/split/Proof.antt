@@ -1,10 +1,14 @@
 -- `putting::split` meets its contract: refusals 6 and 7, else the new buckets, then the directory. Assumes nothing.
-use Rattle.putting.proofs.Heavy.{home, shallow, heavy-six, heavy-seven, as-many, source, writable-then, split-kept, split-directed, heavy-new}
-use Rattle.directory.specs.Directory.{PrefixNamed, Directed}
-use Rattle.directory.proofs.Settles.{long-pages, settling}
+use Rattle.putting.proofs.Heavy.{home, shallow, few-counted, split-counted, split-recounted, heavy-six, heavy-seven, as-many, source, writable-then, split-settleable, split-directed-then, heavy-new}
+use Rattle.directory.specs.Directory.{PrefixNamed, Directed, Recounted}
+use Rattle.directory.proofs.Settles.{long-pages}
+use Rattle.directory.proofs.Laying.{deep-most}
+use Rattle.counts.specs.Tallies.{SameCounts, CountsNow, oneLess}
+use Rattle.putting.proofs.Weighs.{below-most}
+use Rattle.words.specs.Le.{le32}
 use Rattle.store.proofs.Accepted.Rules.{opened}
 use Rattle.putting.specs.Put.{newRow, Crowded}
-use Rattle.putting.specs.Split.{keyed, withNew, below, pagesBelow, Source, Writable, BucketsWritten}
+use Rattle.putting.specs.Split.{keyed, withNew, below, pagesBelow, CountedBelow, SplitCounted, Source, Writable, BucketsWritten}
 use Rattle.store.proofs.Put.EveryStep.{Roomy, every-step, packed-used}
 use Rattle.store.proofs.Accepted.Unique.{within, page-long}
 use Rattle.store.proofs.Paging.Views.{page-lent}
@@ -71,7 +75,7 @@ module _ (z : tie.Start) where
 -- its copy
 module _ (b : tie.After-copy-at) where
   abbrev z0 : tie.Start
-  z0 = b .before .before .before .before .before .before .before .before .before .before .before
+  z0 = b .before .before .before .before .before .before .before .before .before .before .before .before
 
   abbrev from : List ℕ
   from = b .copy-at .last .0
@@ -127,7 +131,7 @@ module _ (t : tie.After-top-bits2) where
 -- how many buckets they make
 module _ (d : tie.After-count-below) where
   abbrev t3 : tie.After-top-bits2
-  t3 = d .before .before .before .before
+  t3 = d .before .before .before .before .before .before .before .before .before .before
 
   abbrev b3 : tie.After-copy-at
   b3 = b2 t3
@@ -137,8 +141,26 @@ module _ (d : tie.After-count-below) where
 
   number : d .count-below .result ≡ length (below (S z3) fnv (withNew (g z3) (keyed (key z3))) (depth (g z3)) (v z3))
   number =
-      d .count-below .ensures ∙ ap (λ v. length (below (S z3) fnv (withNew (from b3) (keyed (key z3))) (depth (from b3)) v)) (prefix t3)
+      d .count-below .ensures .0 ∙ ap (λ v. length (below (S z3) fnv (withNew (from b3) (keyed (key z3))) (depth (from b3)) v)) (prefix t3)
       ∙ ap (λ g. length (below (S z3) fnv (withNew g (keyed (key z3))) (depth g) (top (depth g) (fnv (key z3))))) (copied b3)
+
+  -- and their counts
+  abbrev counts : List ℕ
+  counts = d .before .before .before .before .before .before .before .read-counts .last .1 .0
+
+  array : length counts ≡ 14
+  array = d .before .before .before .before .before .before .before .read-counts .ensures .0
+
+  read : SameCounts (s z3) counts
+  read = d .before .before .before .before .before .before .before .read-counts .ensures .1
+
+  abbrev counts′ : List ℕ
+  counts′ = d .count-below .last .1 .1 .1 .1 .1 .1 .1 .0
+
+  counted : CountedBelow (S z3) fnv (withNew (g z3) (keyed (key z3))) (depth (g z3)) (v z3) counts counts′
+  counted =
+      subst (λ g. CountedBelow (S z3) fnv (withNew g (keyed (key z3))) (depth g) (top (depth g) (fnv (key z3))) counts counts′) (copied b3)
+      (subst (λ v. CountedBelow (S z3) fnv (withNew (from b3) (keyed (key z3))) (depth (from b3)) v counts counts′) (prefix t3) (d .count-below .ensures .1))
 
   fine : needs (rowsOf fnv (withNew (g z3) (keyed (key z3))) (S z3 .deepest) (top (S z3 .deepest) (fnv (key z3)))) ≤ S z3 .capacity
   fine = let l = t3 .before .before in omega (arith, weight (l .before .before), l .if1 .left)
@@ -146,7 +168,7 @@ module _ (d : tie.After-count-below) where
 -- THE ROOM TEST: after it a page is free at every step
 module _ (w : tie.Else2) where
   abbrev d4 : tie.After-count-below
-  d4 = w .before .before .before
+  d4 = w .before .before .before .before .before
 
   abbrev z4 : tie.Start
   z4 = z3 d4
@@ -161,13 +183,13 @@ module _ (w : tie.Else2) where
       (omega (arith, as-many (S z4) fnv fnv-lt (s z4) (p z4) (i z4) (key z4) (place z4) (C z4) (fine d4), number d4, w .before .free-pages .ensures .0, w .if2 .left))
 
 add-size : tie.Need-add-size
-add-size c = omega (arith, inside (c .before .before .before .before .before .before .before))
+add-size c = omega (arith, inside (c .before .before .before .before .before .before .before .before))
 
 mul-a : tie.Need-mul-a
-mul-a c = omega (arith, inside (c .before .before .before .before .before .before .before))
+mul-a c = omega (arith, inside (c .before .before .before .before .before .before .before .before))
 
 add-e : tie.Need-add-e
-add-e c = omega (arith, inside (c .before .before .before .before .before .before .before))
+add-e c = omega (arith, inside (c .before .before .before .before .before .before .before .before))
 
 sub-copy-at : tie.Need-sub-copy-at
 sub-copy-at c = search Needs.needs
@@ -176,11 +198,11 @@ part-copy-at-start : tie.Need-part-copy-at-start
 part-copy-at-start c = search Needs.needs
 
 part-copy-at-end : tie.Need-part-copy-at-end
-part-copy-at-end c = omega (arith, inside (c .before .before .before .before .before .before .before .before .before))
+part-copy-at-end c = omega (arith, inside (c .before .before .before .before .before .before .before .before .before .before))
 
 copy-at-requires : tie.Need-copy-at-requires
 copy-at-requires c κs =
-    let z = c .before .before .before .before .before .before .before .before .before .before in
+    let z = c .before .before .before .before .before .before .before .before .before .before .before in
     omega (arith, z .pre .1 .page, ap length (page-lent (S z) (s z) (p z)) ∙ long z)
 
 gather-requires : tie.Need-gather-requires
@@ -237,44 +259,55 @@ cast-k c = let b = b0 (g1 (c .before .before .before)) in record { fits = omega 
 top-bits-requires-2 : tie.Need-top-bits-requires-2
 top-bits-requires-2 c κs = let b = b0 (g1 (c .before .before .before)) in omega (arith, low b, twelve-at-most (z0 b))
 
+read-counts-requires : tie.Need-read-counts-requires
+read-counts-requires c κs = let z = z0 (b2 (c .before .before)) in (omega (arith, inside z, C z .row .row .sized .least), z .pre .1 .counts)
+
 count-below-requires : tie.Need-count-below-requires
 count-below-requires c κs =
-    let t = c .before .before .before in
-    let b = b2 t in (
-      g2 t .gather .ensures,
-      record {
-        sized = C (z0 b) .row .row .sized;
+    let t = c .before .before .before .before .before .before .before .before .before in
+    let b = b2 t in
+    let z = z0 b in
+    let r = c .before .before .before .before .before .before .read-counts in
+    record {
+      weighed = g2 t .gather .ensures;
+      prefix = record {
+        sized = C z .row .row .sized;
         deep = low b;
-        bits = subst (λ v. v < 2 ^ depth (from b)) (sym (prefix t)) (top-lt (fnv (key (z0 b))) (depth (from b)) (fnv-lt (key (z0 b))));
-      },
-    )
+        bits = subst (λ v. v < 2 ^ depth (from b)) (sym (prefix t)) (top-lt (fnv (key z)) (depth (from b)) (fnv-lt (key z)));
+      };
+      array = r .ensures .0;
+      few = few-counted (S z) fnv fnv-lt (s z) (p z) (i z) (key z) (place z) (C z) (r .last .1 .0) (r .ensures .0) (r .ensures .1) _ (below-most (S z) fnv (withNew (from b) (keyed (key z))) (depth (from b)) (t .top-bits2 .result));
+    }
 
 free-pages-requires : tie.Need-free-pages-requires
 free-pages-requires c κs =
-    let z = z3 (c .before) in
+    let z = z3 (c .before .before .before) in
     let P = C z .row .row in
     (long-pages (S z) (P .sized) fnv fnv-lt (s z) (P .accepted), omega (arith, P .accepted .long .least))
 
 add-if2 : tie.Need-add-if2
 add-if2 c =
-    let P = C (z3 (c .before .before)) .row .row in
+    let P = C (z3 (c .before .before .before .before)) .row .row in
     omega (arith, c .free-pages .ensures .1, P .accepted .long .most, P .sized .whole, P .sized .most)
 
 same-length-5 : tie.Need-same-length-5
 same-length-5 c = search Needs.needs
 
 same-length-6 : tie.Need-same-length-6
-same-length-6 c = lent-page (t3 (c .before .before .before))
+same-length-6 c = lent-page (t3 (c .before .before .before .before .before))
 
 same-length-7 : tie.Need-same-length-7
-same-length-7 c = search Needs.needs
+same-length-7 c = lent-hashes (t3 (c .before .before .before .before .before))
 
 same-length-8 : tie.Need-same-length-8
-same-length-8 c = search Needs.needs
+same-length-8 c = lent-needs (t3 (c .before .before .before .before .before))
+
+same-length-9 : tie.Need-same-length-9
+same-length-9 c = c .before .before .before .before .tallies2 .given ∙ c .before .before .before .before .before .before .before .before .before .before .before .tallies .given
 
 returns-2 : tie.Need-returns-2
 returns-2 c =
-    let d = c .before .before .before in
+    let d = c .before .before .before .before .before in
     let z = z3 d in
     heavy-seven (S z) fnv fnv-lt (s z) (p z) (i z) (key z) (place z) (C z) (fine d) (omega (arith, number d, c .before .free-pages .ensures .0, c .if2 .taken))
 
@@ -376,42 +409,74 @@ write-below-requires c κs =
           (writable-then (S z) fnv fnv-lt (s z) (p z) (i z) (key z) (place z) (C z) f (room w) (s₁ y) (freed y)));
     }
 
-settle-depth-requires : tie.Need-settle-depth-requires
-settle-depth-requires c κs =
-    let x = c .before .before .before in
+-- and their counts
+write-split-requires : tie.Need-write-split-requires
+write-split-requires c κs =
+    let x = c .before .before .before .before in
     let z = z7 x in
     let w = w7 x in
-    let P = C z .row .row in
+    let d = d4 w in
+    subst (λ g. SplitCounted (t7 x) (depth g) (counts′ d)) (sym (copied (b3 d)))
+    (split-counted (S z) fnv fnv-lt (s z) (p z) (i z) (key z) (place z) (C z) (fine d) (room w) (s₁ (y7 x)) (freed (y7 x)) (t7 x) (x .write-below .result) (wrote x) (counts d) (array d) (read d) (counts′ d) (counted d))
+
+module _ (r : tie.After-write-split) where
+  abbrev x8 : tie.After-write-below
+  x8 = r .before .before .before .before .before
+
+  abbrev z8 : tie.Start
+  z8 = z7 x8
+
+  abbrev d8 : tie.After-count-below
+  d8 = d4 (w7 x8)
+
+  abbrev t8 : List ℕ
+  t8 = r .write-split .last .0
+
+  recounted : Recounted (S z8) (t7 x8) t8
+  recounted = split-recounted (S z8) fnv fnv-lt (s z8) (p z8) (i z8) (key z8) (place z8) (C z8) (fine d8) (room (w7 x8)) (s₁ (y7 x8)) (freed (y7 x8)) (t7 x8) (x8 .write-below .result) (wrote x8) (counts d8) (array d8) (read d8) (counts′ d8) (counted d8) t8
+      (subst (λ g. CountsNow (t7 x8) (le32 (t7 x8) 24 + 1) (oneLess (counts′ d8) (1 + depth g)) t8) (copied (b3 d8)) (r .write-split .ensures))
+
+settle-depth-requires : tie.Need-settle-depth-requires
+settle-depth-requires c κs =
+    let r = c .before .before .before .before .before in
+    let x = x8 r in
+    let z = z7 x in
+    let w = w7 x in
     let f = fine (d4 w) in
     let n = x .write-below .result in
-    let q = depth-read (m6 (y7 x)) in (
-      record {
-        sized = P .sized;
-        pages = settling (S z) (P .sized) fnv fnv-lt (s z) (P .accepted) (t7 x) (split-kept (S z) fnv fnv-lt (s z) (p z) (i z) (key z) (place z) (C z) f (room w) (s₁ (y7 x)) (freed (y7 x)) (t7 x) n (wrote x));
-      },
-      (λ e. subst (λ d. Directed (S z) fnv (t7 x) d (pages (S z) (s z)) (t7 x)) (sym q)
-          (split-directed (S z) fnv fnv-lt (s z) (p z) (i z) (key z) (place z) (C z) f (room w) (s₁ (y7 x)) (freed (y7 x)) (t7 x) n (wrote x) (e ∙ q))),
-    )
-
-same-length-9 : tie.Need-same-length-9
-same-length-9 c = search Needs.needs
+    let q = depth-read (m6 (y7 x)) in
+    let B = split-settleable (S z) fnv fnv-lt (s z) (p z) (i z) (key z) (place z) (C z) f (room w) (s₁ (y7 x)) (freed (y7 x)) (t7 x) n (wrote x) (t8 r) (recounted r) in
+    record {
+      store = B;
+      limit = twelve-at-most z;
+      low = deep-most (S z) (t8 r) (pages (S z) (s z)) (B .pages);
+      named = λ e. subst (λ d. Directed (S z) fnv (t8 r) d (pages (S z) (s z)) (t8 r)) (sym q)
+          (split-directed-then (S z) fnv fnv-lt (s z) (p z) (i z) (key z) (place z) (C z) f (room w) (s₁ (y7 x)) (freed (y7 x)) (t7 x) n (wrote x) (t8 r) (recounted r) (e ∙ q));
+    }
 
 same-length-10 : tie.Need-same-length-10
-same-length-10 c = lent-page (t3 (d4 (w7 (c .before .before .before .before .before .before))))
+same-length-10 c = search Needs.needs
 
 same-length-11 : tie.Need-same-length-11
-same-length-11 c = lent-hashes (t3 (d4 (w7 (c .before .before .before .before .before .before))))
+same-length-11 c = lent-page (t3 (d8 (c .before .before .before .before .before .before .before .before)))
 
 same-length-12 : tie.Need-same-length-12
-same-length-12 c = lent-needs (t3 (d4 (w7 (c .before .before .before .before .before .before))))
+same-length-12 c = lent-hashes (t3 (d8 (c .before .before .before .before .before .before .before .before)))
+
+same-length-13 : tie.Need-same-length-13
+same-length-13 c = lent-needs (t3 (d8 (c .before .before .before .before .before .before .before .before)))
+
+same-length-14 : tie.Need-same-length-14
+same-length-14 c = let w = w7 (x8 (c .before .before .before .before .before .before .before .before)) in c .before .before .before .before .before .tallies3 .given ∙ w .before .before .before .before .tallies2 .given ∙ w .before .before .before .before .before .before .before .before .before .before .before .tallies .given
 
 returns-3 : tie.Need-returns-3
 returns-3 c =
-    let x = c .before .before .before .before .before .before in
+    let r = c .before .before .before .before .before .before .before .before in
+    let x = x8 r in
     let z = z7 x in
     let w = w7 x in
-    heavy-new (S z) fnv fnv-lt (s z) (p z) (i z) (key z) (place z) (C z) (fine (d4 w)) (room w) (s₁ (y7 x)) (freed (y7 x)) (t7 x) (x .write-below .result) (wrote x)
-    (c .before .before .settle-depth .last .0) (c .before .before .settle-depth .ensures) (λ k. (c .slice-known11 .given k) .fits)
+    heavy-new (S z) fnv fnv-lt (s z) (p z) (i z) (key z) (place z) (C z) (fine (d4 w)) (room w) (s₁ (y7 x)) (freed (y7 x)) (t7 x) (x .write-below .result) (wrote x) (t8 r) (recounted r)
+    (c .before .before .settle-depth .last .0) (c .before .before .settle-depth .ensures) (λ k. (c .slice-known16 .given k) .fits)
 
 pub split-spec : {M : Type 1} → statement M
 split-spec =
@@ -438,6 +503,7 @@ split-spec =
     slice-read-k
     cast-k
     top-bits-requires-2
+    read-counts-requires
     count-below-requires
     free-pages-requires
     add-if2
@@ -445,15 +511,18 @@ split-spec =
     same-length-6
     same-length-7
     same-length-8
+    same-length-9
     returns-2
     get32-requires
     cast-name-prefix
     name-prefix-requires
     cast-write-below
     write-below-requires
+    write-split-requires
     settle-depth-requires
-    same-length-9
     same-length-10
     same-length-11
     same-length-12
+    same-length-13
+    same-length-14
     returns-3)

@@ -18,6 +18,7 @@ use Rattle.partition.proofs.Sizes.{twelve}
 use Rattle.partition.proofs.Tree.{pfx}
 use Rattle.store.specs.Accepted.{Calls}
 use Rattle.store.specs.Pages.{size, page, dirDepth, entryAt, contents, setPage}
+use Rattle.counts.specs.Tallies.{BucketsCounted}
 use Rattle.removal.specs.Join.{Taking, Gathered, PageTaking, Used, Prefixed, othersIn, rowsAt}
 use Rattle.removal.proofs.Prefixes.{page-there}
 use Rattle.removal.proofs.Empties.{Taken, taken-none, entry-there, taken-skip, page-taking, taken-next, taken-emptied, taken-all, taken-low}
@@ -25,10 +26,10 @@ use Rattle.removal.proofs.join.gather.Statement.{statement}
 use Rattle.removal.proofs.join.gather.Tie as tie
 
 abbrev Inv-loop : tie.InvT-loop
-Inv-loop to₀ s₀ z n x j key d end i₀ low₀ to s i low = (i₀ ≤ i) × Taken z fnv s₀ n x j key to₀ i low to s
+Inv-loop to₀ s₀ z n x j key tallies₀ d end i₀ low₀ to s tallies i low = (i₀ ≤ i) × Taken z fnv s₀ n x j key to₀ i low to s × BucketsCounted (contents z s) tallies
 
 abbrev μ-loop : tie.MeasureT-loop
-μ-loop to₀ s₀ z n x j key d end i₀ low₀ to s i low = end - i
+μ-loop to₀ s₀ z n x j key tallies₀ d end i₀ low₀ to s tallies i low = end - i
 
 -- what is given
 module _ (z : tie.Start Inv-loop μ-loop) where
@@ -45,7 +46,7 @@ module _ (z : tie.Start Inv-loop μ-loop) where
   onto = now (z .args .to)
 
   P : Prefixed S fnv s (z .args .n) (z .args .x) (z .args .j)
-  P = z .pre .0 .prefix
+  P = z .pre .0 .joinable .prefix
 
   taking : Taking onto (othersIn fnv (z .args .j) (top (z .args .j) (z .args .x)) key (contents S s))
   taking = z .pre .1
@@ -56,7 +57,7 @@ module _ (z : tie.Start Inv-loop μ-loop) where
 -- the run
 module _ (r : tie.After-run-of Inv-loop μ-loop) where
   abbrev z₁ : tie.Start Inv-loop μ-loop
-  z₁ = r .before .before .before .before .before .before
+  z₁ = r .before .before .before .before .before .before .before
 
   abbrev d : ℕ
   d = dirDepth (s z₁)
@@ -124,19 +125,19 @@ module _ (g : tie.After-get322 Inv-loop μ-loop) where
       ∙ le32-same (s z₃) (t b₃) (size (S z₃) + 4 * i b₃) (λ m l. K b₃ .start (size (S z₃) + 4 * i b₃ + m) (omega (arith, entry b₃, P z₃ .sized .whole)))
 
 get32-requires : tie.Need-get32-requires Inv-loop μ-loop
-get32-requires c κs = let z = c .before .before .before .before in omega (arith, two z, P z .sized .least)
+get32-requires c κs = let z = c .before .before .before .before .before in omega (arith, two z, P z .sized .least)
 
 cast-d : tie.Need-cast-d Inv-loop μ-loop
 cast-d c = omega (arith, c .get32 .ensures .1)
 
 run-of-requires : tie.Need-run-of-requires Inv-loop μ-loop
 run-of-requires c κs =
-    let z = c .before .before .before .before .before in
+    let z = c .before .before .before .before .before .before in
     let e : c .get32 .result ≡ dirDepth (s z) = c .get32 .ensures .0 in
     (omega (arith, e, P z .bits), omega (arith, e, P z .deep, twelve (S z) (P z .sized)))
 
 loop-holds : tie.Need-loop-holds Inv-loop μ-loop
-loop-holds c = let z = z₁ c in (omega arith, taken-none (S z) fnv (s z) (z .args .n) (z .args .x) (j c) (P z) (key z) (onto z) (c .run-of .result .from) (begins c) (taking z))
+loop-holds c = let z = z₁ c in (omega arith, taken-none (S z) fnv (s z) (z .args .n) (z .args .x) (j c) (P z) (key z) (onto z) (c .run-of .result .from) (begins c) (taking z), z .pre .0 .counted)
 
 add-get32 : tie.Need-add-get32 Inv-loop μ-loop
 add-get32 c = omega (arith, P (z₂ (c .before .before)) .sized .most)
@@ -176,26 +177,29 @@ module _ (h : tie.Then1 Inv-loop μ-loop) where
 
 take-page-requires : tie.Need-take-page-requires Inv-loop μ-loop
 take-page-requires c κs =
-    let h = c .before .before in
+    let h = c .before .before .before in
     let b = b₄ h in
-    let z = z₄ h in
-    subst (λ m. PageTaking (S z) (b .before .loop .to) (t b) m (key z)) (sym (its (g₄ h)))
-    (page-taking (S z) fnv (s z) (z .args .n) (z .args .x) (j (r₂ b)) (P z) (key z) (onto z) (i b) (b .before .loop .low) (b .before .loop .to) (t b) (K b) (calls b) (in-use h) (taking z))
+    let z = z₄ h in (
+      subst (λ m. PageTaking (S z) (b .before .loop .to) (t b) m (key z)) (sym (its (g₄ h)))
+          (page-taking (S z) fnv (s z) (z .args .n) (z .args .x) (j (r₂ b)) (P z) (key z) (onto z) (i b) (b .before .loop .low) (b .before .loop .to) (t b) (K b) (calls b) (in-use h) (taking z)),
+      b .before .loop .inv .2,
+    )
 
 loop-less : tie.Need-loop-less Inv-loop μ-loop
-loop-less c = omega (arith, b₄ (c .before .before .before .before .before .before .before) .loop-test .taken)
+loop-less c = omega (arith, b₄ (c .before .before .before .before .before .before .before .before .before .before) .loop-test .taken)
 
 loop-again : tie.Need-loop-again Inv-loop μ-loop
 loop-again c =
-    let k = c .before .before .before .before .take-page in
-    let h = c .before .before .before .before .before .before .before in
+    let k = c .before .before .before .before .before .before .take-page in
+    let h = c .before .before .before .before .before .before .before .before .before .before in
     let b = b₄ h in
     let z = z₄ h in
     let q = b .before .loop .to in (
       omega (arith, b .before .loop .inv .0),
       subst (Taken (S z) fnv (s z) (z .args .n) (z .args .x) (j (r₂ b)) (key z) (onto z) (i b + 1) (k .result) (k .last .0)) (sym (k .ensures .1 .0 ∙ ap (λ m. setPage (S z) (t b) m (replicate (size (S z)) 0)) (its (g₄ h))))
           (taken-next (S z) fnv (s z) (z .args .n) (z .args .x) (j (r₂ b)) (P z) (key z) (onto z) (i b) (b .before .loop .low) q (t b) (K b) (calls b) (in-use h) (k .result) (k .last .0)
-          (subst (λ m. Gathered q (cut (key z) (rowsAt (page (S z) (t b) m))) (k .last .0)) (its (g₄ h)) (k .ensures .0)) (k .ensures .1 .1 ∙ ap (min (b .before .loop .low)) (its (g₄ h)))),
+          (subst (λ m. Gathered q (cut (key z) (rowsAt (page (S z) (t b) m))) (k .last .0)) (its (g₄ h)) (k .ensures .0)) (k .ensures .1 .1 .1 ∙ ap (min (b .before .loop .low)) (its (g₄ h)))),
+      k .ensures .1 .1 .0,
     )
 
 loop-less-2 : tie.Need-loop-less-2 Inv-loop μ-loop
@@ -209,6 +213,7 @@ loop-again-2 c =
       omega (arith, b .before .loop .inv .0),
       taken-skip (S z) fnv (s z) (z .args .n) (z .args .x) (j (r₂ b)) (P z) (key z) (onto z) (i b) (b .before .loop .low) (b .before .loop .to) (t b) (K b) (calls b)
           (λ u. says-false {P = Used (S z) (t b) (p g)} (c .before .is-used .result) (c .if1 .left) (c .before .is-used .ensures) (subst (Used (S z) (t b)) (sym (its g)) u)),
+      b .before .loop .inv .2,
     )
 
 same-length : tie.Need-same-length Inv-loop μ-loop
@@ -216,6 +221,9 @@ same-length c = c .before .loop .inv .1 .rest .long
 
 same-length-2 : tie.Need-same-length-2 Inv-loop μ-loop
 same-length-2 c = c .before .loop .inv .1 .long
+
+same-length-3 : tie.Need-same-length-3 Inv-loop μ-loop
+same-length-3 c = c .before .loop .inv .2 .long ∙ sym (c .before .before .before .before .before .before .before .before .before .pre .0 .counted .long)
 
 returns : tie.Need-returns Inv-loop μ-loop
 returns c =
@@ -226,7 +234,7 @@ returns c =
       taken-all (S z) fnv (s z) (z .args .n) (z .args .x) (j r) (P z) (key z) (onto z) (l .i) (l .low) (l .to) (l .s) (l .inv .1) done,
       (
         taken-emptied (S z) fnv (s z) (z .args .n) (z .args .x) (j r) (P z) (key z) (onto z) (l .i) (l .low) (l .to) (l .s) (l .inv .1) done,
-        taken-low (S z) fnv (s z) (z .args .n) (z .args .x) (j r) (P z) (key z) (onto z) (l .i) (l .low) (l .to) (l .s) (l .inv .1) done (z .pre .0 .there),
+        (l .inv .2, taken-low (S z) fnv (s z) (z .args .n) (z .args .x) (j r) (P z) (key z) (onto z) (l .i) (l .low) (l .to) (l .s) (l .inv .1) done (z .pre .0 .joinable .there)),
       ),
     )
 
@@ -253,4 +261,5 @@ gather-spec =
     loop-again-2
     same-length
     same-length-2
+    same-length-3
     returns)

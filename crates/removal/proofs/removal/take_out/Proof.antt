@@ -2,16 +2,21 @@
 use borrow.Author.Needs.{needs}
 use mathlib.Core.List.{_++_, List}
 use mathlib.Core.Path.{_≡_, refl, sym, ap, subst, subst₂, _∙_}
-use Prim.Native.Nat.{ℕ, _+_, _-_, _*_, _≤_, _<_}
+use Prim.Native.Nat.{ℕ, suc, _+_, _-_, _*_, _≤_, _<_}
 use native.Mathlib.Omega.{arith}
 use native.Mathlib.Nat.{mul-le-mul-right}
-use lib.ListN.{take, drop, length, replicate}
+use lib.ListN.{take, drop, length, replicate, length-replicate}
 use denote.Ref.{now}
 use Rattle.ground.specs.Lists.{byte}
 use Rattle.hash.specs.Fnv.{fnv, fnv-lt}
 use Rattle.page.proofs.Sums.{len-of-code}
 use Rattle.page.specs.Steps.{Removed}
 use Rattle.page.specs.Page.{depth, count}
+use Rattle.words.specs.Le.{le32}
+use Rattle.counts.specs.Tallies.{Lowered}
+use Rattle.counts.proofs.Raises.{buckets-read}
+use Rattle.store.proofs.Demands.Said.{rows-few}
+use Rattle.store.proofs.Showing.Showing.{pages-held}
 use Rattle.partition.specs.Bits.{top}
 use Rattle.partition.specs.Partition.{IsBucket}
 use Rattle.store.proofs.Accepted.Rules.{opened}
@@ -22,12 +27,12 @@ use Rattle.partition.specs.declared.Shape.{Shape}
 use Rattle.partition.proofs.Sizes.{twelve}
 use Rattle.store.specs.Pages.{size, pages, Page, page, dirDepth, contents, rowsHeld, setPage}
 use Rattle.store.specs.Demands.{Sized}
-use Rattle.removal.specs.Remove.{Leaving, Fits}
+use Rattle.removal.specs.Remove.{Leaving, Fits, rowsLeft}
 use Rattle.removal.specs.Join.{Joinable, Rejoined}
 use Rattle.removal.specs.Prefix.{Climbed}
-use Rattle.directory.specs.Directory.{Settling, PrefixNamed, Directed, Rewritten}
+use Rattle.directory.specs.Directory.{Settling, PrefixNamed, Directed, Recounted, Rewritten}
 use Rattle.directory.proofs.Settles.{unwritten, settling}
-use Rattle.removal.proofs.Removes.{page-low, page-shallow, its-bucket, climbed-fits, loses, settles, clear-written, clear-kept, clear-then, clear-directed, joinable, low-from, low-to, join-kept, join-then, join-directed}
+use Rattle.removal.proofs.Removes.{page-low, page-shallow, its-bucket, climbed-fits, some-rows, row-less, loses, can-settle, low-then, directed-still, settles, clear-written, clear-kept, clear-then, clear-row, clear-bucket, clear-recounted, clear-none, clear-directed, joinable, low-from, low-to, join-kept, join-then, join-directed, join-recounted, join-none}
 use Rattle.store.proofs.Paging.Depths.{page-byte}
 use Rattle.store.proofs.Paging.Views.{page-lent, page-back}
 use Rattle.removal.proofs.removal.take_out.Statement.{statement}
@@ -171,17 +176,33 @@ module _ (e : tie.After-get32) where
 get32-requires : tie.Need-get32-requires
 get32-requires c κs = let z = z₁ (c .before) in omega (arith, inside z, mul-le-mul-right (size (S z)) (L z .from), sized z .least)
 
+rows-counted-requires : tie.Need-rows-counted-requires
+rows-counted-requires c κs = let z = z₁ (c .before .before .before .before) in omega (arith, inside z, mul-le-mul-right (size (S z)) (L z .from), sized z .least)
+
+slice-aggregate-read-counts : tie.Need-slice-aggregate-read-counts
+slice-aggregate-read-counts c = search needs
+
+read-counts-requires : tie.Need-read-counts-requires
+read-counts-requires c κs = let z = z₁ (c .before .before .before .before .before .before .before) in (omega (arith, inside z, mul-le-mul-right (size (S z)) (L z .from), sized z .least), length-replicate {A = ℕ} 14 0)
+
+slice-aggregate-join-lent : tie.Need-slice-aggregate-join-lent
+slice-aggregate-join-lent c = search needs
+
 join-lent-requires : tie.Need-join-lent-requires
 join-lent-requires c κs =
-    let b = b₃ (c .before .before) in
+    let b = b₃ (c .before .before .before .before .before .before .before .before .before) in
     let z = z₁ b in
-    subst (λ x. Joinable (S z) fnv (s z) (n z) x (j b) (key z)) (sym (z .pre .1))
-    (joinable (S z) (sized z) fnv fnv-lt (s z) (p z) (z .args .i) (key z) (L z) (j b) (fits b) (less b (c .before .if1 .taken)))
+    let r = c .before .before .before .read-counts in
+    record {
+      joinable = subst (λ x. Joinable (S z) fnv (s z) (n z) x (j b) (key z)) (sym (z .pre .1))
+          (joinable (S z) (sized z) fnv fnv-lt (s z) (p z) (z .args .i) (key z) (L z) (j b) (fits b) (less b (c .before .before .before .before .before .before .before .before .if1 .taken)));
+      counted = buckets-read (S z) (s z) (r .last .1 .0) (opened (S z) fnv (s z) (L z .accepted) .counts) (r .ensures .0) (r .ensures .1);
+    }
 
 -- the rows joined
 module _ (e : tie.After-join-lent) where
   abbrev d₄ : tie.After-get32
-  d₄ = e .before .before .before
+  d₄ = e .before .before .before .before .before .before .before .before .before .before
 
   abbrev b₄ : tie.After-climb
   b₄ = b₃ d₄
@@ -196,10 +217,10 @@ module _ (e : tie.After-join-lent) where
   v₄ = top (j b₄) (fnv (key z₄))
 
   fewer : j b₄ < depth (g z₄)
-  fewer = less b₄ (e .before .before .if1 .taken)
+  fewer = less b₄ (e .before .before .before .before .before .before .before .before .before .if1 .taken)
 
   rejoined : Rejoined (S z₄) fnv (s z₄) (n z₄) (j b₄) v₄ (key z₄) low (e .join-lent .last .0)
-  rejoined = subst (λ x. Rejoined (S z₄) fnv (s z₄) (n z₄) (j b₄) (top (j b₄) x) (key z₄) low (e .join-lent .last .0)) (z₄ .pre .1) (e .join-lent .ensures)
+  rejoined = subst (λ x. Rejoined (S z₄) fnv (s z₄) (n z₄) (j b₄) (top (j b₄) x) (key z₄) low (e .join-lent .last .0)) (z₄ .pre .1) (e .join-lent .ensures .0)
 
   its-low : (2 ≤ low) × (low < pages (S z₄) (s z₄))
   its-low = (
@@ -210,7 +231,7 @@ module _ (e : tie.After-join-lent) where
 -- and the page named
 module _ (y : tie.After-name-prefix) where
   abbrev e₅ : tie.After-join-lent
-  e₅ = y .before .before .before .before
+  e₅ = y .before .before .before .before .before
 
   abbrev z₅ : tie.Start
   z₅ = z₄ e₅
@@ -230,11 +251,11 @@ module _ (y : tie.After-name-prefix) where
   kept = join-kept (S z₅) (sized z₅) fnv fnv-lt (s z₅) (p z₅) (z₅ .args .i) (key z₅) (L z₅) (j b₅) (fits b₅) (fewer e₅) (rejoined e₅) named
 
 cast-name-prefix : tie.Need-cast-name-prefix
-cast-name-prefix c = let d = d₄ (c .before .before .before) in omega (arith, deep-low d, twelve (S (z₃ d)) (sized (z₃ d)))
+cast-name-prefix c = let d = d₄ (c .before .before .before .before) in omega (arith, deep-low d, twelve (S (z₃ d)) (sized (z₃ d)))
 
 name-prefix-requires : tie.Need-name-prefix-requires
 name-prefix-requires c κs =
-    let e = c .before .before .before in
+    let e = c .before .before .before .before in
     let z = z₄ e in
     let d = d₄ e in
     let two : 2 * size (S z) ≤ p z * size (S z) = mul-le-mul-right (size (S z)) (L z .from) in (
@@ -247,28 +268,82 @@ name-prefix-requires c κs =
       },
     )
 
+slice-aggregate-write-counted : tie.Need-slice-aggregate-write-counted
+slice-aggregate-write-counted c = search needs
+
+-- a row less
+module _ (y : tie.After-name-prefix) where
+  abbrev r₅ : tie.After-rows-counted
+  r₅ = e₅ y .before .before .before .before .before .before .before
+
+  rows-read : r₅ .rows-counted .result ≡ le32 (s (z₅ y)) 24
+  rows-read = r₅ .rows-counted .ensures
+
+  some : le32 (s (z₅ y)) 24 ≡ suc (length (rowsLeft (S (z₅ y)) (s (z₅ y)) (key (z₅ y))))
+  some = some-rows (S (z₅ y)) (sized (z₅ y)) fnv fnv-lt (s (z₅ y)) (p (z₅ y)) (z₅ y .args .i) (key (z₅ y)) (L (z₅ y)) (j (b₅ y)) (fits (b₅ y))
+
+sub-write-counted : tie.Need-sub-write-counted
+sub-write-counted c = let y = c .before .before .before .before in omega (arith, rows-read y, some y)
+
+write-counted-requires : tie.Need-write-counted-requires
+write-counted-requires c κs =
+    let y = c .before .before .before .before in
+    let z = z₅ y in
+    let A = L z .accepted in
+    record {
+      room = omega (arith, kept y .long, inside z, mul-le-mul-right (size (S z)) (L z .from), sized z .least);
+      fourteen = e₅ y .join-lent .ensures .1 .long;
+      few = omega (arith, rows-read y, opened (S z) fnv (s z) A .counts .rows, rows-few (S z) fnv (sized z) fnv-lt (s z) A, pages-held (S z) (s z), A .long .most, sized z .whole, sized z .most);
+    }
+
+-- the counts then
+module _ (r : tie.After-write-counted) where
+  abbrev y₈ : tie.After-name-prefix
+  y₈ = r .before .before .before .before .before
+
+  abbrev t₈ : List ℕ
+  t₈ = r .write-counted .last .0
+
+  recounted : Recounted (S (z₅ y₈)) (t₅ y₈) t₈
+  recounted =
+      let z = z₅ y₈ in
+      let b = b₅ y₈ in
+      join-recounted (S z) (sized z) fnv fnv-lt (s z) (p z) (z .args .i) (key z) (L z) (j b) (fits b) (fewer (e₅ y₈)) (rejoined (e₅ y₈)) (named y₈) _ _ t₈ (e₅ y₈ .join-lent .ensures .1) (omega (arith, rows-read y₈)) (r .write-counted .ensures)
+
 settle-depth-requires : tie.Need-settle-depth-requires
 settle-depth-requires c κs =
-    let y = c .before .before .before in
+    let r = c .before .before .before .before in
+    let t = t₈ r in
+    let y = y₈ r in
     let z = z₅ y in
     let b = b₅ y in
-    let q = deep-read (d₄ (e₅ y)) in (
-      record { sized = sized z; pages = settling (S z) (sized z) fnv fnv-lt (s z) (L z .accepted) (t₅ y) (kept y) },
-      (λ _. subst (λ d. Directed (S z) fnv (t₅ y) d (pages (S z) (s z)) (t₅ y)) (sym q)
-          (join-directed (S z) (sized z) fnv fnv-lt (s z) (p z) (z .args .i) (key z) (L z) (j b) (fits b) (fewer (e₅ y)) (rejoined (e₅ y)) (named y))),
-    )
+    let q = deep-read (d₄ (e₅ y)) in
+    record {
+      store = can-settle (S z) (sized z) fnv fnv-lt (s z) (p z) (z .args .i) (key z) (L z) (j b) (fits b) (kept y) (recounted r);
+      limit = omega (arith, deep-low (d₄ (e₅ y)), twelve (S z) (sized z));
+      low = omega (
+        arith,
+        q,
+        low-then (S z) (sized z) fnv fnv-lt (s z) (p z) (z .args .i) (key z) (L z) (j b) (fits b) (kept y) (recounted r)
+            (join-none (S z) (sized z) fnv fnv-lt (s z) (p z) (z .args .i) (key z) (L z) (j b) (fits b) (fewer (e₅ y)) (rejoined (e₅ y)) (named y)),
+      );
+      named = λ _. subst (λ d. Directed (S z) fnv t d (pages (S z) (s z)) t) (sym q)
+          (directed-still (S z) (sized z) fnv fnv-lt (s z) (p z) (z .args .i) (key z) (L z) (j b) (fits b) (kept y) (recounted r)
+          (join-directed (S z) (sized z) fnv fnv-lt (s z) (p z) (z .args .i) (key z) (L z) (j b) (fits b) (fewer (e₅ y)) (rejoined (e₅ y)) (named y)));
+    }
 
 same-length : tie.Need-same-length
 same-length c = search needs
 
 returns : tie.Need-returns
 returns c =
-    let y = c .before .before .before .before .before .before in
+    let r = c .before .before .before .before .before .before .before in
+    let y = y₈ r in
     let z = z₅ y in
     let b = b₅ y in
-    settles (S z) (sized z) fnv fnv-lt (s z) (p z) (z .args .i) (key z) (L z) (j b) (fits b) (kept y)
+    settles (S z) (sized z) fnv fnv-lt (s z) (p z) (z .args .i) (key z) (L z) (j b) (fits b) (kept y) (recounted r)
     (join-then (S z) (sized z) fnv fnv-lt (s z) (p z) (z .args .i) (key z) (L z) (j b) (fits b) (fewer (e₅ y)) (rejoined (e₅ y)) (named y))
-    (c .before .before .settle-depth .ensures) (λ m. (c .slice-known5 .given m) .fits)
+    (c .before .before .settle-depth .ensures) (λ m. (c .slice-known6 .given m) .fits)
 
 sub-get16 : tie.Need-sub-get16
 sub-get16 c = search needs
@@ -366,27 +441,80 @@ name-prefix-requires-2 c κs =
       },
     )
 
-settle-depth-requires-2 : tie.Need-settle-depth-requires-2
-settle-depth-requires-2 c κs =
+lower-requires : tie.Need-lower-requires
+lower-requires c κs =
     let y = c .before .before .before in
     let z = z₇ y in
-    let b = b₇ y in (
-      record { sized = sized z; pages = settling (S z) (sized z) fnv fnv-lt (s z) (L z .accepted) (u₇ y) (kept₇ y) },
-      (λ _. subst (λ d. Directed (S z) fnv (u₇ y) d (pages (S z) (s z)) (u₇ y)) (sym (deep-read (e₆ (k₇ y))))
-          (clear-directed (S z) (sized z) fnv fnv-lt (s z) (p z) (z .args .i) (key z) (L z) (j b) (fits b) (own (d₆ (k₇ y))) (one-row (k₇ y)) (unnamed y))),
-    )
+    let b = b₇ y in
+    clear-row (S z) (sized z) fnv fnv-lt (s z) (p z) (z .args .i) (key z) (L z) (j b) (fits b) (own (d₆ (k₇ y))) (one-row (k₇ y)) (unnamed y)
+
+cast-lower : tie.Need-cast-lower
+cast-lower c = search needs
+
+add-lower : tie.Need-add-lower
+add-lower c = search needs
+
+lower-requires-2 : tie.Need-lower-requires-2
+lower-requires-2 c κs =
+    let y = c .before .before .before .before .before .before .before in
+    let z = z₇ y in
+    let b = b₇ y in
+    let w = c .before .before .before .lower in
+    subst (λ k. (28 + 4 * (1 + k) ≤ length (w .last .0)) × (1 ≤ le32 (w .last .0) (24 + 4 * (1 + k)))) (deep z)
+    (clear-bucket (S z) (sized z) fnv fnv-lt (s z) (p z) (z .args .i) (key z) (L z) (j b) (fits b) (own (d₆ (k₇ y))) (one-row (k₇ y)) (unnamed y) _ (w .ensures))
+
+-- the counts then
+module _ (r : tie.After-lower2) where
+  abbrev y₉ : tie.After-name-prefix2
+  y₉ = r .before .before .before .before .before .before .before .before
+
+  abbrev t₉ : List ℕ
+  t₉ = r .lower2 .last .0
+
+  abbrev w₉ : List ℕ
+  w₉ = r .before .before .before .before .lower .last .0
+
+  recounted₂ : Recounted (S (z₇ y₉)) (u₇ y₉) t₉
+  recounted₂ =
+      let z = z₇ y₉ in
+      let b = b₇ y₉ in
+      clear-recounted (S z) (sized z) fnv fnv-lt (s z) (p z) (z .args .i) (key z) (L z) (j b) (fits b) (own (d₆ (k₇ y₉))) (one-row (k₇ y₉)) (unnamed y₉) w₉ t₉ (r .before .before .before .before .lower .ensures)
+      (subst (λ k. Lowered w₉ (1 + k) t₉) (sym (deep z)) (r .lower2 .ensures))
+
+settle-depth-requires-2 : tie.Need-settle-depth-requires-2
+settle-depth-requires-2 c κs =
+    let r = c .before .before .before in
+    let t = t₉ r in
+    let y = y₉ r in
+    let z = z₇ y in
+    let b = b₇ y in
+    let q = deep-read (e₆ (k₇ y)) in
+    record {
+      store = can-settle (S z) (sized z) fnv fnv-lt (s z) (p z) (z .args .i) (key z) (L z) (j b) (fits b) (kept₇ y) (recounted₂ r);
+      limit = omega (arith, deep-low (e₆ (k₇ y)), twelve (S z) (sized z));
+      low = omega (
+        arith,
+        q,
+        low-then (S z) (sized z) fnv fnv-lt (s z) (p z) (z .args .i) (key z) (L z) (j b) (fits b) (kept₇ y) (recounted₂ r)
+            (clear-none (S z) (sized z) fnv fnv-lt (s z) (p z) (z .args .i) (key z) (L z) (j b) (fits b) (own (d₆ (k₇ y))) (one-row (k₇ y)) (unnamed y)),
+      );
+      named = λ _. subst (λ d. Directed (S z) fnv t d (pages (S z) (s z)) t) (sym q)
+          (directed-still (S z) (sized z) fnv fnv-lt (s z) (p z) (z .args .i) (key z) (L z) (j b) (fits b) (kept₇ y) (recounted₂ r)
+          (clear-directed (S z) (sized z) fnv fnv-lt (s z) (p z) (z .args .i) (key z) (L z) (j b) (fits b) (own (d₆ (k₇ y))) (one-row (k₇ y)) (unnamed y)));
+    }
 
 same-length-2 : tie.Need-same-length-2
 same-length-2 c = search needs
 
 returns-2 : tie.Need-returns-2
 returns-2 c =
-    let y = c .before .before .before .before .before .before in
+    let r = c .before .before .before .before .before .before in
+    let y = y₉ r in
     let z = z₇ y in
     let b = b₇ y in
-    settles (S z) (sized z) fnv fnv-lt (s z) (p z) (z .args .i) (key z) (L z) (j b) (fits b) (kept₇ y)
+    settles (S z) (sized z) fnv fnv-lt (s z) (p z) (z .args .i) (key z) (L z) (j b) (fits b) (kept₇ y) (recounted₂ r)
     (clear-then (S z) (sized z) fnv fnv-lt (s z) (p z) (z .args .i) (key z) (L z) (j b) (fits b) (own (d₆ (k₇ y))) (one-row (k₇ y)) (unnamed y))
-    (c .before .before .settle-depth2 .ensures) (λ m. (c .slice-known8 .given m) .fits)
+    (c .before .before .settle-depth2 .ensures) (λ m. (c .slice-known11 .given m) .fits)
 
 sub-remove-slot : tie.Need-sub-remove-slot
 sub-remove-slot c = search needs
@@ -401,17 +529,40 @@ remove-slot-requires : tie.Need-remove-slot-requires
 remove-slot-requires c κs = let z = z₂ (c .before .before) in
     rw (page-lent (S z) (s z) (p z)) (record { page = L z .rules .rules; within = L z .slot })
 
+-- the page without the record
+module _ (r : tie.After-remove-slot) where
+  abbrev d₉ : tie.After-get16
+  d₉ = r .before .before .before
+
+  abbrev z₉ : tie.Start
+  z₉ = z₂ d₉
+
+  abbrev q₉ : List ℕ
+  q₉ = r .remove-slot .last .0
+
+  out : Removed (g z₉) (z₉ .args .i) q₉
+  out = rw (page-lent (S z₉) (s z₉) (p z₉)) at (r .remove-slot .ensures)
+
+  two-rows : 2 ≤ count (g z₉)
+  two-rows = omega (arith, counted d₉, r .before .before .if2 .left, L z₉ .rules .some)
+
+lower-requires-3 : tie.Need-lower-requires-3
+lower-requires-3 c κs =
+    let r = c .before .before .before in
+    let z = z₉ r in
+    let b = b₂ (d₉ r) in
+    rw (back z (q₉ r)) (row-less (S z) (sized z) fnv fnv-lt (s z) (p z) (z .args .i) (key z) (L z) (j b) (fits b) (own (d₉ r)) (two-rows r) (q₉ r) (out r))
+
 same-length-3 : tie.Need-same-length-3
 same-length-3 c = search needs
 
 returns-3 : tie.Need-returns-3
-returns-3 c = let d = c .before .before .before .before .before in
-    let z = z₂ d in
-    let r = c .before .before .remove-slot in
-    let R : Removed (g z) (z .args .i) (r .last .0) = rw (page-lent (S z) (s z) (p z)) at (r .ensures) in
-    let two : 2 ≤ count (g z) = omega (arith, counted d, c .before .before .before .before .if2 .left, L z .rules .some) in
-    subst (Becomes (S z) fnv (s z) (then z)) (sym (back z (r .last .0)))
-    (loses (S z) (sized z) fnv fnv-lt (s z) (p z) (z .args .i) (key z) (L z) (j (b₂ d)) (fits (b₂ d)) (own d) two (r .last .0) R (λ m. subst (λ y. byte y m < 256) (back z (r .last .0)) ((c .slice-known9 .given m) .fits)))
+returns-3 c =
+    let r = c .before .before .before .before .before .before in
+    let z = z₉ r in
+    let b = b₂ (d₉ r) in
+    loses (S z) (sized z) fnv fnv-lt (s z) (p z) (z .args .i) (key z) (L z) (j b) (fits b) (own (d₉ r)) (two-rows r) (q₉ r) (out r)
+    _ (rw (back z (q₉ r)) at (c .before .before .lower3 .ensures)) (λ m. (c .slice-known13 .given m) .fits)
 
 pub take-out-spec : {M : Type 1} → statement M
 take-out-spec =
@@ -427,9 +578,16 @@ take-out-spec =
     add-climb
     climb-requires
     get32-requires
+    rows-counted-requires
+    slice-aggregate-read-counts
+    read-counts-requires
+    slice-aggregate-join-lent
     join-lent-requires
     cast-name-prefix
     name-prefix-requires
+    slice-aggregate-write-counted
+    sub-write-counted
+    write-counted-requires
     settle-depth-requires
     same-length
     returns
@@ -443,6 +601,10 @@ take-out-spec =
     clear-page-requires
     cast-name-prefix-2
     name-prefix-requires-2
+    lower-requires
+    cast-lower
+    add-lower
+    lower-requires-2
     settle-depth-requires-2
     same-length-2
     returns-2
@@ -450,5 +612,6 @@ take-out-spec =
     part-remove-slot-start
     part-remove-slot-end
     remove-slot-requires
+    lower-requires-3
     same-length-3
     returns-3)

@@ -12,14 +12,14 @@ use Rattle.partition.specs.declared.Shape.{Shape}
 use Rattle.partition.proofs.Sizes.{twelve}
 use Rattle.store.specs.Demands.{Sized}
 use Rattle.store.specs.Pages.{size, pages, dirDepth}
-use Rattle.store.specs.Accepted.{GoodLength, Page0, Page1, Stands, Parted}
+use Rattle.store.specs.Accepted.{GoodLength, Page0From, Page1, Stands, Parted}
 use Rattle.store.proofs.Accepted.Unique.{within}
 use Rattle.store_check.specs.Begun.{AllStand}
 use Rattle.store_check.specs.Directory.{Entries, Ranges, Counted}
 use Rattle.store_check.proofs.Heads.{of-page1, whole-long, begun, standing}
 use Rattle.store_check.proofs.Naming.{room}
 use Rattle.store_check.proofs.Parting.{hashed-all, undivided, level}
-use Rattle.store_check.proofs.Stops.{none-bad, bad-0, bad-1, bad-up, bad-again, bad-last, all-sound}
+use Rattle.store_check.proofs.Stops.{none-bad, bad-0, bad-1, bad-up, bad-again, bad-depth, all-sound}
 use Rattle.store_check.proofs.checks.judge.Statement.{statement}
 use Rattle.store_check.proofs.checks.judge.Tie as tie
 
@@ -38,7 +38,10 @@ module _ (c : tie.After-struct-known) where
   sized = start .pre .sized
 
   abbrev good : GoodLength S store
-  good = start .pre .long
+  good = start .pre .judgeable .long
+
+  abbrev zeros : ℕ
+  zeros = start .args .zeros
 
   three : 2 < pages S store
   three = omega (arith, good .least)
@@ -50,8 +53,8 @@ module _ (c : tie.After-struct-known) where
 abbrev head : tie.Else1 → tie.After-struct-known
 head c = c .before .before
 
-zeroth : (c : tie.Else1) → Page0 (S (head c)) (store (head c))
-zeroth c = says-true {P = Page0 (S (head c)) (store (head c))} (c .before .page0-ok .result) (not-false _ (c .if1 .left)) (c .before .page0-ok .ensures)
+zeroth : (c : tie.Else1) → Page0From (zeros (head c)) (S (head c)) (store (head c))
+zeroth c = says-true {P = Page0From (zeros (head c)) (S (head c)) (store (head c))} (c .before .page0-ok .result) (not-false _ (c .if1 .left)) (c .before .page0-ok .ensures)
 
 -- the directory's depth, and how many entries it has
 module _ (c : tie.After-two-to) where
@@ -84,7 +87,7 @@ module _ (c : tie.After-page1-ok) where
   abbrev dir : List ℕ
   dir = c .page1-ok .last .1 .1 .1 .1 .0
 
-  zero : Page0 (S top) (store top)
+  zero : Page0From (zeros top) (S top) (store top)
   zero = zeroth (at .before .before)
 
 -- past page 1
@@ -118,7 +121,7 @@ all-stand : (c : tie.Else3) → let b = base (pass-1 c) in AllStand (S b) (store
 all-stand c =
     let y = pass-1 c in
     let b = base y in
-    standing (S b) (sized b) (store b) (good b) (zero (test (past-1 y))) (stands c)
+    standing (zeros b) (S b) (sized b) (store b) (good b) (zero (test (past-1 y))) (stands c)
 
 -- past pass 2
 abbrev pass-2 : tie.Else5 → tie.After-first-joinable
@@ -137,10 +140,10 @@ div-n : tie.Need-div-n
 div-n c = omega arith
 
 page0-ok-requires : tie.Need-page0-ok-requires
-page0-ok-requires c κs = (sized c, refl, omega (arith, within (S c) (store c) 0 (omega (arith, three c))))
+page0-ok-requires c κs = record { sized = sized c; many = refl; room = omega (arith, within (S c) (store c) 0 (omega (arith, three c))); behind = start c .pre .judgeable .behind; within = start c .pre .judgeable .within }
 
 returns : tie.Need-returns
-returns c = let b = c .before .before in bad-0 (S b) fnv (store b) (good b) (says-false {P = Page0 (S b) (store b)} (c .before .page0-ok .result) (not-true _ (c .if1 .taken)) (c .before .page0-ok .ensures))
+returns c = let b = c .before .before in bad-0 (zeros b) (S b) fnv (store b) (good b) (says-false {P = Page0From (zeros b) (S b) (store b)} (c .before .page0-ok .result) (not-true _ (c .if1 .taken)) (c .before .page0-ok .ensures))
 
 get32-requires : tie.Need-get32-requires
 get32-requires c κs = let b = head c in omega (arith, within (S b) (store b) 0 (omega (arith, three b)), sized b .least)
@@ -168,7 +171,7 @@ same-length c = search needs
 returns-2 : tie.Need-returns-2
 returns-2 c =
     let x = c .before .before .before in
-    bad-1 (S (top x)) fnv (store (top x)) (good (top x)) (zero x) (says-false {P = Page1 (S (top x)) (store (top x))} (x .page1-ok .result) (not-true _ (c .if2 .taken)) (x .page1-ok .ensures .0))
+    bad-1 (zeros (top x)) (S (top x)) fnv (store (top x)) (good (top x)) (zero x) (says-false {P = Page1 (S (top x)) (store (top x))} (x .page1-ok .result) (not-true _ (c .if2 .taken)) (x .page1-ok .ensures .0))
 
 tally-requires : tie.Need-tally-requires
 tally-requires c κs =
@@ -194,7 +197,7 @@ first-unsound-requires c κs =
     let x = test e in
     let b = top x in
     record {
-      begun = begun (S b) (sized b) (store b) (good b) (zero x) (dir x) (deep (at x)) (deep-is (at x)) (decoded e) (ranged e .below) (λ i l. ranged e .beyond i (omega (arith, at x .two-to .ensures)));
+      begun = begun (zeros b) (S b) (sized b) (store b) (good b) (zero x) (dir x) (deep (at x)) (deep-is (at x)) (decoded e) (ranged e .below) (λ i l. ranged e .beyond i (omega (arith, at x .two-to .ensures)));
       counted = until (dir x) _ _ _ _ _ (at x .two-to .ensures) (start b .pre .tables .counts-long) (y .tally .ensures);
       blocks = start b .pre .blocks;
       tab-long = start b .pre .tables .tab-long;
@@ -219,7 +222,7 @@ returns-3 : tie.Need-returns-3
 returns-3 c =
     let y = c .before .before .before .before .before in
     let b = base y in
-    bad-up (S b) fnv (store b) (good b) (zero (test (past-1 y))) (first (past-1 y)) (y .first-unsound .result) (y .first-unsound .ensures .0) (c .if3 .taken)
+    bad-up (zeros b) (S b) fnv (store b) (good b) (zero (test (past-1 y))) (first (past-1 y)) (y .first-unsound .result) (y .first-unsound .ensures .0) (c .if3 .taken)
 
 same-length-6 : tie.Need-same-length-6
 same-length-6 c = search needs
@@ -239,7 +242,7 @@ returns-4 c =
     let y = pass-1 w in
     let b = base y in
     let flat : dirDepth (store b) ≡ 0 = sym (deep-is (at (test (past-1 y)))) ∙ c .if4 .taken in
-    all-sound (S b) fnv (store b) (good b) (zero (test (past-1 y))) (first (past-1 y)) (stands w) (undivided _ _ _ (all-stand w) flat) (level _ _ (all-stand w) flat)
+    all-sound (zeros b) (S b) fnv (store b) (good b) (zero (test (past-1 y))) (first (past-1 y)) (stands w) (undivided _ _ _ (all-stand w) flat) (level _ _ (all-stand w) flat)
 
 first-joinable-requires : tie.Need-first-joinable-requires
 first-joinable-requires c κs =
@@ -269,13 +272,13 @@ returns-5 c =
     let w = after-1 j in
     let y = pass-1 w in
     let b = base y in
-    bad-again (S b) fnv (store b) (good b) (zero (test (past-1 y))) (first (past-1 y)) (stands w) (j .first-joinable .result) (j .first-joinable .ensures) (c .if5 .taken)
+    bad-again (zeros b) (S b) fnv (store b) (good b) (zero (test (past-1 y))) (first (past-1 y)) (stands w) (j .first-joinable .result) (j .first-joinable .ensures) (c .if5 .taken)
 
 deepest-requires : tie.Need-deepest-requires
 deepest-requires c κs =
     let y = pass-1 (after-1 (pass-2 c)) in
     let b = base y in
-    (whole-long (S b) (sized b) (store b) (good b) (zero (test (past-1 y))), omega (arith, three b))
+    (whole-long (zeros b) (S b) (sized b) (store b) (good b) (zero (test (past-1 y))), omega (arith, three b))
 
 cast-if6 : tie.Need-cast-if6
 cast-if6 c = let y = pass-1 (after-1 (pass-2 (c .before))) in record { fits = omega (arith, at (test (past-1 y)) .before .get32 .ensures .1) }
@@ -301,7 +304,7 @@ returns-6 c =
     let w = after-1 (pass-2 z) in
     let y = pass-1 w in
     let b = base y in
-    bad-last (S b) fnv (store b) (good b) (zero (test (past-1 y))) (first (past-1 y)) (stands w) (parted z)
+    bad-depth (zeros b) (S b) fnv (store b) (good b) (zero (test (past-1 y))) (first (past-1 y)) (stands w) (parted z)
     (λ e. c .if6 .taken (c .before .deepest .ensures .0 ∙ sym e ∙ sym (deep-is (at (test (past-1 y))))))
 
 same-length-20 : tie.Need-same-length-20
@@ -325,7 +328,7 @@ returns-7 c =
     let w = after-1 (pass-2 z) in
     let y = pass-1 w in
     let b = base y in
-    all-sound (S b) fnv (store b) (good b) (zero (test (past-1 y))) (first (past-1 y)) (stands w) (parted z)
+    all-sound (zeros b) (S b) fnv (store b) (good b) (zero (test (past-1 y))) (first (past-1 y)) (stands w) (parted z)
     (sym (deep-is (at (test (past-1 y)))) ∙ sym (c .if6 .left) ∙ c .before .deepest .ensures .0)
 
 pub judge-spec : {M : Type 1} → statement M

@@ -23,7 +23,7 @@ slice-aggregate-judge-5 : tie.Need-slice-aggregate-judge-5
 slice-aggregate-judge-5 c = search needs
 
 judge-requires : tie.Need-judge-requires
-judge-requires c κs = fresh S1024 _ _ sized-1024 refl (c .before .before .before .before .before .before .pre)
+judge-requires c κs = fresh S1024 _ _ _ sized-1024 refl (c .before .before .before .before .before .before .pre)
 
 returns : tie.Need-returns
 returns c = search needs

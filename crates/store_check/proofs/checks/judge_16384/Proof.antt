@@ -22,7 +22,7 @@ slice-aggregate-judge-5 : tie.Need-slice-aggregate-judge-5
 slice-aggregate-judge-5 c = search needs
 
 judge-requires : tie.Need-judge-requires
-judge-requires c κs = fresh S16384 _ _ sized-16384 refl (c .before .before .before .before .before .before .pre)
+judge-requires c κs = fresh S16384 _ _ _ sized-16384 refl (c .before .before .before .before .before .before .pre)
 
 returns : tie.Need-returns
 returns c = search needs

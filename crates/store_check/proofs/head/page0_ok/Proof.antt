@@ -72,10 +72,11 @@ returns-7 c =
     let a = c .before .before .before .before .before .before .before .before .before .before .before .before .before .before .before .before .before .before .before in
     let s = a .args .s .now in
     let n = size (a .args .z) in
-    let m : 24 ≤ n = omega (arith, a .pre .0 .least) in
-    says-same {P = Zero (take (n - 24) (drop 24 s))} (c .all-zero .result) (c .all-zero .ensures)
-    (λ z. record { number = omega arith; directory = omega arith; entries = omega arith; first = omega arith; depth = omega arith; size-number = omega arith; rest = lent-zero s 24 n m (a .pre .2) z })
-    (λ g. zero-lent s 24 n m (a .pre .2) (g .rest))
+    let k = a .args .zeros in
+    let m : k ≤ n = omega (arith, a .pre .sized .least, a .pre .within) in
+    says-same {P = Zero (take (n - k) (drop k s))} (c .all-zero .result) (c .all-zero .ensures)
+    (λ z. record { number = omega arith; directory = omega arith; entries = omega arith; first = omega arith; depth = omega arith; size-number = omega arith; rest = lent-zero s k n m (a .pre .room) z })
+    (λ g. zero-lent s k n m (a .pre .room) (g .rest))
 
 pub page0-ok-spec : {M : Type 1} → statement M
 page0-ok-spec =

@@ -1,0 +1,4 @@
+pub mod Alike
+pub mod OldRules
+pub mod Written
+pub mod Laws
