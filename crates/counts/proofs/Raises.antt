@@ -18,7 +18,7 @@ use Rattle.store.specs.Counts.{oneAt, bucketsAt, counted, Counts}
 use Rattle.store.proofs.Counts.Ones.{ones}
 use Rattle.store.proofs.Counts.Words.{counts-word, word-counts, buckets-few}
 use Rattle.store.proofs.Counts.Counted.{set-count}
-use Rattle.counts.specs.Tallies.{BucketsCounted, SameCounts, oneMore, oneLess, Raised, Lowered}
+use Rattle.counts.specs.Tallies.{BucketsCounted, SameCounts, oneMore, oneLess, CountRaised, CountLowered}
 
 -- one count written: the others stay, and so does all around them
 module _ (s t : List ℕ) (i v : ℕ) (l : i < 14) (P : Put32 s (24 + 4 * i) v t) where
@@ -36,7 +36,7 @@ pub word-kept : (s t : List ℕ) → ((k : ℕ) → 24 ≤ k → k < 80 → byte
 word-kept s t b j l = le32-same s t (24 + 4 * j) (λ i m. b (24 + 4 * j + i) (omega arith) (omega arith))
 
 -- one row more on pages of the same depths
-pub counts-more : (S : Shape) (s t u : List ℕ) (gs : List Page) → Counts S s → ((k : ℕ) → 24 ≤ k → k < 80 → byte t k ≡ byte s k) → Raised t 0 u
+pub counts-more : (S : Shape) (s t u : List ℕ) (gs : List Page) → Counts S s → ((k : ℕ) → 24 ≤ k → k < 80 → byte t k ≡ byte s k) → CountRaised t 0 u
     → contents S u ≡ gs → length (rowsIn gs) ≡ length (rowsHeld S s) + 1 → ((k : ℕ) → bucketsAt k gs ≡ bucketsAt k (contents S s)) → Counts S u
 counts-more S s t u gs C b R c r d = word-counts S u word
   where
@@ -61,7 +61,7 @@ inside-both t u w i j v x a b P Q =
     record { len = G .len ∙ F .len; below = λ k l. G .below k l ∙ F .below k l; above = λ k l. G .above k l ∙ F .above k l }
 
 -- one row more, and a bucket of depth k besides
-pub counts-up : (S : Shape) (s t u w : List ℕ) (gs : List Page) (k : ℕ) (rs : List Record) → Counts S s → ((i : ℕ) → 24 ≤ i → i < 80 → byte t i ≡ byte s i) → k ≤ 12 → Raised t 0 u → Raised u (1 + k) w
+pub counts-up : (S : Shape) (s t u w : List ℕ) (gs : List Page) (k : ℕ) (rs : List Record) → Counts S s → ((i : ℕ) → 24 ≤ i → i < 80 → byte t i ≡ byte s i) → k ≤ 12 → CountRaised t 0 u → CountRaised u (1 + k) w
     → contents S w ≡ gs → length (rowsIn gs) ≡ length (rowsHeld S s) + 1 → ((i : ℕ) → bucketsAt i gs ≡ bucketsAt i (contents S s) + oneAt i (bucket k rs)) → Counts S w
 counts-up S s t u w gs k rs C b low R D c r d = word-counts S w word
   where
@@ -78,7 +78,7 @@ counts-up S s t u w gs k rs C b low R D c r d = word-counts S w word
         same = other-count t u 0 _ (omega arith) R (suc i) (λ q. omega (arith, q)) ∙ word-kept s t b (suc i) l ∙ counts-word S s C (suc i) l
 
 -- one row less, and no longer a bucket of depth k
-pub counts-down : (S : Shape) (s t u w : List ℕ) (gs : List Page) (k : ℕ) (rs : List Record) → Counts S s → ((i : ℕ) → 24 ≤ i → i < 80 → byte t i ≡ byte s i) → k ≤ 12 → Lowered t 0 u → Lowered u (1 + k) w
+pub counts-down : (S : Shape) (s t u w : List ℕ) (gs : List Page) (k : ℕ) (rs : List Record) → Counts S s → ((i : ℕ) → 24 ≤ i → i < 80 → byte t i ≡ byte s i) → k ≤ 12 → CountLowered t 0 u → CountLowered u (1 + k) w
     → contents S w ≡ gs → length (rowsIn gs) + 1 ≡ length (rowsHeld S s) → ((i : ℕ) → bucketsAt i gs + oneAt i (bucket k rs) ≡ bucketsAt i (contents S s)) → Counts S w
 counts-down S s t u w gs k rs C b low R D c r d = word-counts S w word
   where

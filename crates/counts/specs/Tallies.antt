@@ -76,12 +76,12 @@ abbrev pub oneLess : List ℕ → ℕ → List ℕ
 oneLess tallies j = set tallies j (getD tallies j 0 - 1)
 
 -- t is s with count j one more
-abbrev pub Raised : List ℕ → ℕ → List ℕ → Type 0
-Raised s j t = Put32 s (24 + 4 * j) (le32 s (24 + 4 * j) + 1) t
+abbrev pub CountRaised : List ℕ → ℕ → List ℕ → Type 0
+CountRaised s j t = Put32 s (24 + 4 * j) (le32 s (24 + 4 * j) + 1) t
 
 -- t is s with count j one less
-abbrev pub Lowered : List ℕ → ℕ → List ℕ → Type 0
-Lowered s j t = Put32 s (24 + 4 * j) (le32 s (24 + 4 * j) - 1) t
+abbrev pub CountLowered : List ℕ → ℕ → List ℕ → Type 0
+CountLowered s j t = Put32 s (24 + 4 * j) (le32 s (24 + 4 * j) - 1) t
 
 -- by the counts r is the largest depth, at most that many bits, of which there is a bucket, or 0 where there is none
 pub record DeepestCounted (s : List ℕ) (most r : ℕ) : Type 0 where

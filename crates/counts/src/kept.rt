@@ -3,7 +3,7 @@ ghost use mathlib.Core.Path.{_≡_};
 ghost use Prim.Native.Nat.{_+_, _*_, _≤_, _<_};
 ghost use lib.ListN.{length};
 ghost use Rattle.words.specs.Le.{le32};
-ghost use Rattle.counts.specs.Tallies.{DeepestCounted, Raised, Lowered};
+ghost use Rattle.counts.specs.Tallies.{DeepestCounted, CountRaised, CountLowered};
 
 // The number of rows.
 pub fn rows_counted(s: &[u8]) -> usize
@@ -31,7 +31,7 @@ pub fn deepest_counted(s: &[u8], most: usize) -> usize
 // Count j is one more.
 pub fn raise(s: &mut [u8], j: usize)
     requires { ⌜ (28 + 4 * j ≤ length (now s)) × (le32 (now s) (24 + 4 * j) + 1 < 4294967296) ⌝ }
-    ensures { λ _. ⌜ Raised (now (s .entry)) j (now (s .exit)) ⌝ }
+    ensures { λ _. ⌜ CountRaised (now (s .entry)) j (now (s .exit)) ⌝ }
 {
     let n = words::get32(s, 24 + 4 * j);
     words::put32(s, 24 + 4 * j, n + 1);
@@ -40,7 +40,7 @@ pub fn raise(s: &mut [u8], j: usize)
 // Count j is one less.
 pub fn lower(s: &mut [u8], j: usize)
     requires { ⌜ (28 + 4 * j ≤ length (now s)) × (1 ≤ le32 (now s) (24 + 4 * j)) ⌝ }
-    ensures { λ _. ⌜ Lowered (now (s .entry)) j (now (s .exit)) ⌝ }
+    ensures { λ _. ⌜ CountLowered (now (s .entry)) j (now (s .exit)) ⌝ }
 {
     let n = words::get32(s, 24 + 4 * j);
     words::put32(s, 24 + 4 * j, n - 1);

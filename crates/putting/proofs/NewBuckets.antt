@@ -48,7 +48,7 @@ use Rattle.store.proofs.Demands.Said.{rows-few}
 use Rattle.store.proofs.Put.PutCases.{unheld-six, unheld-seven, put-unheld-is}
 use Rattle.store.proofs.Put.PutRows.{put-shown}
 use Rattle.store_check.proofs.Naming.{room as room-for}
-use Rattle.counts.specs.Tallies.{Raised}
+use Rattle.counts.specs.Tallies.{CountRaised}
 use Rattle.counts.proofs.Raises.{other-count, word-kept, inside-both, counts-up}
 use Rattle.directory.specs.Directory.{CallsFor, EntryFor, names, PrefixNamed, Directed, Recounted, Rewritten}
 use Rattle.directory.proofs.Frees.{used-page}
@@ -245,7 +245,7 @@ module _ (S : Shape) (h : List ℕ → ℕ) (hash : Hash h) (s : List ℕ) (x : 
         omega (arith, word-kept s t as-was 0 (omega arith), opened S h s A .counts .rows, rows-few S h sized hash s A, pages-held S s, A .long .most, sized .whole, sized .most),
       )
 
-      pub bucket-more : (u : List ℕ) → Raised t 0 u → (28 + 4 * (1 + k) ≤ length u) × (le32 u (24 + 4 * (1 + k)) + 1 < 4294967296)
+      pub bucket-more : (u : List ℕ) → CountRaised t 0 u → (28 + 4 * (1 + k) ≤ length u) × (le32 u (24 + 4 * (1 + k)) + 1 < 4294967296)
       bucket-more u R =
           let q : suc k ≡ 1 + k = omega arith in
           let now : le32 t (24 + 4 * suc k) ≡ bucketsAt k gs = word-kept s t as-was (suc k) (omega (arith, low-k)) ∙ counts-word S s (opened S h s A .counts) (suc k) (omega (arith, low-k)) in (
@@ -253,7 +253,7 @@ module _ (S : Shape) (h : List ℕ → ℕ) (hash : Hash h) (s : List ℕ) (x : 
             omega (arith, other-count t u 0 _ (omega arith) R (1 + k) (λ z. omega (arith, z)), ap (λ j. le32 t (24 + 4 * j)) q, now, buckets-few k gs, pages-held S s, A .long .most, sized .whole, sized .most),
           )
 
-      pub recounted-new : (u w : List ℕ) → Raised t 0 u → Raised u (1 + k) w → Recounted S t w
+      pub recounted-new : (u w : List ℕ) → CountRaised t 0 u → CountRaised u (1 + k) w → Recounted S t w
       recounted-new u w R D =
           let F : Frame t 24 56 w = inside-both t u w 0 (1 + k) _ _ (omega arith) (omega (arith, low-k)) R D in
           let at = find-free gs some in

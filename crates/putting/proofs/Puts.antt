@@ -51,7 +51,7 @@ use Rattle.store.specs.Counts.{bucketsAt, Counts}
 use Rattle.store.proofs.Accepted.Rules.{opened}
 use Rattle.store.proofs.Accepted.Accepting.{Laid, accepted-laid, laid-becomes, recounted}
 use Rattle.store.proofs.Counts.Counted.{over-count, over-rows, same-depth-count}
-use Rattle.counts.specs.Tallies.{Raised}
+use Rattle.counts.specs.Tallies.{CountRaised}
 use Rattle.counts.proofs.Raises.{inside-counts, counts-same, counts-more, word-kept}
 use Rattle.store.proofs.Paging.Views.{page-back, set-below, set-long}
 use Rattle.directory.proofs.OnePage.{laid-set}
@@ -211,7 +211,7 @@ module _ (S : Shape) (h : List ℕ → ℕ) (sized : Sized S) (hash : Hash h) (s
     pub fitted-more : (28 + 4 * 0 ≤ length (setPage S s p q)) × (le32 (setPage S s p q) (24 + 4 * 0) + 1 < 4294967296)
     fitted-more = row-more q (page-now .long ∙ long)
 
-    pub put-fitted : (u : List ℕ) → Raised (setPage S s p q) 0 u → ((k : ℕ) → byte u k < 256) → Answers (putAccepted S h s (newRow c pl)) (new, u)
+    pub put-fitted : (u : List ℕ) → CountRaised (setPage S s p q) 0 u → ((k : ℕ) → byte u k < 256) → Answers (putAccepted S h s (newRow c pl)) (new, u)
     put-fitted u R small =
         let N = page-now in
         let Q : BucketPage q = record { rules = N .page; some = let w = slot-of q new-row there in omega (arith, w .1) } in

@@ -10,11 +10,11 @@ use Rattle.partition.specs.declared.Shape.{Shape}
 use Rattle.store.specs.Pages.{Page, contents, rowsIn, rowsHeld}
 use Rattle.store.specs.Counts.{bucketsAt, counted, Counts}
 use Rattle.store.proofs.Counts.Words.{counts-word, word-counts}
-use Rattle.counts.specs.Tallies.{Lowered}
+use Rattle.counts.specs.Tallies.{CountLowered}
 use Rattle.counts.proofs.Raises.{other-count, word-kept}
 
 -- one row less on pages of the same depths
-pub counts-fewer : (S : Shape) (s t u : List ℕ) (gs : List Page) → Counts S s → ((k : ℕ) → 24 ≤ k → k < 80 → byte t k ≡ byte s k) → Lowered t 0 u
+pub counts-fewer : (S : Shape) (s t u : List ℕ) (gs : List Page) → Counts S s → ((k : ℕ) → 24 ≤ k → k < 80 → byte t k ≡ byte s k) → CountLowered t 0 u
     → contents S u ≡ gs → length (rowsIn gs) + 1 ≡ length (rowsHeld S s) → ((k : ℕ) → bucketsAt k gs ≡ bucketsAt k (contents S s)) → Counts S u
 counts-fewer S s t u gs C b R c r d = word-counts S u word
   where

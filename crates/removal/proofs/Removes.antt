@@ -47,7 +47,7 @@ use Rattle.store.proofs.Accepted.Rules.{opened}
 use Rattle.store.proofs.Counts.Counted.{set-count, same-depth-count}
 use Rattle.store.proofs.Counts.Ones.{ones}
 use Rattle.store.proofs.Counts.Words.{counts-word}
-use Rattle.counts.specs.Tallies.{BucketsCounted, CountsNow, Lowered}
+use Rattle.counts.specs.Tallies.{BucketsCounted, CountsNow, CountLowered}
 use Rattle.counts.proofs.Deepest.{deepest-low, none-above}
 use Rattle.counts.proofs.Raises.{inside-counts, inside-both, other-count, word-kept, counts-down}
 use Rattle.removal.proofs.Lowers.{counts-fewer}
@@ -269,7 +269,7 @@ module _ (S : Shape) (sized : Sized S) (h : List ℕ → ℕ) (hash : Hash h) (s
             omega (arith, e, opened S h s (L .accepted) .counts .rows, one-left),
           )
 
-      pub loses : (u : List ℕ) → Lowered (setPage S s p q) 0 u → ((m : ℕ) → byte u m < 256) → Becomes S h s (removed S h gs c) u
+      pub loses : (u : List ℕ) → CountLowered (setPage S s p q) 0 u → ((m : ℕ) → byte u m < 256) → Becomes S h s (removed S h gs c) u
       loses u D small =
           let F : Frame s₁ 24 56 u = inside-counts s₁ u 0 _ (omega arith) D in
           let M : Laid S h u (removed S h gs c) = recounted S h sized s₁ u (removed S h gs c) F (subst (Laid S h s₁) (sym written)
@@ -362,7 +362,7 @@ module _ (S : Shape) (sized : Sized S) (h : List ℕ → ℕ) (hash : Hash h) (s
         pub clear-row : (28 + 4 * 0 ≤ length u) × (1 ≤ le32 u (24 + 4 * 0))
         clear-row = (omega (arith, room-then), omega (arith, word-kept s u as-was 0 (omega arith), some-rows))
 
-        pub clear-bucket : (w : List ℕ) → Lowered u 0 w → (28 + 4 * (1 + k) ≤ length w) × (1 ≤ le32 w (24 + 4 * (1 + k)))
+        pub clear-bucket : (w : List ℕ) → CountLowered u 0 w → (28 + 4 * (1 + k) ≤ length w) × (1 ≤ le32 w (24 + 4 * (1 + k)))
         clear-bucket w R =
             let e : suc k ≡ 1 + k = omega arith in
             let now : le32 u (24 + 4 * suc k) ≡ bucketsAt k gs = word-kept s u as-was (suc k) (omega (arith, low-k)) ∙ counts-word S s (opened S h s (L .accepted) .counts) (suc k) (omega (arith, low-k)) in (
@@ -376,7 +376,7 @@ module _ (S : Shape) (sized : Sized S) (h : List ℕ → ℕ) (hash : Hash h) (s
         pub clear-none : (m : ℕ) → dirDepth s < m → bucketsAt m (contents S u) ≡ 0
         clear-none m l = omega (arith, one-gone m, not-deeper m l, ap (bucketsAt m) clear-then)
 
-        pub clear-recounted : (w t′ : List ℕ) → Lowered u 0 w → Lowered w (1 + k) t′ → Recounted S u t′
+        pub clear-recounted : (w t′ : List ℕ) → CountLowered u 0 w → CountLowered w (1 + k) t′ → Recounted S u t′
         clear-recounted w t′ R D =
             let E : Frame u 24 56 t′ = inside-both u w t′ 0 (1 + k) _ _ (omega arith) (omega (arith, low-k)) R D in
             record {

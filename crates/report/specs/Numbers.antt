@@ -88,7 +88,7 @@ pub record SoundSheet (ps ls : List ℕ) : Type 0 where
 -- ---- the tally
 
 -- an accepted store beside a sheet's numbers that keep the rules
-pub record Ready (S : Shape) (s ps ls : List ℕ) : Type 0 where
+pub record SheetReady (S : Shape) (s ps ls : List ℕ) : Type 0 where
   pub sized : Sized S
   pub accepted : Accepted S fnv s
   pub sheet : SoundSheet ps ls

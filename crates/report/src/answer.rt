@@ -8,7 +8,7 @@ ghost use Rattle.partition.specs.Listing.{listing};
 ghost use Rattle.partition.specs.Sizes.{shapeOf};
 ghost use Rattle.store.specs.Pages.{rowsHeld};
 ghost use Rattle.report.specs.Report.{limit, reported};
-ghost use Rattle.report.specs.Numbers.{Lowered, Ready, ToldBy, numbersTable};
+ghost use Rattle.report.specs.Numbers.{Lowered, SheetReady, ToldBy, numbersTable};
 use super::tally::add_up;
 use super::tally::sound;
 use super::tally::tally;
@@ -34,7 +34,7 @@ pub fn lower(sum: u64, k: usize) -> i64
 
 // Over a sound sheet, with a clear mark for each row: what no code names is what is left of the sheet.
 fn told(s: &[u8], z: Shape, ranks: &[u64], raised: &[u64], counts: &mut [u8]) -> Outcome
-    requires { ⌜ Ready z (now s) (now ranks) (now raised) × (now counts ≡ replicate (length (now ranks)) 0) ⌝ }
+    requires { ⌜ SheetReady z (now s) (now ranks) (now raised) × (now counts ≡ replicate (length (now ranks)) 0) ⌝ }
     ensures { λ r. ⌜ ToldBy (now (ranks .entry)) (now (raised .entry)) (listing z fnv (rowsHeld z (now (s .entry)))) (now (counts .entry)) (reported r) ⌝ }
 {
     match tally(s, z, ranks, raised, counts) {
@@ -58,7 +58,7 @@ fn told(s: &[u8], z: Shape, ranks: &[u64], raised: &[u64], counts: &mut [u8]) ->
 
 // The same, with marks of its own.
 fn told_fresh(s: &[u8], z: Shape, ranks: &[u64], raised: &[u64]) -> Outcome
-    requires { ⌜ Ready z (now s) (now ranks) (now raised) ⌝ }
+    requires { ⌜ SheetReady z (now s) (now ranks) (now raised) ⌝ }
     ensures { λ r. ⌜ ToldBy (now (ranks .entry)) (now (raised .entry)) (listing z fnv (rowsHeld z (now (s .entry)))) (replicate (length (now (ranks .entry))) 0) (reported r) ⌝ }
 {
     let n = ranks.len();

@@ -7,7 +7,7 @@ ghost use Rattle.hash.specs.Fnv.{fnv};
 ghost use Rattle.partition.specs.Listing.{listing};
 ghost use Rattle.store.specs.Pages.{rowsHeld};
 ghost use Rattle.query.specs.Cursors.{At, Steppable};
-ghost use Rattle.report.specs.Numbers.{RisingNumbers, AtMost, Sound, indexOf, markAt, Ready, Follows, RoomFor, OneMore, Ends, sumOf};
+ghost use Rattle.report.specs.Numbers.{RisingNumbers, AtMost, Sound, indexOf, markAt, SheetReady, Follows, RoomFor, OneMore, Ends, sumOf};
 use super::rows::rank_of;
 use crate::Counted;
 use crate::Ending;
@@ -137,7 +137,7 @@ fn next_place(s: &[u8], z: Shape, c: Cursor) -> Next
 
 // Each row of the listing once: its place found in the sheet, its sheet row marked and counted.
 pub fn tally(s: &[u8], z: Shape, ranks: &[u64], raised: &[u64], counts: &mut [u8]) -> Ending
-    requires { ⌜ Ready z (now s) (now ranks) (now raised) × (length (now counts) ≡ length (now ranks)) ⌝ }
+    requires { ⌜ SheetReady z (now s) (now ranks) (now raised) × (length (now counts) ≡ length (now ranks)) ⌝ }
     ensures { λ r. ⌜ Ends (now (ranks .entry)) (now (raised .entry)) (listing z fnv (rowsHeld z (now (s .entry)))) (now (counts .entry)) r (now (counts .exit)) ⌝ }
 {
     let mut c = query::cursor_at(s, z, 0);

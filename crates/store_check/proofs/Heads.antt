@@ -16,7 +16,7 @@ use Rattle.store.specs.Demands.{Sized}
 use Rattle.store.specs.Pages.{size, pages, dirDepth, entryAt}
 use Rattle.hash.specs.Fnv.{fnv}
 use Rattle.store.specs.Accepted.{GoodLength, Page0From, Page1, Stands}
-use Rattle.store_check.specs.Directory.{Entries, EntriesTo, AllAre, AllBelow, InRange, Ranges}
+use Rattle.store_check.specs.Directory.{Entries, EntriesTo, AllAre, AllBelow, EntriesInRange, Ranges}
 use Rattle.store_check.specs.Begun.{Begun, AllStand}
 
 -- the bytes lent from a up to e
@@ -62,14 +62,14 @@ module _ (S : Shape) (s : List ℕ) (m : ℕ) (sized : Sized S) (few : m ≤ S .
   pub entries-all : (dir : List ℕ) → EntriesTo S s dir m → Behind → Entries S s dir
   entries-all dir e z = record { long = e .long; entry = λ i l. ⊎-elim (λ lt. e .entry i lt) (λ ge. e .beyond i ge ∙ sym (z i l ge)) (side i m) }
 
-  pub ranges-all : (dir : List ℕ) (n : ℕ) → 1 ≤ n → EntriesTo S s dir m → InRange dir n m → Ranges dir n m
+  pub ranges-all : (dir : List ℕ) (n : ℕ) → 1 ≤ n → EntriesTo S s dir m → EntriesInRange dir n m → Ranges dir n m
   ranges-all dir n l e r = record {
     not-one = λ i a b q. ⊎-elim (λ lt. r .not-one i a lt q) (λ ge. omega (arith, e .beyond i ge, q)) (side i m);
     below = λ i a b. ⊎-elim (λ lt. r .below i a lt) (λ ge. omega (arith, e .beyond i ge)) (side i m);
     beyond = λ i a b. e .beyond i a;
   }
 
-pub ranges-some : (dir : List ℕ) (n m : ℕ) → m ≤ length dir → Ranges dir n m → InRange dir n m
+pub ranges-some : (dir : List ℕ) (n m : ℕ) → m ≤ length dir → Ranges dir n m → EntriesInRange dir n m
 ranges-some dir n m l r = record { not-one = λ i a b. r .not-one i a (omega arith); below = λ i a b. r .below i a (omega arith) }
 
 -- page 1, by its entries

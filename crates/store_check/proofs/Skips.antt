@@ -15,7 +15,7 @@ use Rattle.store.proofs.Accepted.Unique.{within, page-long}
 use Rattle.store.proofs.Paging.Depths.{page-byte}
 use Rattle.store.proofs.Paging.Views.{apart}
 use Rattle.store_check.specs.First.{FirstFrom}
-use Rattle.store_check.specs.Begun.{Countable, FreeAndUnnamed}
+use Rattle.store_check.specs.Begun.{SkipAsked, FreeAndUnnamed}
 
 -- so many pages of whole blocks are whole blocks
 whole-blocks : (k m : ℕ) → m % 1024 ≡ 0 → (k * m) % 1024 ≡ 0
@@ -23,7 +23,7 @@ whole-blocks zero m h = ap (λ x. x % 1024) (zero-mul m)
 whole-blocks (suc k) m h = omega (arith, suc-mul k m, whole-blocks k m h)
 
 -- from page p on zeros up to e, as whole blocks: the pages before e's are zero, e's is not
-module _ (S : Shape) (s counts : List ℕ) (p : ℕ) (K : Countable S s counts p) (e : ℕ) (Z : ZeroRun s (p * size S) e) where
+module _ (S : Shape) (s counts : List ℕ) (p : ℕ) (K : SkipAsked S s counts p) (e : ℕ) (Z : ZeroRun s (p * size S) e) where
   abbrev last : ℕ
   last = e / size S
 

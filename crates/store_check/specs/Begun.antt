@@ -37,7 +37,7 @@ pub record Pass1 (S : Shape) (s dir counts : List ℕ) (n d : ℕ) (tab hashes :
   pub no-hashes : Zero hashes
 
 -- page p of a store of pages of whole blocks, and a count for each of its pages
-pub record Countable (S : Shape) (s counts : List ℕ) (p : ℕ) : Type 0 where
+pub record SkipAsked (S : Shape) (s counts : List ℕ) (p : ℕ) : Type 0 where
   pub blocks : size S % 1024 ≡ 0
   pub here : p < pages S s
   pub enough : pages S s ≤ length counts

@@ -20,7 +20,7 @@ pub record Roomy (S : Shape) (s dir : List ℕ) (m : ℕ) : Type 0 where
   pub none : Zero dir
 
 -- the same for a store of n pages, whose directory has m entries
-pub record Numbered (S : Shape) (s dir : List ℕ) (n m : ℕ) : Type 0 where
+pub record PageOneAsked (S : Shape) (s dir : List ℕ) (n m : ℕ) : Type 0 where
   pub room : Roomy S s dir m
   pub number : n ≡ pages S s
   pub least : 3 ≤ n
@@ -62,7 +62,7 @@ pub record Uncounted (dir counts : List ℕ) (m : ℕ) : Type 0 where
   pub none : Zero counts
 
 -- a directory of depth d, its entries counted, and a bucket's page p and depth k
-pub record Tallied (dir counts : List ℕ) (d k p : ℕ) : Type 0 where
+pub record NamingAsked (dir counts : List ℕ) (d k p : ℕ) : Type 0 where
   pub inside : 2 ^ d ≤ length dir
   pub few : d ≤ 12
   pub depth : k ≤ d
@@ -72,7 +72,7 @@ pub record Tallied (dir counts : List ℕ) (d k p : ℕ) : Type 0 where
   pub counted : Counted dir (2 ^ d) (length counts) counts
 
 -- the entries up to m are in range for n pages
-pub record InRange (dir : List ℕ) (n m : ℕ) : Type 0 where
+pub record EntriesInRange (dir : List ℕ) (n m : ℕ) : Type 0 where
   pub not-one : NoneIs dir 0 m 1
   pub below : AllBelow dir 0 m n
 

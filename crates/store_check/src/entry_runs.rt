@@ -4,7 +4,7 @@ ghost use mathlib.Core.Bool.{true};
 ghost use Prim.Native.Nat.{_≤_};
 ghost use lib.ListN.{length};
 ghost use Rattle.ground.specs.Says.{Says};
-ghost use Rattle.store_check.specs.Directory.{Roomy, Numbered, Entries, EntriesTo, AllAre, NoneIs, AllBelow, InRange, Uncounted, Counted, Tallied, Named};
+ghost use Rattle.store_check.specs.Directory.{Roomy, PageOneAsked, Entries, EntriesTo, AllAre, NoneIs, AllBelow, EntriesInRange, Uncounted, Counted, NamingAsked, Named};
 ghost use Rattle.store.specs.Accepted.{Page1};
 ghost use Rattle.partition.specs.Bits.{top};
 use partition::Shape;
@@ -72,7 +72,7 @@ fn all_below(dir: &[u32], a: usize, b: usize, n: u32) -> bool
 // Whether the entries up to m are in range for n pages.
 fn ranges(dir: &[u32], n: u32, m: usize) -> bool
     requires { ⌜ m ≤ length (now dir) ⌝ }
-    ensures { λ r. ⌜ Says r (InRange (now (dir .entry)) n m) ⌝ }
+    ensures { λ r. ⌜ Says r (EntriesInRange (now (dir .entry)) n m) ⌝ }
 {
     if !none_is(dir, 0, m, 1) {
         return false;
@@ -82,7 +82,7 @@ fn ranges(dir: &[u32], n: u32, m: usize) -> bool
 
 // Whether page 1 keeps its rules, with m entries in use, and if so the entries: those behind are looked at as bytes, not read.
 pub fn page1_ok(s: &[u8], z: Shape, n: usize, m: usize, dir: &mut [u32]) -> bool
-    requires { ⌜ Numbered z (now s) (now dir) n m ⌝ }
+    requires { ⌜ PageOneAsked z (now s) (now dir) n m ⌝ }
     ensures says { λ r. ⌜ Says r (Page1 z (now (s .entry))) ⌝ }
     ensures read { λ r. ⌜ (r ≡ true → Entries z (now (s .entry)) (now (dir .exit))) ⌝ }
 {
@@ -109,7 +109,7 @@ pub fn tally(dir: &[u32], m: usize, counts: &mut [u32])
 
 // Whether page p is named by exactly the entries that the first k bits of the hash x call for, in a directory of depth d: all of them, and as many as name p.
 pub fn named(dir: &[u32], counts: &[u32], d: u32, k: u32, x: u32, p: u32) -> bool
-    requires { ⌜ Tallied (now dir) (now counts) d k p ⌝ }
+    requires { ⌜ NamingAsked (now dir) (now counts) d k p ⌝ }
     ensures { λ r. ⌜ Says r (Named (now (dir .entry)) d k (top k x) p) ⌝ }
 {
     let run = partition::run_of(x, k, d);

@@ -8,7 +8,7 @@ ghost use Rattle.hash.specs.Fnv.{fnv};
 ghost use Rattle.store.specs.Pages.{pages, page};
 ghost use Rattle.store.specs.Accepted.{Stands};
 ghost use Rattle.store_check.specs.First.{FirstFrom, FirstBad};
-ghost use Rattle.store_check.specs.Begun.{Pass1, Countable, FreeAndUnnamed, Own};
+ghost use Rattle.store_check.specs.Begun.{Pass1, SkipAsked, FreeAndUnnamed, Own};
 ghost use Rattle.store_check.specs.Digest.{Hashed};
 use super::entry_runs::named;
 use partition::Shape;
@@ -30,7 +30,7 @@ fn first_named(counts: &[u32], p: usize, q: usize) -> usize
 
 // The first page from p on that is not free or is named, or the number of pages. Free pages are passed over as one run of zeros, not page by page.
 fn skip_free(s: &[u8], z: Shape, counts: &[u32], p: usize) -> usize
-    requires { ⌜ Countable z (now s) (now counts) p ⌝ }
+    requires { ⌜ SkipAsked z (now s) (now counts) p ⌝ }
     ensures { λ r. ⌜ FirstFrom p (pages z (now (s .entry))) (λ k. FreeAndUnnamed (page z (now (s .entry)) k) (now (counts .entry)) k) r ⌝ }
 {
     let size = 8 + z.capacity;

@@ -13,7 +13,7 @@ use Rattle.page.proofs.Sums.{len-of-code}
 use Rattle.page.specs.Steps.{Removed}
 use Rattle.page.specs.Page.{depth, count}
 use Rattle.words.specs.Le.{le32}
-use Rattle.counts.specs.Tallies.{Lowered}
+use Rattle.counts.specs.Tallies.{CountLowered}
 use Rattle.counts.proofs.Raises.{buckets-read}
 use Rattle.store.proofs.Demands.Said.{rows-few}
 use Rattle.store.proofs.Showing.Showing.{pages-held}
@@ -479,7 +479,7 @@ module _ (r : tie.After-lower2) where
       let z = z₇ y₉ in
       let b = b₇ y₉ in
       clear-recounted (S z) (sized z) fnv fnv-lt (s z) (p z) (z .args .i) (key z) (L z) (j b) (fits b) (own (d₆ (k₇ y₉))) (one-row (k₇ y₉)) (unnamed y₉) w₉ t₉ (r .before .before .before .before .lower .ensures)
-      (subst (λ k. Lowered w₉ (1 + k) t₉) (sym (deep z)) (r .lower2 .ensures))
+      (subst (λ k. CountLowered w₉ (1 + k) t₉) (sym (deep z)) (r .lower2 .ensures))
 
 settle-depth-requires-2 : tie.Need-settle-depth-requires-2
 settle-depth-requires-2 c κs =

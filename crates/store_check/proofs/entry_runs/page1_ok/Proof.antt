@@ -11,7 +11,7 @@ use Rattle.words.specs.Zeros.{Zero}
 use Rattle.partition.specs.declared.Shape.{Shape}
 use Rattle.store.specs.Pages.{size, entryAt}
 use Rattle.store.specs.Accepted.{Page1}
-use Rattle.store_check.specs.Directory.{Roomy, Entries, InRange}
+use Rattle.store_check.specs.Directory.{Roomy, Entries, EntriesInRange}
 use Rattle.store_check.proofs.Heads.{bytes-behind, behind-bytes, entries-all, ranges-all, ranges-some, to-page1, of-page1}
 use Rattle.store_check.proofs.entry_runs.page1_ok.Statement.{statement}
 use Rattle.store_check.proofs.entry_runs.page1_ok.Tie as tie
@@ -111,7 +111,7 @@ returns-2 c =
     let a = a-of x in
     let g = given a in
     let n = a .args .n in (
-      says-same {P = InRange (dir x) n (m-of a)} {Q = Page1 (S a) (store a)} (c .ranges .result) (c .ranges .ensures)
+      says-same {P = EntriesInRange (dir x) n (m-of a)} {Q = Page1 (S a) (store a)} (c .ranges .result) (c .ranges .ensures)
           (λ u. to-page1 (S a) (store a) (dir x) n (m-of a) (decoded x) (a .pre .number) (a .pre .least) (a .pre .power) (ranges-all (S a) (store a) (m-of a) (g .sized) (g .few) (g .long) (dir x) n (omega (arith, a .pre .least)) (x .entries .ensures) u))
           (λ p. ranges-some (dir x) n (m-of a) (omega (arith, x .entries .ensures .long, g .few)) (of-page1 (S a) (store a) (dir x) n (m-of a) (decoded x) (a .pre .number) (a .pre .least) (a .pre .power) p)),
       (λ _. decoded x),
