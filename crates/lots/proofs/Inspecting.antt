@@ -20,13 +20,8 @@ use Rattle.ground.specs.Lists.{part}
 use Rattle.store.specs.Pages.{page, read, rowsOn, asRow}
 use Rattle.store.specs.Tables.{Out, refusedAt, PageKeeps, inspectTable}
 use Rattle.store.proofs.Accepted.Reading.{row-slot, count-used}
-use Rattle.lots.specs.Obeys.{SlotAsked, SlotGiven, Shown}
-
--- a place below the number of rows has a row
-some-at : (l : List Row) (n : ℕ) → n < length l → (r : Row) × (getElem? l n ≡ some r)
-some-at [] n h = absurd (omega arith)
-some-at (x ∷ l) zero h = (x, refl)
-some-at (x ∷ l) (suc n) h = some-at l n (omega arith)
+use Rattle.lots.specs.Obeys.{SlotAsked}
+use Rattle.telling.specs.Told.{Shown}
 
 -- the length of a store's page is that of its own shape
 whole-by : (a b : Bool) → size (either a S4096 (either b S16384 S1024)) ≡ size (shapeFor (size (either a S4096 (either b S16384 S1024))))
@@ -51,19 +46,6 @@ unfolding page part
 lent-page s p z e =
     let k : (p * z + z) - p * z ≡ z = omega arith in
     ap (λ m. take m (drop (p * z) s)) k ∙ ap (λ m. take m (drop (p * m) s)) e
-
--- below the number of rows inspection gives the row of that slot
-pub slot-given : (g : List ℕ) (n i : ℕ) (buffer after : List ℕ) (a : Out) → Shown g n → i < n → length buffer ≡ 64 → length after ≡ 64
-    → Answers (inspectTable (shapeFor (length g)) fnv g i buffer) (a, after) → SlotGiven g i a after
-unfolding inspectTable
-slot-given g n i buffer after a p l b k (inl x) = absurd (x .1 .0 (p .whole))
-slot-given g n i buffer after a p l b k (inr (_, inl x)) = absurd (let h : length buffer < 64 = x .1 .0 in omega arith)
-slot-given g n i buffer after a p l b k (inr (_, inr (_, inl x))) = absurd (x .1 .0 (p .keeps))
-slot-given g n i buffer after a p l b k (inr (_, inr (_, inr (_, (_, inl (r, (e, q))))))) = record { row = r; there = e; buffer = buffer; gives = q; long = k }
-slot-given g n i buffer after a p l b k (inr (_, inr (_, inr (_, (_, inr x))))) =
-    let h : i < length (rowsOn (read g)) = omega (arith, p .rows) in
-    let r = some-at (rowsOn (read g)) i h in
-    absurd (x .0 (r .0) (r .1))
 
 -- ---- a page that is not free, by what is said of its first slot
 

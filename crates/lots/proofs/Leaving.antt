@@ -62,16 +62,6 @@ page-inside p z n b =
 pub counts-room : (s : List ℕ) → Accepted (shapeOf s) fnv s → 28 ≤ length s
 counts-room s a = omega (arith, page-inside 0 (size (shapeOf s)) (length s) (omega (arith, a .long .least)), sized-of s .least)
 
--- how many rows the listing has
-pub listing-counts : (S : Shape) (s : List ℕ) → Sized S → Accepted S fnv s → length (rowsHeld S s) ≡ length (listing S fnv (rowsHeld S s))
-listing-counts S s z a = length-same (listed-once S fnv z fnv-lt s a .1)
-
--- a place below the number of rows has a row
-pub some-row : (l : List StoredRow) (n : ℕ) → n < length l → getElem? l n ≡ none → ⊥
-some-row [] n h e = omega arith
-some-row (x ∷ l) zero h e = none-some e refl
-some-row (x ∷ l) (suc n) h e = some-row l n (omega arith) e
-
 -- a call whose refusal is told leaves every byte, where a refusal keeps them
 told-leaves : (a : Out) (o : Outcome) (s t : List ℕ) → (ok a ≡ false → t ≡ s) → Outcomes a o → Leaves o → t ≡ s
 told-leaves a (Told x) s t f r l = f (r .1)

@@ -2,6 +2,5 @@ pub mod Fields
 pub mod Inspecting
 pub mod Leaving
 pub mod OneCommand
-pub mod Lines
 pub mod Reporting
 pub mod Running

@@ -14,9 +14,3 @@ use Rattle.store.specs.Pages.{rowsHeld}
 -- a store that is known to be accepted is accepted, at the page size that it says
 abbrev pub Known : Bool → List ℕ → Type 0
 Known b s = b ≡ true → Accepted (shapeOf s) fnv s
-
--- an accepted store of n rows
-pub record Listable (S : Shape) (s : List ℕ) (n : ℕ) : Type 0 where
-  pub sized : Sized S
-  pub accepted : Accepted S fnv s
-  pub rows : n ≡ length (rowsHeld S s)

@@ -111,20 +111,6 @@ pub record SlotAsked (g : List ℕ) (n : ℕ) (a : Out) : Type 0 where
   pub long : length buffer ≡ 64
   pub answers : Answers (inspectTable (shapeFor (length g)) fnv g n buffer) (a, after)
 
--- the answer a is the row in slot n of the page g, whose code begins the buffer k
-pub record SlotGiven (g : List ℕ) (n : ℕ) (a : Out) (k : List ℕ) : Type 0 where
-  pub row : StoredRow
-  pub there : getElem? (rowsOn (read g)) n ≡ some row
-  pub buffer : List ℕ
-  pub gives : (a, k) ≡ giving row buffer
-  pub long : length k ≡ 64
-
--- a page that inspection does not refuse, of n rows
-pub record Shown (g : List ℕ) (n : ℕ) : Type 0 where
-  pub whole : length g ≡ size (shapeFor (length g))
-  pub keeps : PageKeeps (shapeFor (length g)) fnv g
-  pub rows : n ≡ length (rowsOn (read g))
-
 -- the page g is refused as inspection refuses it, or it has so many rows
 pub record PageAsked (g : List ℕ) (o : Outcome) : Type 0 where
   pub refused : (PageKeeps (shapeFor (length g)) fnv g → ⊥) → TellsOnly (refusedAt 2 0) o

@@ -6,7 +6,6 @@ ghost use Rattle.partition.specs.Sizes.{shapeOf};
 ghost use Rattle.report.specs.Report.{limit, missing, summed};
 ghost use Rattle.lots.specs.Obeys.{Passes, ReportAsked};
 ghost use Rattle.lots.specs.Reports.{MarkedRows, Reports, RowGiven, Summable};
-use super::say;
 use super::sheets;
 use crate::Outcome;
 use page::Place;
@@ -15,6 +14,7 @@ use report::LIMIT;
 use report::NamedRow;
 use report::Sums;
 use store::Answer;
+use telling::say;
 
 // A word, a place and its amount on a line; whether it could be written.
 fn tell_amount(word: &[u8], p: Place, z: i64) -> bool

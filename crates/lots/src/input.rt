@@ -8,12 +8,12 @@ ghost use Rattle.lots.specs.Runs.{BeforeAnew, Ran, Turned, Went};
 ghost use Rattle.lots.specs.Sessions.{After, Alike, FormatAsked, FormatTold, Learnt, SessionHolds, Kept};
 use super::known;
 use super::obey;
-use super::say;
 use crate::Outcome;
 use crate::Session;
 use check::same;
 use commands::Fault;
 use libc::STDIN_FILENO;
+use telling::say;
 
 // The length of a store of n pages of a size; of too many, the whole buffer, which is no store either.
 fn length_of(n: usize, size: usize, most: usize) -> usize

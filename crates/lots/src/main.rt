@@ -8,7 +8,6 @@ mod files;
 mod input;
 mod known;
 mod obey;
-mod say;
 mod sheets;
 
 use check::same;
@@ -24,12 +23,6 @@ pub enum Outcome {
     Listed(usize),
     Format(usize, usize),
     Stopped,
-}
-
-// A buffer of lines: the slot behind the rows that it has, and its length.
-pub struct Filled {
-    pub slot: usize,
-    pub len: usize,
 }
 
 pub struct Session {

@@ -1,7 +1,2 @@
-pub mod Prefixes
-pub mod Runs
-pub mod Gathers
-pub mod Empties
-pub mod Joins
 pub mod Lowers
 pub mod Removes

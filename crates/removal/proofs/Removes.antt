@@ -72,14 +72,14 @@ use Rattle.directory.specs.Directory.{CallsFor, none, names, PrefixNamed, Direc
 use Rattle.directory.proofs.Directories.{calls-same}
 use Rattle.directory.proofs.Laying.{on-page}
 use Rattle.directory.proofs.Renews.{packed-bits, prefix-pages, prefix-holds, prefix-kept, one-calls, entry-calls, renewed}
-use Rattle.removal.specs.Prefix.{Climbed}
-use Rattle.removal.specs.Join.{othersIn, OfPrefix, NamedBy, Joinable, joinedPages, Rejoined}
+use Rattle.joining.specs.Prefix.{Climbed}
+use Rattle.joining.specs.Join.{othersIn, OfPrefix, NamedBy, Joinable, joinedPages, Rejoined}
 use Rattle.removal.specs.Remove.{Leaving, rowsLeft, Fits}
 use Rattle.directory.proofs.OnePage.{laid-set}
 use Rattle.directory.proofs.Recounts.{same-contents, directed-then, recounted-now}
 use Rattle.directory.proofs.Settles.{unwritten, settling, settleable, settled}
-use Rattle.removal.proofs.Prefixes.{within-used}
-use Rattle.removal.proofs.Gathers.{cut-append, cut-same as cut-key}
+use Rattle.joining.proofs.Prefixes.{within-used}
+use Rattle.joining.proofs.Gathers.{cut-append, cut-same as cut-key}
 
 -- pages cleared have no more buckets
 cleared-few : (f : Page → Bool) (k : ℕ) (gs : List Page) → bucketsAt k (map (λ g. pick (f g) free g) gs) ≤ bucketsAt k gs

@@ -1,3 +1,1 @@
-pub mod Prefix
-pub mod Join
 pub mod Remove

@@ -10,7 +10,7 @@ use Rattle.partition.specs.Listing.{without, placeOf}
 use Rattle.store.specs.Pages.{pages, page, rowsHeld}
 use Rattle.store.specs.Accepted.{Accepted}
 use Rattle.store.specs.Demands.{Sized}
-use Rattle.removal.specs.Prefix.{needsOf}
+use Rattle.joining.specs.Prefix.{needsOf}
 
 -- the row of the code c is that of slot i of page p of an accepted store
 pub record Leaving (S : Shape) (h : List ℕ → ℕ) (s : List ℕ) (p i : ℕ) (c : List ℕ) : Type 0 where

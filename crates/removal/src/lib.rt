@@ -1,6 +1,4 @@
 // Remove: a row taken out, and buckets joined where their rows fit together.
-mod join;
-mod prefix;
 mod removal;
 
 pub use removal::remove;

@@ -178,8 +178,7 @@ putTable S h s c p m =
     refuse (Refusal1 S s) (refused 1, s)
     (refuse (Refusal3 c) (refused 3, s)
     (refuse (Refusal4 p) (refused 4, s)
-    (refuse (Refusal14 m) (refused 14, s)
-    (checked S h s (λ o. (o, s))
+    (refuse (Refusal14 m) (refused 14, s) (checked S h s (λ o. (o, s))
     (putByMode S h s m (record { code = fold c; place = stored p }))))))
 
 -- put as document 01 has it, before there were modes

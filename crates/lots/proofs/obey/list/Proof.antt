@@ -64,9 +64,12 @@ list-rows-requires c κs =
     let b = n .before in
     (record { sized = b .shape-of .ensures .1; accepted = at-own b; rows = n .rows-counted .ensures ∙ opened _ fnv _ (at-own b) .counts .rows }, omega (arith, c .before .buffer .ensures))
 
+listed-requires : tie.Need-listed-requires
+listed-requires c κs = search needs
+
 returns-2 : tie.Need-returns-2
 returns-2 c =
-    let l = c .before in
+    let l = c .before .before in
     let b = l .before .before .before .before in
     let k = b .before .before .before .check-known in
     let s = now (b .before .before .before .before .before .args .s) in
@@ -74,7 +77,7 @@ returns-2 c =
       answer = meaning (k .result);
       made = (k .ensures, refl);
       refused = λ e. absurd (true≢false (sym (good (b .before)) ∙ e));
-      rows = λ _. subst (λ S. Numbers (length (listing S fnv (rowsHeld S s))) (l .list-rows .result)) (b .shape-of .ensures .0) (l .list-rows .ensures);
+      rows = λ _. subst (λ S. Numbers (length (listing S fnv (rowsHeld S s))) (c .listed .result)) (b .shape-of .ensures .0) (c .listed .ensures _ (l .list-rows .ensures));
     }
 
 pub list-spec : {M : Type 1} → statement M
@@ -90,4 +93,5 @@ list-spec =
     buffer-requires
     slice-aggregate-list-rows
     list-rows-requires
+    listed-requires
     returns-2)

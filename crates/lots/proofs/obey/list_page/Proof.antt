@@ -3,7 +3,7 @@ use Prim.Native.Nat.{ℕ}
 use mathlib.Core.Bool.{true, false}
 use mathlib.Core.List.{List}
 use mathlib.Core.Logic.{inl}
-use mathlib.Core.Path.{_≡_, sym, subst, _∙_}
+use mathlib.Core.Path.{_≡_, refl, sym, subst, _∙_}
 use native.Mathlib.Omega.{arith}
 use lib.ListN.{length}
 use borrow.Author.Needs.{needs}
@@ -16,7 +16,8 @@ use Rattle.store.specs.Accepted.{Zero}
 use Rattle.store.specs.Demands.{ok}
 use Rattle.store.specs.Tables.{meaning}
 use Rattle.store.proofs.Accepted.Reading.{count-free}
-use Rattle.lots.specs.Obeys.{TellsOnly, Numbers, Shown}
+use Rattle.lots.specs.Obeys.{TellsOnly, Numbers}
+use Rattle.telling.specs.Told.{Shown}
 use Rattle.lots.proofs.Inspecting.{refused-two, shown-all}
 use Rattle.lots.proofs.obey.list_page.Statement.{statement}
 use Rattle.lots.proofs.obey.list_page.Tie as tie
@@ -46,7 +47,7 @@ returns c =
     let z = says-true _ (c .before .if1 .taken) (c .before .before .all-zero .ensures) in
     record {
       refused = λ n. absurd (n (inl z));
-      rows = λ _. subst (λ m. Numbers m (c .listed .result)) (sym (count-free (now (c .before .before .before .before .args .page)) z)) (c .listed .ensures);
+      rows = λ _. subst (λ m. Numbers m (c .listed .result)) (sym (count-free (now (c .before .before .before .before .args .page)) z)) (c .listed .ensures 0 refl);
     }
 
 first-slot-requires : tie.Need-first-slot-requires
@@ -77,12 +78,16 @@ get16-requires c κs =
 page-rows-requires : tie.Need-page-rows-requires
 page-rows-requires c κs = subst (Shown (bytes (c .before))) (sym (c .get16 .ensures .0)) (shown (c .before))
 
+listed-requires-2 : tie.Need-listed-requires-2
+listed-requires-2 c κs = search needs
+
 returns-3 : tie.Need-returns-3
 returns-3 c =
-    let w = shown (c .before .before) in
+    let r = c .before in
+    let w = shown (r .before .before) in
     record {
       refused = λ n. absurd (n (w .keeps));
-      rows = λ _. subst (λ m. Numbers m (c .page-rows .result)) (c .before .get16 .ensures .0 ∙ w .rows) (c .page-rows .ensures);
+      rows = λ _. subst (λ m. Numbers m (c .listed2 .result)) (r .before .get16 .ensures .0 ∙ w .rows) (c .listed2 .ensures _ (r .page-rows .ensures));
     }
 
 pub list-page-spec : {M : Type 1} → statement M
@@ -98,4 +103,5 @@ list-page-spec =
     returns-2
     get16-requires
     page-rows-requires
+    listed-requires-2
     returns-3)

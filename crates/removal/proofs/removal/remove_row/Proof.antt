@@ -17,7 +17,7 @@ use Rattle.partition.specs.declared.Shape.{Shape}
 use Rattle.store.specs.Pages.{page, rowsHeld}
 use Rattle.removal.specs.Remove.{Leaving}
 use Rattle.store.proofs.Paging.Views.{page-lent}
-use Rattle.removal.proofs.Prefixes.{page-below}
+use Rattle.joining.proofs.Prefixes.{page-below}
 use Rattle.removal.proofs.removal.remove_row.Statement.{statement}
 use Rattle.removal.proofs.removal.remove_row.Tie as tie
 use Rattle.query.specs.declared.Spot.{Spot}

@@ -28,8 +28,8 @@ use Rattle.partition.proofs.Sizes.{twelve}
 use Rattle.store.specs.Pages.{size, pages, Page, page, dirDepth, contents, rowsHeld, setPage}
 use Rattle.store.specs.Demands.{Sized}
 use Rattle.removal.specs.Remove.{Leaving, Fits, rowsLeft}
-use Rattle.removal.specs.Join.{Joinable, Rejoined}
-use Rattle.removal.specs.Prefix.{Climbed}
+use Rattle.joining.specs.Join.{Joinable, Rejoined}
+use Rattle.joining.specs.Prefix.{Climbed}
 use Rattle.directory.specs.Directory.{Settling, PrefixNamed, Directed, Recounted, Rewritten}
 use Rattle.directory.proofs.Settles.{unwritten, settling}
 use Rattle.removal.proofs.Removes.{page-low, page-shallow, its-bucket, climbed-fits, some-rows, row-less, loses, can-settle, low-then, directed-still, settles, clear-written, clear-kept, clear-then, clear-row, clear-bucket, clear-recounted, clear-none, clear-directed, joinable, low-from, low-to, join-kept, join-then, join-directed, join-recounted, join-none}
