@@ -1,6 +1,6 @@
 // The hash of a code: FNV-1a, 32 bits. What stands above sees only the promises of `hash`, `hash_part` and `hash_two`.
 ghost use mathlib.Core.Path.{_≡_};
-ghost use Prim.Native.Nat.{_+_, _-_, _*_, _%_, _^_, _≤_};
+ghost use Prim.Native.Nat.{_+_, _-_, _*_, _/_, _%_, _^_, _≤_};
 ghost use lib.Bits.{bitXor};
 ghost use lib.ListN.{length, take, drop};
 ghost use Rattle.fnv.specs.Fnv.{each};
@@ -110,19 +110,32 @@ fn last_fifteen(h: u32, s: &[u8], i: usize, n: usize) -> u32
     last_seven(a, s, i + 8, n)
 }
 
+// The eight bytes from i on, where n has them past a multiple of sixteen, taken in.
+fn odd_eight(h: u32, s: &[u8], i: usize, n: usize) -> u32
+    requires { ⌜ i + n % 16 / 8 * 8 ≤ length (now s) ⌝ }
+    ensures { λ r. ⌜ r ≡ each h (take (n % 16 / 8 * 8) (drop i (now (s .entry)))) ⌝ }
+{
+    if n % 16 < 8 {
+        return h;
+    }
+    eight(h, s, i)
+}
+
 // The bytes from `from` up to `to`, taken in: sixteen at a time, since a turn of a loop costs as much as a byte, then the odd ones.
 fn take_in(h: u32, s: &[u8], from: usize, to: usize) -> u32
     requires { ⌜ PartOf (now s) from to ⌝ }
     ensures { λ r. ⌜ r ≡ each h (take (to - from) (drop from (now (s .entry)))) ⌝ }
 {
-    let e = from + (to - from) / 16 * 16;
+    let n = to - from;
+    let e = from + n / 16 * 16;
     let mut i = from;
     let mut x = h;
     while i < e {
         x = sixteen(x, s, i);
         i += 16;
     }
-    last_fifteen(x, s, e, to - from)
+    let y = odd_eight(x, s, e, n);
+    last_seven(y, s, e + n % 16 / 8 * 8, n)
 }
 
 // The hash of any bytes, of any length.
@@ -132,7 +145,8 @@ pub fn hash(code: &[u8]) -> u32
     take_in(2166136261, code, 0, code.len())
 }
 
-// The hash of the bytes from `from` up to `to`, where they lie: for a loop over the codes of a page, which it is then a part of.
+// The hash of the bytes from `from` up to `to`, where they lie. Its body is its own: called at one place, in a loop over the codes of a page, it becomes a part of
+// that loop, which `take_in`, called at many, does not.
 pub fn hash_part(s: &[u8], from: usize, to: usize) -> u32
     requires { ⌜ PartOf (now s) from to ⌝ }
     ensures { λ r. ⌜ r ≡ fnv (take (to - from) (drop from (now (s .entry)))) ⌝ }

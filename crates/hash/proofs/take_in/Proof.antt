@@ -9,13 +9,13 @@ use Rattle.hash.proofs.take_in.Statement.{statement}
 use Rattle.hash.proofs.take_in.Tie as tie
 
 abbrev Inv-loop : tie.InvT-loop
-Inv-loop h s from to e i₀ x₀ i x = (from ≤ i) × (i ≤ e) × ((e - i) % 16 ≡ 0) × (x ≡ each h (take (i - from) (drop from s)))
+Inv-loop h s from to n e i₀ x₀ i x = (from ≤ i) × (i ≤ e) × ((e - i) % 16 ≡ 0) × (x ≡ each h (take (i - from) (drop from s)))
 
 abbrev μ-loop : tie.MeasureT-loop
-μ-loop h s from to e i₀ x₀ i x = e - i
+μ-loop h s from to n e i₀ x₀ i x = e - i
 
-sub-e : tie.Need-sub-e Inv-loop μ-loop
-sub-e c = omega arith
+sub-n : tie.Need-sub-n Inv-loop μ-loop
+sub-n c = omega arith
 
 mul-e : tie.Need-mul-e Inv-loop μ-loop
 mul-e c = omega arith
@@ -41,17 +41,30 @@ loop-again c =
     let z = c .before .before .before .before .args in
     (omega arith, omega arith, omega arith, joined _ (z .h) (l .x) (c .sixteen .result) (z .from) (l .i) (l .i - z .from) 16 (l .i + 16 - z .from) (l .inv .3) (c .sixteen .ensures) (omega arith) (omega arith))
 
-sub-last-fifteen : tie.Need-sub-last-fifteen Inv-loop μ-loop
-sub-last-fifteen c = omega arith
+odd-eight-requires : tie.Need-odd-eight-requires Inv-loop μ-loop
+odd-eight-requires c κs = omega arith
 
-last-fifteen-requires : tie.Need-last-fifteen-requires Inv-loop μ-loop
-last-fifteen-requires c κs = omega arith
+mul-last-seven : tie.Need-mul-last-seven Inv-loop μ-loop
+mul-last-seven c = omega arith
+
+add-last-seven : tie.Need-add-last-seven Inv-loop μ-loop
+add-last-seven c = omega arith
+
+last-seven-requires : tie.Need-last-seven-requires Inv-loop μ-loop
+last-seven-requires c κs = omega arith
 
 returns : tie.Need-returns Inv-loop μ-loop
 returns c =
-    let l = c .before .before .loop in
-    let z = c .before .before .before .before .args in
-    joined _ (z .h) (l .x) (c .last-fifteen .result) (z .from) (z .from + (z .to - z .from) / 16 * 16) (l .i - z .from) ((z .to - z .from) % 16) (z .to - z .from) (l .inv .3) (c .last-fifteen .ensures) (omega arith) (omega arith)
+    let b = c .before in
+    let l = b .before .before .loop in
+    let z = b .before .before .before .before .args in
+    let n = z .to - z .from in
+    let e = z .from + n / 16 * 16 in
+    joined _ (z .h) (b .odd-eight .result) (c .last-seven .result) (z .from) (e + n % 16 / 8 * 8) (l .i - z .from + n % 16 / 8 * 8) (n % 8) n
+    (joined _ (z .h) (l .x) (b .odd-eight .result) (z .from) e (l .i - z .from) (n % 16 / 8 * 8) (l .i - z .from + n % 16 / 8 * 8) (l .inv .3) (b .odd-eight .ensures) (omega arith) (omega arith))
+    (c .last-seven .ensures)
+    (omega arith)
+    (omega arith)
 
 pub take-in-spec : {M : Type 1} → statement M
 take-in-spec =
@@ -59,7 +72,7 @@ take-in-spec =
     (tie.spec
     Inv-loop
     μ-loop
-    sub-e
+    sub-n
     mul-e
     add-e
     loop-holds
@@ -67,6 +80,8 @@ take-in-spec =
     add-i
     loop-less
     loop-again
-    sub-last-fifteen
-    last-fifteen-requires
+    odd-eight-requires
+    mul-last-seven
+    add-last-seven
+    last-seven-requires
     returns)
