@@ -1,26 +1,30 @@
--- A code taken in byte by byte, from any of its bytes on. Assumes nothing.
-use Prim.Native.Nat.{ℕ, _+_, _*_, _%_, _^_, _≤_, _<_}
+-- Bytes taken in one stretch after the other. Assumes nothing.
+use Prim.Native.Nat.{ℕ, _+_, _*_, _%_, _^_, _<_}
 use mathlib.Core.Path.{_≡_, refl, sym, ap, _∙_}
-use mathlib.Core.List.{List}
-use native.Mathlib.Numerals.{add-one}
+use mathlib.Core.List.{List, [], _∷_, _++_}
 use lib.Bits.{bitXor}
-use lib.ListN.{length, getD, drop, drop-of-length-le}
-use lib.Seq.{drop-cons}
+use lib.ListN.{length, getD, take, drop}
+use lib.Seq.{drop-cons, drop-drop, take-add}
 use Rattle.fnv.specs.Fnv.{each}
 use Rattle.fnv.specs.Fnv.Laws.{ends, goes-on}
 
--- one byte more
-pub taken : (code : List ℕ) (h i r : ℕ) → i < length code → r ≡ bitXor h (getD code i 0) * 16777619 % 2 ^ 32 → each r (drop (i + 1) code) ≡ each h (drop i code)
-taken code h i r l e = rw (add-one, e, ← goes-on, ← drop-cons code i 0 l) refl
+-- one list after the other
+each-append : (h : ℕ) (xs ys : List ℕ) → each h (xs ++ ys) ≡ each (each h xs) ys
+each-append h [] ys = ap (λ x. each x ys) (sym (ends h))
+each-append h (b ∷ c) ys = goes-on h b (c ++ ys) ∙ each-append _ c ys ∙ ap (λ x. each x ys) (sym (goes-on h b c))
 
--- from i to j, and from j to k
-pub joined : (code : List ℕ) (h a r i j k n : ℕ) → each a (drop j code) ≡ each h (drop i code) → each r (drop k code) ≡ each a (drop j code) → n ≡ k → each r (drop n code) ≡ each h (drop i code)
-joined code h a r i j k n p q e = ap (λ x. each r (drop x code)) e ∙ q ∙ p
+-- no byte
+pub none : (s : List ℕ) (h i n : ℕ) → n ≡ 0 → h ≡ each h (take n (drop i s))
+none s h i n e = rw e (sym (ends h))
 
--- from the same byte on
-pub until : (code : List ℕ) (h i j : ℕ) → i ≡ j → each h (drop i code) ≡ each h (drop j code)
-until code h i j e = ap (λ x. each h (drop x code)) e
+-- one byte
+pub taken : (s : List ℕ) (h i r n : ℕ) → i < length s → r ≡ bitXor h (getD s i 0) * 16777619 % 2 ^ 32 → n ≡ 1 → r ≡ each h (take n (drop i s))
+taken s h i r n l e f = rw (f, drop-cons s i 0 l) (e ∙ sym (ends _) ∙ sym (goes-on h (getD s i 0) []))
 
--- none is left
-pub none-left : (code : List ℕ) (h i : ℕ) → length code ≤ i → h ≡ each h (drop i code)
-none-left code h i l = sym (ends h) ∙ ap (each h) (sym (drop-of-length-le code l))
+-- n bytes from i on, and m more
+pub joined : (s : List ℕ) (h a r i j n m k : ℕ) → a ≡ each h (take n (drop i s)) → r ≡ each a (take m (drop j s)) → j ≡ i + n → k ≡ n + m → r ≡ each h (take k (drop i s))
+joined s h a r i j n m k p q e f = rw (f, take-add n m (drop i s), drop-drop n i s) (q ∙ rw (e, p) refl ∙ sym (each-append h (take n (drop i s)) (take m (drop (i + n) s))))
+
+-- as many bytes by another count
+pub counted : (s : List ℕ) (h r i n k : ℕ) → r ≡ each h (take n (drop i s)) → k ≡ n → r ≡ each h (take k (drop i s))
+counted s h r i n k p e = rw e p

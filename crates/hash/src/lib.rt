@@ -1,10 +1,17 @@
-// The hash of a code: FNV-1a, 32 bits. What stands above sees only the promise of `hash`.
+// The hash of a code: FNV-1a, 32 bits. What stands above sees only the promises of `hash`, `hash_part` and `hash_two`.
 ghost use mathlib.Core.Path.{_≡_};
-ghost use Prim.Native.Nat.{_+_, _*_, _%_, _^_, _≤_, _<_};
+ghost use Prim.Native.Nat.{_+_, _-_, _*_, _/_, _%_, _^_, _≤_};
 ghost use lib.Bits.{bitXor};
-ghost use lib.ListN.{length, drop};
+ghost use lib.ListN.{length, take, drop};
 ghost use Rattle.fnv.specs.Fnv.{each};
 ghost use Rattle.hash.specs.Fnv.{fnv};
+ghost use Rattle.hash.specs.Parts.{PartOf};
+
+// The hashes of two codes.
+pub struct Hashes {
+    pub first: u32,
+    pub second: u32,
+}
 
 // The product, keeping the low 32 bits.
 fn wrapping_mul(x: u32, y: u32) -> u32
@@ -21,76 +28,178 @@ fn step(h: u32, b: u8) -> u32
 }
 
 // Two bytes from i on, taken in.
-fn two(h: u32, code: &[u8], i: usize) -> u32
-    requires { ⌜ i + 2 ≤ length (now code) ⌝ }
-    ensures { λ r. ⌜ each r (drop (i + 2) (now (code .entry))) ≡ each h (drop i (now (code .entry))) ⌝ }
+fn two(h: u32, s: &[u8], i: usize) -> u32
+    requires { ⌜ i + 2 ≤ length (now s) ⌝ }
+    ensures { λ r. ⌜ r ≡ each h (take 2 (drop i (now (s .entry)))) ⌝ }
 {
-    let a = step(h, code[i]);
-    step(a, code[i + 1])
+    let a = step(h, s[i]);
+    step(a, s[i + 1])
 }
 
 // Four bytes from i on, taken in.
-fn four(h: u32, code: &[u8], i: usize) -> u32
-    requires { ⌜ i + 4 ≤ length (now code) ⌝ }
-    ensures { λ r. ⌜ each r (drop (i + 4) (now (code .entry))) ≡ each h (drop i (now (code .entry))) ⌝ }
+fn four(h: u32, s: &[u8], i: usize) -> u32
+    requires { ⌜ i + 4 ≤ length (now s) ⌝ }
+    ensures { λ r. ⌜ r ≡ each h (take 4 (drop i (now (s .entry)))) ⌝ }
 {
-    let a = two(h, code, i);
-    two(a, code, i + 2)
+    let a = two(h, s, i);
+    two(a, s, i + 2)
 }
 
 // Eight bytes from i on, taken in.
-fn eight(h: u32, code: &[u8], i: usize) -> u32
-    requires { ⌜ i + 8 ≤ length (now code) ⌝ }
-    ensures { λ r. ⌜ each r (drop (i + 8) (now (code .entry))) ≡ each h (drop i (now (code .entry))) ⌝ }
+fn eight(h: u32, s: &[u8], i: usize) -> u32
+    requires { ⌜ i + 8 ≤ length (now s) ⌝ }
+    ensures { λ r. ⌜ r ≡ each h (take 8 (drop i (now (s .entry)))) ⌝ }
 {
-    let a = four(h, code, i);
-    four(a, code, i + 4)
+    let a = four(h, s, i);
+    four(a, s, i + 4)
 }
 
-// The first r bytes taken in: none or one.
-fn first_one(h: u32, code: &[u8], r: usize) -> u32
-    requires { ⌜ (r ≤ length (now code)) × (r < 2) ⌝ }
-    ensures { λ x. ⌜ each x (drop r (now (code .entry))) ≡ each h (now (code .entry)) ⌝ }
+// Sixteen bytes from i on, taken in.
+fn sixteen(h: u32, s: &[u8], i: usize) -> u32
+    requires { ⌜ i + 16 ≤ length (now s) ⌝ }
+    ensures { λ r. ⌜ r ≡ each h (take 16 (drop i (now (s .entry)))) ⌝ }
 {
-    if r == 0 {
+    let a = eight(h, s, i);
+    eight(a, s, i + 8)
+}
+
+// What is left of n bytes once a multiple of two is taken in: none or one, from i on.
+fn last_one(h: u32, s: &[u8], i: usize, n: usize) -> u32
+    requires { ⌜ i + n % 2 ≤ length (now s) ⌝ }
+    ensures { λ r. ⌜ r ≡ each h (take (n % 2) (drop i (now (s .entry)))) ⌝ }
+{
+    if n % 2 == 0 {
         return h;
     }
-    step(h, code[0])
+    step(h, s[i])
 }
 
-// The first r bytes taken in, fewer than four.
-fn first_three(h: u32, code: &[u8], r: usize) -> u32
-    requires { ⌜ (r ≤ length (now code)) × (r < 4) ⌝ }
-    ensures { λ x. ⌜ each x (drop r (now (code .entry))) ≡ each h (now (code .entry)) ⌝ }
+// The same of a multiple of four: fewer than four.
+fn last_three(h: u32, s: &[u8], i: usize, n: usize) -> u32
+    requires { ⌜ i + n % 4 ≤ length (now s) ⌝ }
+    ensures { λ r. ⌜ r ≡ each h (take (n % 4) (drop i (now (s .entry)))) ⌝ }
 {
-    let a = first_one(h, code, r % 2);
-    if r < 2 {
-        return a;
+    if n % 4 < 2 {
+        return last_one(h, s, i, n);
     }
-    two(a, code, r % 2)
+    let a = two(h, s, i);
+    last_one(a, s, i + 2, n)
 }
 
-// The first r bytes taken in, fewer than eight.
-fn first_seven(h: u32, code: &[u8], r: usize) -> u32
-    requires { ⌜ (r ≤ length (now code)) × (r < 8) ⌝ }
-    ensures { λ x. ⌜ each x (drop r (now (code .entry))) ≡ each h (now (code .entry)) ⌝ }
+// The same of a multiple of eight: fewer than eight.
+fn last_seven(h: u32, s: &[u8], i: usize, n: usize) -> u32
+    requires { ⌜ i + n % 8 ≤ length (now s) ⌝ }
+    ensures { λ r. ⌜ r ≡ each h (take (n % 8) (drop i (now (s .entry)))) ⌝ }
 {
-    let a = first_three(h, code, r % 4);
-    if r < 4 {
-        return a;
+    if n % 8 < 4 {
+        return last_three(h, s, i, n);
     }
-    four(a, code, r % 4)
+    let a = four(h, s, i);
+    last_three(a, s, i + 4, n)
 }
 
-// The hash of any bytes, of any length: the odd ones first, then eight at a time, since a turn of a loop costs as much as a byte.
+// The same of a multiple of sixteen: fewer than sixteen.
+fn last_fifteen(h: u32, s: &[u8], i: usize, n: usize) -> u32
+    requires { ⌜ i + n % 16 ≤ length (now s) ⌝ }
+    ensures { λ r. ⌜ r ≡ each h (take (n % 16) (drop i (now (s .entry)))) ⌝ }
+{
+    if n % 16 < 8 {
+        return last_seven(h, s, i, n);
+    }
+    let a = eight(h, s, i);
+    last_seven(a, s, i + 8, n)
+}
+
+// The eight bytes from i on, where n has them past a multiple of sixteen, taken in.
+fn odd_eight(h: u32, s: &[u8], i: usize, n: usize) -> u32
+    requires { ⌜ i + n % 16 / 8 * 8 ≤ length (now s) ⌝ }
+    ensures { λ r. ⌜ r ≡ each h (take (n % 16 / 8 * 8) (drop i (now (s .entry)))) ⌝ }
+{
+    if n % 16 < 8 {
+        return h;
+    }
+    eight(h, s, i)
+}
+
+// The bytes from `from` up to `to`, taken in: sixteen at a time, since a turn of a loop costs as much as a byte, then the odd ones.
+fn take_in(h: u32, s: &[u8], from: usize, to: usize) -> u32
+    requires { ⌜ PartOf (now s) from to ⌝ }
+    ensures { λ r. ⌜ r ≡ each h (take (to - from) (drop from (now (s .entry)))) ⌝ }
+{
+    let n = to - from;
+    let e = from + n / 16 * 16;
+    let mut i = from;
+    let mut x = h;
+    while i < e {
+        x = sixteen(x, s, i);
+        i += 16;
+    }
+    let y = odd_eight(x, s, e, n);
+    last_seven(y, s, e + n % 16 / 8 * 8, n)
+}
+
+// The hash of any bytes, of any length.
 pub fn hash(code: &[u8]) -> u32
     ensures { λ r. ⌜ r ≡ fnv (now (code .entry)) ⌝ }
 {
-    let mut i = code.len() % 8;
-    let mut h = first_seven(2166136261, code, i);
-    while i < code.len() {
-        h = eight(h, code, i);
-        i += 8;
+    take_in(2166136261, code, 0, code.len())
+}
+
+// The hash of the bytes from `from` up to `to`, where they lie. Its body is its own: called at one place, in a loop over the codes of a page, it becomes a part of
+// that loop, which `take_in`, called at many, does not.
+pub fn hash_part(s: &[u8], from: usize, to: usize) -> u32
+    requires { ⌜ PartOf (now s) from to ⌝ }
+    ensures { λ r. ⌜ r ≡ fnv (take (to - from) (drop from (now (s .entry)))) ⌝ }
+{
+    let mut i = from;
+    let mut x = 2166136261;
+    while i + 16 <= to {
+        x = sixteen(x, s, i);
+        i += 16;
     }
-    h
+    last_fifteen(x, s, i, to - from)
+}
+
+// What is left of a part, where anything is.
+fn rest(h: u32, s: &[u8], from: usize, to: usize) -> u32
+    requires { ⌜ PartOf (now s) from to ⌝ }
+    ensures { λ r. ⌜ r ≡ each h (take (to - from) (drop from (now (s .entry)))) ⌝ }
+{
+    if from == to {
+        return h;
+    }
+    take_in(h, s, from, to)
+}
+
+// The lesser of two lengths.
+fn shorter(x: usize, y: usize) -> usize
+    ensures { λ r. ⌜ (r ≤ x) × (r ≤ y) ⌝ }
+{
+    if x < y {
+        return x;
+    }
+    y
+}
+
+// The hashes of two parts, from a up to b and from c up to d, side by side as long as both go on: a byte waits for the product of the one before it, and meanwhile
+// the processor works on the other code.
+pub fn hash_two(s: &[u8], a: usize, b: usize, c: usize, d: usize) -> Hashes
+    requires { ⌜ PartOf (now s) a b × PartOf (now s) c d ⌝ }
+    ensures { λ r. ⌜ (r .first ≡ fnv (take (b - a) (drop a (now (s .entry))))) × (r .second ≡ fnv (take (d - c) (drop c (now (s .entry))))) ⌝ }
+{
+    let e = a + shorter(b - a, d - c);
+    let mut i = a;
+    let mut j = c;
+    let mut x = 2166136261;
+    let mut y = 2166136261;
+    while i + 16 <= e {
+        x = sixteen(x, s, i);
+        y = sixteen(y, s, j);
+        i += 16;
+        j += 16;
+    }
+    Hashes {
+        first: rest(x, s, i, b),
+        second: rest(y, s, j, d),
+    }
 }

@@ -1,13 +1,14 @@
 -- The hashes of a page share a prefix where each shares it with the first, and where their differences have no bit in it. Assumes nothing.
 use Prim.Native.Nat.{ℕ, _+_, _-_, _/_, _^_, _≤_, _<_}
 use mathlib.Core.Path.{_≡_, refl, sym, ap, subst, _∙_}
-use mathlib.Core.Logic.{_↔_}
+use mathlib.Core.Logic.{_↔_, ⊎-elim}
 use mathlib.Core.List.{List}
 use native.Mathlib.Nat.{div-lt-iff-lt-mul, div-eq-of-lt, one-mul}
 use native.Mathlib.Omega.{arith}
 use borrow.Author.Count.{below-more}
 use lib.Pow.{pow-pos, pow-add, shl-shr}
 use lib.Bits.{bitOr, bitXor, or-shr, xor-shr, xor-self}
+use Rattle.ground.proofs.Sides.{side}
 use Rattle.words.proofs.Zeros.{or-zero, zero-or}
 use Rattle.partition.specs.Bits.{top}
 use Rattle.partition.proofs.Bits.{top-is, xor-zero}
@@ -47,8 +48,12 @@ module _ (k : ℕ) (small : k ≤ 32) where
       let e : 32 - k + k ≡ 32 = omega arith in
       ap (λ n. n / 2 ^ k) (ap (λ n. 2 ^ n) (sym e) ∙ pow-add 2 (32 - k) k) ∙ shl-shr (2 ^ (32 - k)) k
 
-  pub ored-one : (f : ℕ → ℕ) (x : ℕ) → x ≡ f 0 → Ored k f x 1 0
-  ored-one f x e = record { so = λ _ i h. let z : i ≡ 0 = omega arith in rw (z, e) refl; back = λ _. top-zero }
+  -- none or-ed yet, of those that are known to be near
+  pub ored-near : (f : ℕ → ℕ) (x n : ℕ) → x ≡ f 0 → ((i : ℕ) → 1 ≤ i → i < n → bitXor x (f i) < 2 ^ (32 - k)) → Ored k f x n 0
+  ored-near f x n e u = record {
+    so = λ _ i h. ⊎-elim (λ lt. let z : i ≡ 0 = omega arith in rw (z, e) refl) (λ ge. near x (f i) .0 (u i ge h)) (side i 1);
+    back = λ _. top-zero;
+  }
 
   pub ored-more : (f : ℕ → ℕ) (x n acc : ℕ) → Ored k f x n acc → Ored k f x (n + 1) (bitOr acc (bitXor x (f n)))
   ored-more f x n acc o = record {

@@ -2,6 +2,7 @@
 use Prim.Native.Nat.{ℕ, _≤_, _<_}
 use mathlib.Core.Path.{_≡_}
 use mathlib.Core.List.{List}
+use lib.Bits.{bitXor}
 use lib.ListN.{length}
 use Rattle.words.specs.Folds.{Folded}
 use Rattle.words.specs.Zeros.{Zero}
@@ -44,3 +45,9 @@ pub record Keeps (deepest : ℕ) (p : List ℕ) : Type 0 where
   pub folded : Spelled p
   pub deep : depth p ≤ deepest
   pub share : Share fnv p
+
+-- from slot 1 up to slot r, not further than there are slots, the hashes differ from x by less than m
+pub record NearUpTo (p : List ℕ) (x m r : ℕ) : Type 0 where
+  pub start : 1 ≤ r
+  pub within : r ≤ count p
+  pub near : (i : ℕ) → 1 ≤ i → i < r → bitXor x (fnv (code p i)) < m

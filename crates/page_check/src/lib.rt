@@ -1,7 +1,7 @@
 // Whether bytes are a bucket page: the rules of its bytes by page_ok, the shared bits of its hashes slot by slot.
 ghost use mathlib.Core.Path.{_≡_};
 ghost use mathlib.Core.Bool.{true, false};
-ghost use Prim.Native.Nat.{_+_, _*_, _-_, _^_, _≤_, _<_};
+ghost use Prim.Native.Nat.{_+_, _*_, _-_, _/_, _%_, _^_, _≤_, _<_};
 ghost use lib.Bits.{bitXor};
 ghost use lib.ListN.{length, set};
 ghost use Rattle.ground.specs.Says.{Says};
@@ -10,12 +10,13 @@ ghost use Rattle.words.specs.Codes.{Before};
 ghost use Rattle.words.specs.Zeros.{Zero};
 ghost use Rattle.hash.specs.Fnv.{fnv};
 ghost use Rattle.partition.specs.Bits.{top};
-ghost use Rattle.page.specs.Page.{BucketPage, depth, count, code};
+ghost use Rattle.page.specs.Page.{BucketPage, depth, count, off, len, code};
 ghost use Rattle.page_check.specs.Rules.{HeadOk, NaturalAt, WordOk, SlotsOk, offOf, lenOf, slotOf, prior, Preceded, Codes};
 ghost use Rattle.page_check.specs.Table.{Table, HeadKnown, Tabled, Inside, Laid, Pair, Turn, NextOk};
 ghost use Rattle.page_check.specs.Marks.{Marked, NoCapital};
 ghost use Rattle.page_check.specs.Big.{Bytes4, Bytes8, big, Stretch, Lead};
-ghost use Rattle.page_check.specs.Shared.{PageOk, FirstHash, LentTable, Alike, Share, Keeps};
+ghost use Rattle.page_check.specs.Shared.{PageOk, FirstHash, LentTable, Alike, Share, Keeps, NearUpTo};
+use hash::Hashes;
 use words::Order;
 
 // Size, byte 0, row count, and a frontier that leaves room for a record and for the slots.
@@ -311,12 +312,45 @@ pub fn page_ok(page: &[u8], tab: &mut [u8]) -> bool
     ok
 }
 
+// Slot i's word, 1 above its record's length.
+fn slot_word(page: &[u8], i: usize) -> usize
+    requires { ⌜ BucketPage (now page) × (i < count (now page)) ⌝ }
+    ensures { λ r. ⌜ (r % 16384 ≡ off (now (page .entry)) i) × (r / 16384 ≡ 16384 + len (now (page .entry)) i) ⌝ }
+{
+    words::get32(page, page.len() - 4 * (i + 1))
+}
+
 // The hash of slot i's code.
 pub fn hash_slot(page: &[u8], i: usize) -> u32
     requires { ⌜ BucketPage (now page) × (i < count (now page)) ⌝ }
     ensures { λ r. ⌜ r ≡ fnv (code (now (page .entry)) i) ⌝ }
 {
     hash::hash(page::code_at(page, i))
+}
+
+// The same where the code lies, by no call from the check's loop over the slots.
+pub fn hash_in_place(page: &[u8], i: usize) -> u32
+    requires { ⌜ BucketPage (now page) × (i < count (now page)) ⌝ }
+    ensures { λ r. ⌜ r ≡ fnv (code (now (page .entry)) i) ⌝ }
+{
+    let w = slot_word(page, i);
+    let o = w % 16384;
+    let l = w / 16384 - 16384;
+    hash::hash_part(page, o + 8, o + l)
+}
+
+// The hashes of the codes of slots i and i + 1.
+fn hash_pair(page: &[u8], i: usize) -> Hashes
+    requires { ⌜ BucketPage (now page) × (i + 1 < count (now page)) ⌝ }
+    ensures { λ r. ⌜ (r .first ≡ fnv (code (now (page .entry)) i)) × (r .second ≡ fnv (code (now (page .entry)) (i + 1))) ⌝ }
+{
+    let v = slot_word(page, i);
+    let w = slot_word(page, i + 1);
+    let o = v % 16384;
+    let l = v / 16384 - 16384;
+    let q = w % 16384;
+    let k = w / 16384 - 16384;
+    hash::hash_two(page, o + 8, o + l, q + 8, q + k)
 }
 
 // Whether two hashes have the same prefix of k bits.
@@ -342,6 +376,44 @@ pub fn differ_below(first: u32, x: u32, m: u64) -> bool
     ((first ^ x) as u64) < m
 }
 
+// Whether two hashes both differ from the first by less than m.
+fn both_below(first: u32, two: Hashes, m: u64) -> bool
+    ensures { λ r. ⌜ Says r ((bitXor first (two .first) < m) × (bitXor first (two .second) < m)) ⌝ }
+{
+    if !differ_below(first, two.first, m) {
+        return false;
+    }
+    differ_below(first, two.second, m)
+}
+
+// How far from slot 1 on the hashes differ from the first by less than m, two slots at a time.
+fn near_by_twos(page: &[u8], first: u32, m: u64) -> usize
+    requires { ⌜ BucketPage (now page) ⌝ }
+    ensures { λ r. ⌜ NearUpTo (now (page .entry)) first m r ⌝ }
+{
+    let n = words::get16(page, 2);
+    let mut i = 1;
+    while i + 1 < n {
+        if !both_below(first, hash_pair(page, i), m) {
+            return i;
+        }
+        i += 2;
+    }
+    i
+}
+
+// The same where it pays: where the records, which begin at 8 and end at the frontier, have 32 bytes or more on the whole, and so the codes 24. Else slot 1, which is
+// as far as nothing was looked at.
+pub fn near_where_long(page: &[u8], first: u32, m: u64) -> usize
+    requires { ⌜ BucketPage (now page) ⌝ }
+    ensures { λ r. ⌜ NearUpTo (now (page .entry)) first m r ⌝ }
+{
+    if words::get16(page, 4) < 32 * words::get16(page, 2) {
+        return 1;
+    }
+    near_by_twos(page, first, m)
+}
+
 // Whether the hashes of a bucket page, the first of them given, share their first k bits: their differences or-ed have none there.
 fn alike(page: &[u8], first: u32, k: u8) -> bool
     requires { ⌜ FirstHash (now page) first k ⌝ }
@@ -349,7 +421,7 @@ fn alike(page: &[u8], first: u32, k: u8) -> bool
 {
     let n = words::get16(page, 2);
     let mut acc: u32 = 0;
-    let mut i = 1;
+    let mut i = near_by_twos(page, first, limit(k));
     while i < n {
         acc = acc | (first ^ hash_slot(page, i));
         i += 1;

@@ -86,9 +86,9 @@ pub fn first_unsound(
         let m = page_check::limit(k);
         let first = page_check::hash_slot(pg, 0);
         let count = words::get16(pg, 2);
-        let mut i = 1;
+        let mut i = page_check::near_where_long(pg, first, m);
         'slots: while i < count {
-            if !page_check::differ_below(first, page_check::hash_slot(pg, i), m) {
+            if !page_check::differ_below(first, page_check::hash_in_place(pg, i), m) {
                 break 'pages p;
             }
             i += 1;

@@ -20,7 +20,7 @@ returns c =
     let b = c .before in
     let z = b .before .before in
     let i = z .args .i in
-    joined _ (z .args .h) (b .four .result) (c .four2 .result) i (i + 4) (i + 4 + 4) (i + 8) (b .four .ensures) (c .four2 .ensures) (omega arith)
+    joined _ (z .args .h) (b .four .result) (c .four2 .result) i (i + 4) 4 4 8 (b .four .ensures) (c .four2 .ensures) (omega arith) (omega arith)
 
 pub eight-spec : {M : Type 1} → statement M
 eight-spec = tie.close (tie.spec four-requires add-four four-requires-2 returns)

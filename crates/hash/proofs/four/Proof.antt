@@ -20,7 +20,7 @@ returns c =
     let b = c .before in
     let z = b .before .before in
     let i = z .args .i in
-    joined _ (z .args .h) (b .two .result) (c .two2 .result) i (i + 2) (i + 2 + 2) (i + 4) (b .two .ensures) (c .two2 .ensures) (omega arith)
+    joined _ (z .args .h) (b .two .result) (c .two2 .result) i (i + 2) 2 2 4 (b .two .ensures) (c .two2 .ensures) (omega arith) (omega arith)
 
 pub four-spec : {M : Type 1} → statement M
 four-spec = tie.close (tie.spec two-requires add-two two-requires-2 returns)

@@ -26,9 +26,10 @@ returns c =
     let b = c .before .before in
     let z = b .before .before .before in
     let i = z .args .i in
-    joined _ (z .args .h) (b .step .result) (c .step2 .result) i (i + 1) (i + 1 + 1) (i + 2)
-    (taken _ (z .args .h) i (b .step .result) (omega arith) (b .step .ensures))
-    (taken _ (b .step .result) (i + 1) (c .step2 .result) (omega arith) (c .step2 .ensures))
+    joined _ (z .args .h) (b .step .result) (c .step2 .result) i (i + 1) 1 1 2
+    (taken _ (z .args .h) i (b .step .result) 1 (omega arith) (b .step .ensures) (omega arith))
+    (taken _ (b .step .result) (i + 1) (c .step2 .result) 1 (omega arith) (c .step2 .ensures) (omega arith))
+    (omega arith)
     (omega arith)
 
 pub two-spec : {M : Type 1} → statement M

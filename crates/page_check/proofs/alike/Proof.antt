@@ -1,11 +1,12 @@
 -- `page_check::alike` meets its contract. Assumes nothing.
-use Prim.Native.Nat.{_-_, _≤_}
-use mathlib.Core.Path.{_≡_, sym, _∙_}
+use Prim.Native.Nat.{_-_, _≤_, _<_}
+use mathlib.Core.Path.{_≡_, sym, subst, _∙_}
 use native.Mathlib.Omega.{arith}
+use lib.Bits.{bitXor}
 use Rattle.ground.proofs.Tests.{says-same}
 use Rattle.hash.specs.Fnv.{fnv}
 use Rattle.page.specs.Page.{count, code}
-use Rattle.page_check.proofs.Prefixes.{Ored, ored-one, ored-more, top-zero}
+use Rattle.page_check.proofs.Prefixes.{Ored, ored-near, ored-more, top-zero}
 use Rattle.page_check.proofs.alike.Statement.{statement}
 use Rattle.page_check.proofs.alike.Tie as tie
 
@@ -18,11 +19,23 @@ abbrev μ-loop : tie.MeasureT-loop
 get16-requires : tie.Need-get16-requires Inv-loop μ-loop
 get16-requires c κs = omega (arith, c .before .pre .rules .rules .least)
 
+limit-requires : tie.Need-limit-requires Inv-loop μ-loop
+limit-requires c κs = c .before .before .pre .bits
+
+near-by-twos-requires : tie.Need-near-by-twos-requires Inv-loop μ-loop
+near-by-twos-requires c κs = c .before .before .before .pre .rules
+
 loop-holds : tie.Need-loop-holds Inv-loop μ-loop
-loop-holds c = let s = c .before .before .pre in (omega (arith, s .rules .some, c .get16 .ensures .0), ored-one _ (s .bits) _ _ (s .hash))
+loop-holds c =
+    let s = c .before .before .before .before in
+    let a = s .args in
+    let near = c .near-by-twos .ensures in (
+      omega (arith, near .within, c .before .before .get16 .ensures .0),
+      ored-near _ (s .pre .bits) _ _ _ (s .pre .hash) (λ i h l. subst (λ m. bitXor (a .first) (fnv (code (a .page .now) i)) < m) (c .before .limit .ensures) (near .near i h l)),
+    )
 
 hash-slot-requires : tie.Need-hash-slot-requires Inv-loop μ-loop
-hash-slot-requires c κs = (c .before .before .before .before .pre .rules, omega (arith, c .before .before .get16 .ensures .0))
+hash-slot-requires c κs = (c .before .before .before .before .before .before .pre .rules, omega (arith, c .before .before .before .before .get16 .ensures .0))
 
 add-i : tie.Need-add-i Inv-loop μ-loop
 add-i c = omega arith
@@ -32,18 +45,18 @@ loop-less c = omega arith
 
 loop-again : tie.Need-loop-again Inv-loop μ-loop
 loop-again c =
-    let s = c .before .before .before .before .before .pre in
+    let s = c .before .before .before .before .before .before .before .pre in
     (omega arith, rw (c .hash-slot .ensures) (ored-more _ (s .bits) _ _ _ _ (c .before .before .loop .inv .1)))
 
 shares-requires : tie.Need-shares-requires Inv-loop μ-loop
-shares-requires c κs = c .before .before .before .before .pre .bits
+shares-requires c κs = c .before .before .before .before .before .before .pre .bits
 
 returns : tie.Need-returns Inv-loop μ-loop
 returns c =
-    let s = c .before .before .before .before .before in
+    let s = c .before .before .before .before .before .before .before in
     let a = s .args in
     let l = c .before .before .loop in
-    let e : l .i ≡ count (a .page .now) = omega (arith, c .before .before .before .get16 .ensures .0) in
+    let e : l .i ≡ count (a .page .now) = omega (arith, c .before .before .before .before .before .get16 .ensures .0) in
     let o : Ored (a .k) (λ j. fnv (code (a .page .now) j)) (a .first) (count (a .page .now)) (l .acc) = rw e at (l .inv .1) in
     let z = top-zero (a .k) (s .pre .bits) in
     says-same (c .shares .result) (c .shares .ensures) (λ t. rw (s .pre .hash) at (o .so (sym t ∙ z))) (λ h. z ∙ sym (o .back (rw (s .pre .hash) h)))
@@ -55,6 +68,8 @@ alike-spec =
     Inv-loop
     μ-loop
     get16-requires
+    limit-requires
+    near-by-twos-requires
     loop-holds
     hash-slot-requires
     add-i

@@ -1,4 +1,4 @@
--- `query::first_unsound` meets its contract. Assumes nothing.
+-- `store_check::pages::first_unsound` meets its contract. Assumes nothing.
 use borrow.Author.Count.{below-more}
 use borrow.Author.Tests.{not-true, not-false}
 use borrow.Author.Needs.{needs}
@@ -142,24 +142,24 @@ own : (c : Past) → Own (pg-of (at c)) (deep (at c))
 own c = says-true {P = Own (pg-of (at c)) (deep (at c))} (c .before .before .before .own-ok .result) (not-false _ (c .if4 .left)) (c .before .before .before .own-ok .ensures .0)
 
 -- what the test of slot i says
-slot-said : (c : tie.After-differ-below Inv-slots μ-slots Inv-pages μ-pages) → let g = pg-of (at (c .before .before .before .before .before .before .before .before)) in Says (c .differ-below .result) (Like g (c .before .before .before .slots .i))
+slot-said : (c : tie.After-differ-below Inv-slots μ-slots Inv-pages μ-pages) → let g = pg-of (at (c .before .before .before .before .before .before .before .before .before)) in Says (c .differ-below .result) (Like g (c .before .before .before .slots .i))
 slot-said c =
-    let x = c .before .before .before .before .before .before .before .before in
+    let x = c .before .before .before .before .before .before .before .before .before in
     let g = pg-of (at x) in
     let k = depth g in
-    let one = c .before .before .before .before .before .hash-slot in
-    let two = c .before .hash-slot2 in
-    let m = c .before .before .before .before .before .before .limit in
+    let one = c .before .before .before .before .before .before .hash-slot in
+    let two = c .before .hash-in-place in
+    let m = c .before .before .before .before .before .before .before .limit in
     let n = near k (omega (arith, own x .deep, start (at x) .pre .begun .deep, few (at x))) (one .result) (two .result) in
     says-same {P = bitXor (one .result) (two .result) < m .result} {Q = Like g (c .before .before .before .slots .i)} (c .differ-below .result) (c .differ-below .ensures)
     (λ h. ap (top k) (sym (one .ensures)) ∙ n .0 (subst (λ v. bitXor (one .result) (two .result) < v) (m .ensures) h) ∙ ap (top k) (two .ensures))
     (λ h. subst (λ v. bitXor (one .result) (two .result) < v) (sym (m .ensures)) (n .1 (ap (top k) (one .ensures) ∙ h ∙ sym (ap (top k) (two .ensures)))))
 
 -- and what that of the entries says
-name-said : (c : tie.After-named Inv-slots μ-slots Inv-pages μ-pages) → let x = at (c .before .before .before .before .before .before .before) in Says (c .named .result) (Named (dir-of x) (deep x) (depth (pg-of x)) (prefixOf (pg-of x)) (p-of x))
+name-said : (c : tie.After-named Inv-slots μ-slots Inv-pages μ-pages) → let x = at (c .before .before .before .before .before .before .before .before) in Says (c .named .result) (Named (dir-of x) (deep x) (depth (pg-of x)) (prefixOf (pg-of x)) (p-of x))
 name-said c =
-    let x = at (c .before .before .before .before .before .before .before) in
-    subst (λ y. Says (c .named .result) (Named (dir-of x) (deep x) (depth (pg-of x)) (top (depth (pg-of x)) y) (p-of x))) (c .before .before .before .before .hash-slot .ensures) (c .named .ensures)
+    let x = at (c .before .before .before .before .before .before .before .before) in
+    subst (λ y. Says (c .named .result) (Named (dir-of x) (deep x) (depth (pg-of x)) (top (depth (pg-of x)) y) (p-of x))) (c .before .before .before .before .before .hash-slot .ensures) (c .named .ensures)
 
 pages-holds : tie.Need-pages-holds Inv-slots μ-slots Inv-pages μ-pages
 pages-holds c = let a = c .before .before .before .before .before in (a .pre .tab-long, a .pre .no-tab, omega arith, omega (arith, a .pre .begun .least), (λ q l h. absurd (omega arith)), hashed-none _ _ _ (a .pre .hashes-long), λ q _. a .pre .no-hashes q)
@@ -224,11 +224,26 @@ hash-slot-requires c κs = (own (c .before .before) .rules, own (c .before .befo
 get16-requires : tie.Need-get16-requires Inv-slots μ-slots Inv-pages μ-pages
 get16-requires c κs = omega (arith, long (at (c .before .before .before)))
 
-slots-holds : tie.Need-slots-holds Inv-slots μ-slots Inv-pages μ-pages
-slots-holds c = (omega arith, omega (arith, own (c .before .before .before .before) .rules .some, c .get16 .ensures .0), λ j h. let e : j ≡ 0 = omega arith in rw e refl)
+near-where-long-requires : tie.Need-near-where-long-requires Inv-slots μ-slots Inv-pages μ-pages
+near-where-long-requires c κs = own (c .before .before .before .before) .rules
 
-hash-slot-requires-2 : tie.Need-hash-slot-requires-2 Inv-slots μ-slots Inv-pages μ-pages
-hash-slot-requires-2 c κs = (own (c .before .before .before .before .before .before) .rules, omega (arith, c .before .before .get16 .ensures .0))
+slots-holds : tie.Need-slots-holds Inv-slots μ-slots Inv-pages μ-pages
+slots-holds c =
+    let x = c .before .before .before .before .before in
+    let g = pg-of (at x) in
+    let first = c .before .before .hash-slot in
+    let far = c .near-where-long .ensures in
+    let n = near (depth g) (omega (arith, own x .deep, start (at x) .pre .begun .deep, few (at x))) (first .result) in (
+      far .start,
+      omega (arith, far .within, c .before .get16 .ensures .0),
+      λ j h. ⊎-elim
+          (λ lt. let e : j ≡ 0 = omega arith in rw e refl)
+          (λ ge. ap (top (depth g)) (sym (first .ensures)) ∙ n (fnv (code g j)) .0 (subst (λ v. bitXor (first .result) (fnv (code g j)) < v) (c .before .before .before .limit .ensures) (far .near j ge h)))
+          (side j 1),
+    )
+
+hash-in-place-requires : tie.Need-hash-in-place-requires Inv-slots μ-slots Inv-pages μ-pages
+hash-in-place-requires c κs = (own (c .before .before .before .before .before .before .before) .rules, omega (arith, c .before .before .before .get16 .ensures .0))
 
 differ-below-requires : tie.Need-differ-below-requires Inv-slots μ-slots Inv-pages μ-pages
 differ-below-requires c κs = search needs
@@ -241,7 +256,7 @@ slots-less c = search needs
 
 slots-again : tie.Need-slots-again Inv-slots μ-slots Inv-pages μ-pages
 slots-again c =
-    let x = c .before .before .before .before .before .before .before .before .before in (
+    let x = c .before .before .before .before .before .before .before .before .before .before in (
       omega arith,
       omega arith,
       below-more (Like (pg-of (at x))) _ (c .before .before .before .before .slots .inv .2)
@@ -250,15 +265,15 @@ slots-again c =
 
 cast-named : tie.Need-cast-named Inv-slots μ-slots Inv-pages μ-pages
 cast-named c =
-    let x = c .before .before .before .before .before .before in
+    let x = c .before .before .before .before .before .before .before in
     record { fits = omega (arith, own x .deep, start (at x) .pre .begun .deep, few (at x)) }
 
 cast-named-2 : tie.Need-cast-named-2 Inv-slots μ-slots Inv-pages μ-pages
-cast-named-2 c = let x = at (c .before .before .before .before .before .before) in record { fits = omega (arith, in-range x, few-entries x) }
+cast-named-2 c = let x = at (c .before .before .before .before .before .before .before) in record { fits = omega (arith, in-range x, few-entries x) }
 
 named-requires : tie.Need-named-requires Inv-slots μ-slots Inv-pages μ-pages
 named-requires c κs =
-    let x = c .before .before .before .before .before .before in
+    let x = c .before .before .before .before .before .before .before in
     let a = start (at x) in
     let b = a .pre .begun in
     record {
@@ -275,7 +290,7 @@ mul-hashes : tie.Need-mul-hashes Inv-slots μ-slots Inv-pages μ-pages
 mul-hashes c = search needs
 
 slice-write-hashes : tie.Need-slice-write-hashes Inv-slots μ-slots Inv-pages μ-pages
-slice-write-hashes c = let x = at (c .before .before .before .before .before .before .before .before) in omega (arith, in-range x, turn x .pages .inv .5 .long)
+slice-write-hashes c = let x = at (c .before .before .before .before .before .before .before .before .before) in omega (arith, in-range x, turn x .pages .inv .5 .long)
 
 add-p : tie.Need-add-p Inv-slots μ-slots Inv-pages μ-pages
 add-p c = search needs
@@ -285,7 +300,7 @@ pages-less-2 c = search needs
 
 pages-again-2 : tie.Need-pages-again-2 Inv-slots μ-slots Inv-pages μ-pages
 pages-again-2 c =
-    let y = c .before .before .before .before .before .before .before .before in
+    let y = c .before .before .before .before .before .before .before .before .before in
     let x = at y in
     let l = turn x .pages in (
       y .before .before .before .own-ok .kept .1 .0 ∙ l .inv .0,
@@ -293,9 +308,9 @@ pages-again-2 c =
       omega arith,
       omega arith,
       goes x (fine-used x (own y)
-          (λ i m. c .before .before .before .slots .inv .2 i (omega (arith, c .before .before .slots-test .left, c .before .before .before .before .get16 .ensures .0)))
+          (λ i m. c .before .before .before .slots .inv .2 i (omega (arith, c .before .before .slots-test .left, c .before .before .before .before .before .get16 .ensures .0)))
           (says-true {P = Named (dir-of x) (deep x) (depth (pg-of x)) (prefixOf (pg-of x)) (p-of x)} (c .before .named .result) (not-false _ (c .if6 .left)) (name-said (c .before)))),
-      keeps x (omega (arith, c .before .before .before .before .before .hash-slot .ensures, first-used (pg-of x) (y .before .before .before .before .before .if2 .left))),
+      keeps x (omega (arith, c .before .before .before .before .before .before .hash-slot .ensures, first-used (pg-of x) (y .before .before .before .before .before .if2 .left))),
       (λ q m. getD-set-other (l .hashes) (p-of x) q _ 0 (λ e. omega arith) ∙ l .inv .6 q (omega arith)),
     )
 
@@ -333,30 +348,30 @@ returns-3 c =
     (ends x (λ st. says-false {P = Own (pg-of x) (deep x)} (c .before .before .before .own-ok .result) (not-true _ (c .if4 .taken)) (c .before .before .before .own-ok .ensures .0) (own-of x (c .before .before .before .before .before .if2 .left) st)), turn x .pages .inv .5)
 
 same-length-7 : tie.Need-same-length-7 Inv-slots μ-slots Inv-pages μ-pages
-same-length-7 c = let t = turn (at (c .before .before .before .before .before .before .before .before .before)) in c .before .before .before .before .before .before .before .before .before .before .before .before .own-ok .kept .1 .0 ∙ t .pages .inv .0 ∙ sym (t .before .before .before .before .before .before .pre .tab-long)
+same-length-7 c = let t = turn (at (c .before .before .before .before .before .before .before .before .before .before)) in c .before .before .before .before .before .before .before .before .before .before .before .before .before .own-ok .kept .1 .0 ∙ t .pages .inv .0 ∙ sym (t .before .before .before .before .before .before .pre .tab-long)
 
 same-length-8 : tie.Need-same-length-8 Inv-slots μ-slots Inv-pages μ-pages
-same-length-8 c = let t = turn (at (c .before .before .before .before .before .before .before .before .before)) in t .pages .inv .5 .long ∙ sym (t .before .before .before .before .before .before .pre .hashes-long)
+same-length-8 c = let t = turn (at (c .before .before .before .before .before .before .before .before .before .before)) in t .pages .inv .5 .long ∙ sym (t .before .before .before .before .before .before .pre .hashes-long)
 
 returns-4 : tie.Need-returns-4 Inv-slots μ-slots Inv-pages μ-pages
 returns-4 c =
-    let y = c .before .before .before .before .before .before .before .before .before in
+    let y = c .before .before .before .before .before .before .before .before .before .before in
     let x = at y in
     let i = c .before .before .before .before .slots .i in (
       ends x (λ st. says-false {P = Like (pg-of x) i} (c .before .differ-below .result) (not-true _ (c .if5 .taken)) (slot-said (c .before))
-          (like-of x (y .before .before .before .before .before .if2 .left) st i (omega (arith, c .before .before .before .before .before .get16 .ensures .0)))),
+          (like-of x (y .before .before .before .before .before .if2 .left) st i (omega (arith, c .before .before .before .before .before .before .get16 .ensures .0)))),
       turn x .pages .inv .5,
     )
 
 same-length-9 : tie.Need-same-length-9 Inv-slots μ-slots Inv-pages μ-pages
-same-length-9 c = let t = turn (at (c .before .before .before .before .before .before .before .before)) in c .before .before .before .before .before .before .before .before .before .before .before .own-ok .kept .1 .0 ∙ t .pages .inv .0 ∙ sym (t .before .before .before .before .before .before .pre .tab-long)
+same-length-9 c = let t = turn (at (c .before .before .before .before .before .before .before .before .before)) in c .before .before .before .before .before .before .before .before .before .before .before .before .own-ok .kept .1 .0 ∙ t .pages .inv .0 ∙ sym (t .before .before .before .before .before .before .pre .tab-long)
 
 same-length-10 : tie.Need-same-length-10 Inv-slots μ-slots Inv-pages μ-pages
-same-length-10 c = let t = turn (at (c .before .before .before .before .before .before .before .before)) in t .pages .inv .5 .long ∙ sym (t .before .before .before .before .before .before .pre .hashes-long)
+same-length-10 c = let t = turn (at (c .before .before .before .before .before .before .before .before .before)) in t .pages .inv .5 .long ∙ sym (t .before .before .before .before .before .before .pre .hashes-long)
 
 returns-5 : tie.Need-returns-5 Inv-slots μ-slots Inv-pages μ-pages
 returns-5 c =
-    let y = c .before .before .before .before .before .before .before .before in
+    let y = c .before .before .before .before .before .before .before .before .before in
     let x = at y in (
       ends x (λ st. says-false {P = Named (dir-of x) (deep x) (depth (pg-of x)) (prefixOf (pg-of x)) (p-of x)} (c .before .named .result) (not-true _ (c .if6 .taken)) (name-said (c .before))
           (named-of x (y .before .before .before .before .before .if2 .left) st)),
@@ -387,8 +402,9 @@ first-unsound-spec =
     limit-requires
     hash-slot-requires
     get16-requires
+    near-where-long-requires
     slots-holds
-    hash-slot-requires-2
+    hash-in-place-requires
     differ-below-requires
     add-i
     slots-less
