@@ -1,14 +1,14 @@
 -- The tests together are the rules. Assumes nothing.
 use Prim.Native.Nat.{ℕ, zero, suc, _+_, _*_, _-_, _≤_, _<_}
-use mathlib.Core.Path.{_≡_, refl, sym, _∙_}
+use mathlib.Core.Path.{_≡_, sym, _∙_}
 use mathlib.Core.Logic.{_⊎_, ⊎-elim}
-use mathlib.Core.List.{List, [], _∷_}
+use mathlib.Core.List.{List}
 use native.Mathlib.Omega.{arith}
 use lib.ListN.{length}
 use Rattle.ground.specs.Lists.{byte, part}
 use Rattle.ground.proofs.Sides.{side}
 use Rattle.ground.proofs.Parts.{byte-part, length-part}
-use Rattle.words.specs.Codes.{Before, order}
+use Rattle.words.specs.Codes.{Before}
 use Rattle.words.proofs.Orders.{before-trans}
 use Rattle.words.specs.Zeros.{Zero}
 use Rattle.words.proofs.Zeros.{zero-all}
@@ -16,6 +16,7 @@ use Rattle.page.proofs.Sums.{len-of-code}
 use Rattle.page.specs.Page.{BucketPage, Natural, off, len, kind, word, place, code, count, frontier}
 use Rattle.page_check.specs.Rules.{HeadOk, NaturalAt, WordOk, SlotsOk, prior}
 use Rattle.page_check.specs.Table.{Laid}
+use Rattle.page_check.proofs.Sweep.{after-none}
 
 natural-to : (p : List ℕ) (i : ℕ) → off p i + 8 ≤ length p → NaturalAt p (off p i) → Natural (place p i)
 unfolding place
@@ -39,23 +40,15 @@ record Slot (p : List ℕ) (i : ℕ) : Type 0 where
   pub kind-one : kind p i ≡ 1
   pub short : 9 ≤ len p i
   pub long : len p i ≤ 72
-  pub after : 8 ≤ off p i
   pub inside : off p i + len p i ≤ frontier p
-  pub natural : NaturalAt p (off p i)
 
-slot-of : (p : List ℕ) (i : ℕ) → WordOk p (frontier p) (word p i) → Slot p i
+slot-of : (p : List ℕ) (i : ℕ) → WordOk (frontier p) (word p i) → Slot p i
 unfolding off len kind
-slot-of p i w = record { kind-one = w .kind-one; short = w .short; long = w .long; after = w .after; inside = w .inside; natural = w .natural }
+slot-of p i w = record { kind-one = w .kind-one; short = w .short; long = w .long; inside = w .inside }
 
-word-of : (p : List ℕ) (i : ℕ) → Slot p i → WordOk p (frontier p) (word p i)
+word-of : (p : List ℕ) (i : ℕ) → Slot p i → WordOk (frontier p) (word p i)
 unfolding off len kind
-word-of p i w = record { kind-one = w .kind-one; short = w .short; long = w .long; after = w .after; inside = w .inside; natural = w .natural }
-
--- a code comes after no code
-after-none : (c : List ℕ) → 1 ≤ length c → Before [] c
-unfolding order
-after-none [] h = absurd (omega arith)
-after-none (x ∷ c) h = record { less = refl }
+word-of p i w = record { kind-one = w .kind-one; short = w .short; long = w .long; inside = w .inside }
 
 -- steps up add up
 ascending-of : (p : List ℕ) (n : ℕ) → ((i : ℕ) → i < n → Before (prior p i) (code p i)) → (i j : ℕ) → i < j → j < n → Before (code p i) (code p j)
@@ -88,9 +81,7 @@ slots-of p b = record {
       kind-one = b .rules .kinds i h;
       short = b .rules .short i h;
       long = b .rules .long i h;
-      after = b .rules .after i h;
       inside = b .rules .inside i h;
-      natural = natural-from p i (b .rules .places i h);
     }
 
     climbs : (i : ℕ) → i < count p → Before (prior p i) (code p i)
@@ -120,6 +111,8 @@ pub record Known (p : List ℕ) (n f : ℕ) : Type 0 where
 module _ (p : List ℕ) (n f : ℕ) (k : Known p n f) where
   pub laid-from : BucketPage p → Laid p n f
   laid-from b = rw (k .rows, k .front) (record {
+    after = b .rules .after;
+    natural = λ i h. natural-from p i (b .rules .places i h);
     apart = b .rules .apart;
     clear = λ x h l out. b .rules .clear x h (omega (arith, b .rules .room)) out;
     top = b .rules .top (b .some);
@@ -141,12 +134,12 @@ module _ (p : List ℕ) (n f : ℕ) (k : Known p n f) where
       kinds = λ i h. slot i h .kind-one;
       short = λ i h. slot i h .short;
       long = λ i h. slot i h .long;
-      after = λ i h. slot i h .after;
+      after = laid .after;
       inside = λ i h. slot i h .inside;
       start = omega (arith, k .head .start);
       empty = λ h. absurd (omega (arith, k .head .some));
       top = λ h. laid .top;
-      places = λ i h. natural-to p i (omega (arith, slot i h .inside, slot i h .short, k .head .room)) (slot i h .natural);
+      places = λ i h. natural-to p i (omega (arith, slot i h .inside, slot i h .short, k .head .room)) (laid .natural i h);
       apart = laid .apart;
       ascending = ascending-of p (count p) (k .slots .ascending);
       unused = k .slots .unused;
