@@ -1,17 +1,18 @@
 -- The tests together are the rules. Assumes nothing.
 use Prim.Native.Nat.{ℕ, zero, suc, _+_, _*_, _-_, _≤_, _<_}
-use mathlib.Core.Path.{_≡_, sym, _∙_}
+use mathlib.Core.Path.{_≡_, refl, sym, _∙_}
 use mathlib.Core.Logic.{_⊎_, ⊎-elim}
 use mathlib.Core.List.{List}
 use native.Mathlib.Omega.{arith}
+use lib.Bits.{bitOr}
 use lib.ListN.{length}
-use Rattle.ground.specs.Lists.{byte, part}
+use Rattle.ground.specs.Lists.{byte}
 use Rattle.ground.proofs.Sides.{side}
 use Rattle.ground.proofs.Parts.{byte-part, length-part}
 use Rattle.words.specs.Codes.{Before}
 use Rattle.words.proofs.Orders.{before-trans}
-use Rattle.words.specs.Zeros.{Zero}
-use Rattle.words.proofs.Zeros.{zero-all}
+use Rattle.words.specs.Zeros.{ZeroFrom}
+use Rattle.words.proofs.Zeros.{or-zero, zero-or}
 use Rattle.page.proofs.Sums.{len-of-code}
 use Rattle.page.specs.Page.{BucketPage, Natural, off, len, kind, word, place, code, count, frontier}
 use Rattle.page_check.specs.Rules.{HeadOk, NaturalAt, WordOk, SlotsOk, prior}
@@ -88,17 +89,28 @@ slots-of p b = record {
     climbs zero h = after-none (code p 0) (omega (arith, len-of-code p 0 (b .rules) h, b .rules .short 0 h))
     climbs (suc i) h = b .rules .ascending i (suc i) (omega arith) h
 
--- zeros from a up to b
-zero-part : (p : List ℕ) (a b : ℕ) → a ≤ b → b ≤ length p → ((k : ℕ) → a ≤ k → k < b → byte p k ≡ 0) → Zero (part p a (b - a))
-zero-part p a b h l z =
-    let e : length (part p a (b - a)) ≡ b - a = length-part p a (b - a) (omega arith) in
-    zero-all (part p a (b - a)) (b - a) (omega arith) (λ k lt. byte-part p a (b - a) k lt ∙ z (a + k) (omega arith) (omega arith))
+-- acc is zero exactly when the i bytes from a on and those from b on are
+pub record Emptied (p : List ℕ) (a b i acc : ℕ) : Type 0 where
+  pub so : acc ≡ 0 → ZeroFrom p a (a + i) × ZeroFrom p b (b + i)
+  pub back : ZeroFrom p a (a + i) → ZeroFrom p b (b + i) → acc ≡ 0
 
-part-zero : (p : List ℕ) (a b : ℕ) → Zero (part p a (b - a)) → (k : ℕ) → a ≤ k → k < b → byte p k ≡ 0
-part-zero p a b z k h l =
-    let e : a + (k - a) ≡ k = omega arith in
-    let lt : k - a < b - a = omega arith in
-    rw e at (sym (byte-part p a (b - a) (k - a) lt) ∙ z (k - a))
+pub emptied-none : (p : List ℕ) (a b : ℕ) → Emptied p a b 0 0
+emptied-none p a b = record { so = λ _. ((λ k l h. absurd (omega arith)), (λ k l h. absurd (omega arith))); back = λ _ _. refl }
+
+pub emptied-more : (p : List ℕ) (a b i acc : ℕ) → Emptied p a b i acc → Emptied p a b (i + 1) (bitOr (bitOr acc (byte p (a + i))) (byte p (b + i)))
+emptied-more p a b i acc g = record {
+  so = λ e.
+      let x = or-zero (bitOr acc (byte p (a + i))) (byte p (b + i)) e in
+      let y = or-zero acc (byte p (a + i)) (x .0) in
+      let z = g .so (y .0) in
+      (more a (z .0) (y .1), more b (z .1) (x .1));
+  back = λ n o. zero-or (bitOr acc (byte p (a + i))) (byte p (b + i))
+      (zero-or acc (byte p (a + i)) (g .back (λ k l h. n k l (omega arith)) (λ k l h. o k l (omega arith))) (n (a + i) (omega arith) (omega arith)))
+      (o (b + i) (omega arith) (omega arith));
+}
+  where
+    more : (x : ℕ) → ZeroFrom p x (x + i) → byte p (x + i) ≡ 0 → ZeroFrom p x (x + (i + 1))
+    more x z e k l h = ⊎-elim (λ lt. z k l lt) (λ ge. let same : k ≡ x + i = omega arith in rw same e) (side k (x + i))
 
 -- what is known of a page p once its header and its slots are: n its rows, f its frontier
 pub record Known (p : List ℕ) (n f : ℕ) : Type 0 where
@@ -118,11 +130,10 @@ module _ (p : List ℕ) (n f : ℕ) (k : Known p n f) where
     top = b .rules .top (b .some);
   })
 
-  pub zeros-of : BucketPage p → Zero (part p f (length p - 4 * n - f))
-  zeros-of b = rw (k .front, k .rows) (zero-part p (frontier p) (length p - 4 * count p) (omega (arith, k .head .room)) (omega arith)
-      (λ x h l. b .rules .clear x (omega (arith, b .rules .start)) (omega arith) (λ i h₂ y. omega (arith, y .to, b .rules .inside i h₂))))
+  pub zeros-of : BucketPage p → ZeroFrom p f (length p - 4 * n)
+  zeros-of b = rw (k .front, k .rows) (λ x h l. b .rules .clear x (omega (arith, b .rules .start)) (omega arith) (λ i h₂ y. omega (arith, y .to, b .rules .inside i h₂)))
 
-  pub whole : Laid p n f → Zero (part p f (length p - 4 * n - f)) → BucketPage p
+  pub whole : Laid p n f → ZeroFrom p f (length p - 4 * n) → BucketPage p
   whole l o = record {
     some = k .head .some;
     rules = record {
@@ -145,7 +156,7 @@ module _ (p : List ℕ) (n f : ℕ) (k : Known p n f) where
       unused = k .slots .unused;
       clear = λ x h l out. ⊎-elim
           (λ lt. laid .clear x h lt out)
-          (λ ge. part-zero p (frontier p) (length p - 4 * count p) high x ge (omega arith))
+          (λ ge. high x ge (omega arith))
           (side x (frontier p));
     };
   }
@@ -156,5 +167,5 @@ module _ (p : List ℕ) (n f : ℕ) (k : Known p n f) where
       laid : Laid p (count p) (frontier p)
       laid = rw (k .rows, k .front) at l
 
-      high : Zero (part p (frontier p) (length p - 4 * count p - frontier p))
+      high : ZeroFrom p (frontier p) (length p - 4 * count p)
       high = rw (k .front, k .rows) at o

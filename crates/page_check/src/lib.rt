@@ -8,13 +8,13 @@ ghost use lib.ListN.{length};
 ghost use Rattle.ground.specs.Says.{Says};
 ghost use Rattle.ground.specs.Lists.{part};
 ghost use Rattle.words.specs.Codes.{Before};
-ghost use Rattle.words.specs.Zeros.{Zero};
+ghost use Rattle.words.specs.Zeros.{Zero, ZeroFrom};
 ghost use Rattle.hash.specs.Fnv.{fnv};
 ghost use Rattle.partition.specs.Bits.{top};
 ghost use Rattle.page.specs.Page.{BucketPage, depth, count, code};
 ghost use Rattle.page_check.specs.Rules.{HeadOk, NaturalAt, NoSign, SlotsOk, offOf, slotOf, prior, Preceded, Codes};
 ghost use Rattle.page_check.specs.Table.{Table, HeadKnown, Tabled, Inside, Laid, Pair, Turn, LeadOver, Taken};
-ghost use Rattle.page_check.specs.Marks.{Marked, NoCapital};
+ghost use Rattle.page_check.specs.Marks.{Marked, NoCapital, Halves};
 ghost use Rattle.page_check.specs.Big.{Bytes4, Bytes8, big, Stretch, Led};
 ghost use Rattle.page_check.specs.Shared.{PageOk, FirstHash, LentTable, Alike, Share, Keeps};
 use words::Order;
@@ -199,7 +199,7 @@ fn slots_ok(page: &[u8], tab: &mut [u8], n: usize, f: usize) -> bool
         tab[w % 16384] = (w / 16384 % 256) as u8;
         lens = lens + w / 16384;
     }
-    words::get16(page, 6) + 4 * n + lens == page.len() - 8 + 16384 * n
+    words::get16(page, 6) + 8 + lens == page.len() + 16380 * n
 }
 
 // The eight bytes of a place at o as one number, the first the lowest.
@@ -270,30 +270,57 @@ fn walk(page: &[u8], tab: &mut [u8], n: usize, f: usize) -> bool
     no_sign(signs)
 }
 
-// Where the test for capitals ends: by whole turns of 32 bytes where those end before the slots, at e, so that it has no rest.
-fn rounded(f: usize, e: usize) -> usize
-    requires { ⌜ (f ≤ e) × (e ≤ 16384) ⌝ }
-    ensures { λ r. ⌜ (f ≤ r) × (r ≤ e) ⌝ }
+// Whether the h bytes from a on and the h bytes from b on are zero. No way out before the end, so that it vectorises; two stretches at once, so that a turn has more of them.
+fn both_zero(page: &[u8], a: usize, b: usize, h: usize) -> bool
+    requires { ⌜ (a + h ≤ length (now page)) × (b + h ≤ length (now page)) ⌝ }
+    ensures { λ r. ⌜ Says r (ZeroFrom (now (page .entry)) a (a + h) × ZeroFrom (now (page .entry)) b (b + h)) ⌝ }
 {
-    let g = (f + 23) / 32 * 32 + 8;
-    if e < g {
-        return f;
+    let mut acc: u8 = 0;
+    let mut i = 0;
+    while i < h {
+        acc = acc | page[a + i] | page[b + i];
+        i += 1;
     }
-    g
+    acc == 0
 }
 
-// Whether no byte from 8 up to g is a capital, but for those that are marked. No way out before the end, so that it vectorises.
-fn no_capital(page: &[u8], tab: &[u8], g: usize) -> bool
-    requires { ⌜ (g ≤ length (now page)) × (g ≤ length (now tab)) ⌝ }
-    ensures { λ r. ⌜ Says r (NoCapital (now (page .entry)) (now (tab .entry)) g) ⌝ }
+// Whether the bytes from a up to b are zero: in two stretches of whole turns of 32 bytes, which overlap, so that there is no rest.
+fn zeros(page: &[u8], a: usize, b: usize) -> bool
+    requires { ⌜ Stretch (now page) a b × (b ≤ 16384) ⌝ }
+    ensures { λ r. ⌜ Says r (ZeroFrom (now (page .entry)) a b) ⌝ }
+{
+    let h = (b - a + 63) / 64 * 32;
+    if b < a + h {
+        return both_zero(page, a, a, b - a);
+    }
+    both_zero(page, a, b - h, h)
+}
+
+// Whether none of the h bytes from 8 on and of the h bytes from d on is a capital, but for those that are marked. As both_zero.
+fn both_small(page: &[u8], tab: &[u8], d: usize, h: usize) -> bool
+    requires { ⌜ Halves (now page) (now tab) d h ⌝ }
+    ensures { λ r. ⌜ Says r (NoCapital (now (page .entry)) (now (tab .entry)) 8 (8 + h) × NoCapital (now (page .entry)) (now (tab .entry)) d (d + h)) ⌝ }
 {
     let mut low: u8 = 255;
-    let mut k = 8;
-    while k < g {
-        low = words::lesser(low, words::letter(page[k] | tab[k]));
+    let mut k = 0;
+    while k < h {
+        low = words::lesser(low, words::letter(page[8 + k] | tab[8 + k]));
+        low = words::lesser(low, words::letter(page[d + k] | tab[d + k]));
         k += 1;
     }
     26 <= low
+}
+
+// Whether no byte from 8 up to f is a capital, but for those that are marked. Stretches as in zeros.
+fn no_capital(page: &[u8], tab: &[u8], f: usize) -> bool
+    requires { ⌜ Stretch (now page) 8 f × (length (now tab) ≡ length (now page)) ⌝ }
+    ensures { λ r. ⌜ Says r (NoCapital (now (page .entry)) (now (tab .entry)) 8 f) ⌝ }
+{
+    let h = (f + 55) / 64 * 32;
+    if f < 8 + h {
+        return both_small(page, tab, 8, f - 8);
+    }
+    both_small(page, tab, f - h, h)
 }
 
 // The rules after the header, of n rows and frontier f.
@@ -308,11 +335,10 @@ fn records_ok(page: &[u8], tab: &mut [u8], n: usize, f: usize) -> bool
     if !walk(page, tab, n, f) {
         return false;
     }
-    let e = page.len() - 4 * n;
-    if !words::all_zero(&page[f..e]) {
+    if !zeros(page, f, page.len() - 4 * n) {
         return false;
     }
-    no_capital(page, tab, rounded(f, e))
+    no_capital(page, tab, f)
 }
 
 // Whether the page keeps the rules of a bucket page (but for the hashes' shared bits). tab is scratch of the page's length, zero before and after.

@@ -174,20 +174,14 @@ module _ (c : tie.After-get16 Inv-loop μ-loop) where
   small : last .loop .lens ≤ 67403776
   small = omega (arith, last .loop .inv .5, all, begun .pre .head .room, begun .pre .head .most)
 
-mul-result : tie.Need-mul-result Inv-loop μ-loop
-mul-result c = omega (arith, begun c .pre .head .room, begun c .pre .head .most, begun c .pre .rows)
-
 add-result : tie.Need-add-result Inv-loop μ-loop
-add-result c = omega (arith, begun c .pre .head .room, begun c .pre .head .most, begun c .pre .rows, c .get16 .ensures .1)
+add-result c = omega (arith, c .get16 .ensures .1)
 
 add-result-2 : tie.Need-add-result-2 Inv-loop μ-loop
-add-result-2 c = omega (arith, begun c .pre .head .room, begun c .pre .head .most, begun c .pre .rows, c .get16 .ensures .1, small c)
+add-result-2 c = omega (arith, c .get16 .ensures .1, small c)
 
-sub-result : tie.Need-sub-result Inv-loop μ-loop
-sub-result c = omega (arith, begun c .pre .head .least)
-
-mul-result-2 : tie.Need-mul-result-2 Inv-loop μ-loop
-mul-result-2 c = omega (arith, begun c .pre .head .room, begun c .pre .head .most, begun c .pre .rows)
+mul-result : tie.Need-mul-result Inv-loop μ-loop
+mul-result c = omega (arith, begun c .pre .head .room, begun c .pre .head .most, begun c .pre .rows)
 
 add-result-3 : tie.Need-add-result-3 Inv-loop μ-loop
 add-result-3 c = omega (arith, begun c .pre .head .room, begun c .pre .head .most, begun c .pre .rows)
@@ -202,7 +196,7 @@ returns-2 c =
     let l = last c .loop in
     let u : l .lens + 4 * count q ≡ total (need q) (count q) + 16384 * count q = subst (λ i. l .lens + 4 * i ≡ total (need q) i + 16384 * i) (all c) (l .inv .4) in
     let w : Swept q (count q) (s .args .f) (l .tab) = subst (λ i. Swept q i (s .args .f) (l .tab)) (all c) (l .inv .6) in (
-      says-eqb {P = SlotsOk q} (c .get16 .result + 4 * s .args .n + l .lens) (length q - 8 + 16384 * s .args .n) (λ z. slots-all q (l .tab) (s .args .f) (s .pre .front) w (omega (arith, z, u, c .get16 .ensures .0, s .pre .rows))) (λ h. omega (arith, h .unused, u, c .get16 .ensures .0, s .pre .rows)),
+      says-eqb {P = SlotsOk q} (c .get16 .result + 8 + l .lens) (length q + 16380 * s .args .n) (λ z. slots-all q (l .tab) (s .args .f) (s .pre .front) w (omega (arith, z, u, c .get16 .ensures .0, s .pre .rows, s .pre .head .least))) (λ h. omega (arith, h .unused, u, c .get16 .ensures .0, s .pre .rows, s .pre .head .least)),
       ((λ _. rw (s .pre .rows) (w .table)), inside-of _ _ _ _ (w .table)),
     )
 
@@ -226,11 +220,9 @@ slots-ok-spec =
     loop-less
     loop-again
     get16-requires
-    mul-result
     add-result
     add-result-2
-    sub-result
-    mul-result-2
+    mul-result
     add-result-3
     same-length-2
     returns-2)
