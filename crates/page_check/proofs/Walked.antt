@@ -73,6 +73,10 @@ pub record Gap (g x e : ℕ) : Type 0 where
   pub met : g < x → e ≡ x
   pub none : 8 < x → g ≡ x → e < x
 
+-- marks up to y are marks up to z
+pub ends-at : (u v : List ℕ) (x y z : ℕ) → Span u x y (λ _. 255) v → y ≡ z → Span u x z (λ _. 255) v
+ends-at u v x y z s e = subst (λ w. Span u x w (λ _. 255) v) e s
+
 -- at byte x, whether or not two records start at one byte: of the table t the entries m are left, met records were met, and u is t from x on
 pub record Passed (t : List ℕ) (f : ℕ) (m : List ℕ) (x met : ℕ) (u : List ℕ) : Type 0 where
   pub from : 8 ≤ x

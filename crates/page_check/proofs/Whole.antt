@@ -1,7 +1,7 @@
 -- The tests together are the rules. Assumes nothing.
 use Prim.Native.Nat.{ℕ, zero, suc, _+_, _*_, _-_, _≤_, _<_}
 use mathlib.Core.Path.{_≡_, refl, sym, _∙_}
-use mathlib.Core.Logic.{_⊎_, ⊎-elim}
+use mathlib.Core.Logic.{_⊎_, ⊎-elim, _↔_}
 use mathlib.Core.List.{List}
 use native.Mathlib.Omega.{arith}
 use lib.Bits.{bitOr}
@@ -97,20 +97,21 @@ pub record Emptied (p : List ℕ) (a b i acc : ℕ) : Type 0 where
 pub emptied-none : (p : List ℕ) (a b : ℕ) → Emptied p a b 0 0
 emptied-none p a b = record { so = λ _. ((λ k l h. absurd (omega arith)), (λ k l h. absurd (omega arith))); back = λ _ _. refl }
 
-pub emptied-more : (p : List ℕ) (a b i acc : ℕ) → Emptied p a b i acc → Emptied p a b (i + 1) (bitOr (bitOr acc (byte p (a + i))) (byte p (b + i)))
-emptied-more p a b i acc g = record {
+-- n bytes more in each, which x and y tell
+pub emptied-more : (p : List ℕ) (a b i n acc x y : ℕ) → Emptied p a b i acc → (x ≡ 0) ↔ ZeroFrom p (a + i) (a + i + n) → (y ≡ 0) ↔ ZeroFrom p (b + i) (b + i + n) → Emptied p a b (i + n) (bitOr (bitOr acc x) y)
+emptied-more p a b i n acc x y g u v = record {
   so = λ e.
-      let x = or-zero (bitOr acc (byte p (a + i))) (byte p (b + i)) e in
-      let y = or-zero acc (byte p (a + i)) (x .0) in
-      let z = g .so (y .0) in
-      (more a (z .0) (y .1), more b (z .1) (x .1));
-  back = λ n o. zero-or (bitOr acc (byte p (a + i))) (byte p (b + i))
-      (zero-or acc (byte p (a + i)) (g .back (λ k l h. n k l (omega arith)) (λ k l h. o k l (omega arith))) (n (a + i) (omega arith) (omega arith)))
-      (o (b + i) (omega arith) (omega arith));
+      let q = or-zero (bitOr acc x) y e in
+      let r = or-zero acc x (q .0) in
+      let z = g .so (r .0) in
+      (more a (z .0) (u .0 (r .1)), more b (z .1) (v .0 (q .1)));
+  back = λ f o. zero-or (bitOr acc x) y
+      (zero-or acc x (g .back (λ k l h. f k l (omega arith)) (λ k l h. o k l (omega arith))) (u .1 (λ k l h. f k (omega arith) (omega arith))))
+      (v .1 (λ k l h. o k (omega arith) (omega arith)));
 }
   where
-    more : (x : ℕ) → ZeroFrom p x (x + i) → byte p (x + i) ≡ 0 → ZeroFrom p x (x + (i + 1))
-    more x z e k l h = ⊎-elim (λ lt. z k l lt) (λ ge. let same : k ≡ x + i = omega arith in rw same e) (side k (x + i))
+    more : (x : ℕ) → ZeroFrom p x (x + i) → ZeroFrom p (x + i) (x + i + n) → ZeroFrom p x (x + (i + n))
+    more x z e k l h = ⊎-elim (λ lt. z k l lt) (λ ge. e k ge (omega arith)) (side k (x + i))
 
 -- what is known of a page p once its header and its slots are: n its rows, f its frontier
 pub record Known (p : List ℕ) (n f : ℕ) : Type 0 where

@@ -83,6 +83,24 @@ fn be64(s: &[u8], k: usize) -> usize
     )
 }
 
+// The eight bytes at k as one number, the first the lowest.
+fn le64(s: &[u8], k: usize) -> usize
+    requires { ⌜ k + 8 ≤ length (now s) ⌝ }
+    ensures signs { λ r. ⌜ NoSign r ↔ NaturalAt (now (s .entry)) k ⌝ }
+    ensures zero { λ r. ⌜ (r ≡ 0) ↔ ZeroFrom (now (s .entry)) k (k + 8) ⌝ }
+{
+    join8(
+        words::wide(s[k + 7]),
+        words::wide(s[k + 6]),
+        words::wide(s[k + 5]),
+        words::wide(s[k + 4]),
+        words::wide(s[k + 3]),
+        words::wide(s[k + 2]),
+        words::wide(s[k + 1]),
+        words::wide(s[k]),
+    )
+}
+
 // The word of the slot before the one at k; before the first, that of an empty code.
 fn word_before(page: &[u8], k: usize) -> usize
     requires { ⌜ Preceded (now page) k ⌝ }
@@ -202,23 +220,6 @@ fn slots_ok(page: &[u8], tab: &mut [u8], n: usize, f: usize) -> bool
     words::get16(page, 6) + 8 + lens == page.len() + 16380 * n
 }
 
-// The eight bytes of a place at o as one number, the first the lowest.
-fn place_word(page: &[u8], o: usize) -> usize
-    requires { ⌜ o + 8 ≤ length (now page) ⌝ }
-    ensures { λ r. ⌜ NoSign r ↔ NaturalAt (now (page .entry)) o ⌝ }
-{
-    join8(
-        words::wide(page[o + 7]),
-        words::wide(page[o + 6]),
-        words::wide(page[o + 5]),
-        words::wide(page[o + 4]),
-        words::wide(page[o + 3]),
-        words::wide(page[o + 2]),
-        words::wide(page[o + 1]),
-        words::wide(page[o]),
-    )
-}
-
 // Whether none of the three sign bits is set.
 fn no_sign(w: usize) -> bool
     ensures { λ r. ⌜ Says r (NoSign w) ⌝ }
@@ -253,7 +254,7 @@ fn walk(page: &[u8], tab: &mut [u8], n: usize, f: usize) -> bool
             gap = pos;
             continue;
         }
-        signs = signs | place_word(page, pos);
+        signs = signs | le64(page, pos);
         words::fill(tab, pos, pos + 8, 255);
         pos += l;
         met += 1;
@@ -270,15 +271,29 @@ fn walk(page: &[u8], tab: &mut [u8], n: usize, f: usize) -> bool
     no_sign(signs)
 }
 
-// Whether the h bytes from a on and the h bytes from b on are zero. No way out before the end, so that it vectorises; two stretches at once, so that a turn has more of them.
-fn both_zero(page: &[u8], a: usize, b: usize, h: usize) -> bool
-    requires { ⌜ (a + h ≤ length (now page)) × (b + h ≤ length (now page)) ⌝ }
-    ensures { λ r. ⌜ Says r (ZeroFrom (now (page .entry)) a (a + h) × ZeroFrom (now (page .entry)) b (b + h)) ⌝ }
+// Whether the bytes from a up to b are zero, one by one.
+fn each_zero(page: &[u8], a: usize, b: usize) -> bool
+    requires { ⌜ Stretch (now page) a b ⌝ }
+    ensures { λ r. ⌜ Says r (ZeroFrom (now (page .entry)) a b) ⌝ }
 {
     let mut acc: u8 = 0;
+    let mut i = a;
+    while i < b {
+        acc = acc | page[i];
+        i += 1;
+    }
+    acc == 0
+}
+
+// Whether the 8 h bytes from a on and those from b on are zero. No way out before the end, so that it vectorises; two stretches at once, so that a turn has more of them.
+fn both_zero(page: &[u8], a: usize, b: usize, h: usize) -> bool
+    requires { ⌜ (a + 8 * h ≤ length (now page)) × (b + 8 * h ≤ length (now page)) ⌝ }
+    ensures { λ r. ⌜ Says r (ZeroFrom (now (page .entry)) a (a + 8 * h) × ZeroFrom (now (page .entry)) b (b + 8 * h)) ⌝ }
+{
+    let mut acc = 0;
     let mut i = 0;
     while i < h {
-        acc = acc | page[a + i] | page[b + i];
+        acc = acc | le64(page, a + 8 * i) | le64(page, b + 8 * i);
         i += 1;
     }
     acc == 0
@@ -289,11 +304,11 @@ fn zeros(page: &[u8], a: usize, b: usize) -> bool
     requires { ⌜ Stretch (now page) a b × (b ≤ 16384) ⌝ }
     ensures { λ r. ⌜ Says r (ZeroFrom (now (page .entry)) a b) ⌝ }
 {
-    let h = (b - a + 63) / 64 * 32;
-    if b < a + h {
-        return both_zero(page, a, a, b - a);
+    let turns = (b - a + 63) / 64;
+    if b < a + 32 * turns {
+        return each_zero(page, a, b);
     }
-    both_zero(page, a, b - h, h)
+    both_zero(page, a, b - 32 * turns, 4 * turns)
 }
 
 // Whether none of the h bytes from 8 on and of the h bytes from d on is a capital, but for those that are marked. As both_zero.

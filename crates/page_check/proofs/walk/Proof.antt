@@ -7,8 +7,9 @@ use borrow.Author.Needs.{needs}
 use lib.ListN.{length, set}
 use Rattle.ground.specs.Lists.{byte}
 use Rattle.ground.proofs.Tests.{says-same, untrue}
+use Rattle.words.specs.Moves.{Span}
 use Rattle.page_check.specs.Table.{entries, Table, Laid}
-use Rattle.page_check.proofs.Walked.{Passed, Exact, Walked, Marking, Signed, Gap, passed-none, passed-hole, passed-record, ends-within, distinct-of, walked-none, walked-hole, walked-record, signed-none, signed-record, marking-none, marking-hole, marking-record, marked-all, laid-of, met-all, end-top}
+use Rattle.page_check.proofs.Walked.{ends-at, Passed, Exact, Walked, Marking, Signed, Gap, passed-none, passed-hole, passed-record, ends-within, distinct-of, walked-none, walked-hole, walked-record, signed-none, signed-record, marking-none, marking-hole, marking-record, marked-all, laid-of, met-all, end-top}
 use Rattle.page_check.proofs.walk.Statement.{statement}
 use Rattle.page_check.proofs.walk.Tie as tie
 
@@ -119,8 +120,8 @@ loop-again c =
           )),
     )
 
-place-word-requires : tie.Need-place-word-requires Inv-loop μ-loop
-place-word-requires c κs = omega (arith, room c, start c .pre .within)
+le64-requires : tie.Need-le64-requires Inv-loop μ-loop
+le64-requires c κs = omega (arith, room c, start c .pre .within)
 
 add-fill : tie.Need-add-fill Inv-loop μ-loop
 add-fill c = omega (arith, room (c .before .before))
@@ -131,10 +132,15 @@ fill-requires c κs = let e = c .before .before in (omega arith, omega (arith, r
 add-pos-2 : tie.Need-add-pos-2 Inv-loop μ-loop
 add-pos-2 c = omega (arith, room (c .before .before .before .before .before))
 
+-- its place marked
+marks-of : (c : tie.After-slice-known3 Inv-loop μ-loop) → let e = c .before .before .before .before .before in
+    Span (turn e .loop .tab) (pos-of e) (pos-of e + 8) (λ _. 255) (c .before .before .fill .last .0)
+marks-of c = ends-at _ _ _ _ _ (c .before .before .fill .ensures) (omega arith)
+
 -- past it
 passed : (c : tie.After-slice-known3 Inv-loop μ-loop) → let e = c .before .before .before .before .before in
     Passed (start e .args .tab .now) (start e .args .f) (set (left-of e) (pos-of e) 0) (pos-of e + byte (turn e .loop .tab) (pos-of e)) (turn e .loop .met + 1) (c .before .before .fill .last .0)
-passed c = let e = c .before .before .before .before .before in passed-record _ _ _ _ (table e) _ _ _ _ (turn e .loop .inv .2) (omega arith) _ (some e) (c .before .before .fill .ensures)
+passed c = let e = c .before .before .before .before .before in passed-record _ _ _ _ (table e) _ _ _ _ (turn e .loop .inv .2) (omega arith) _ (some e) (marks-of c)
 
 add-met : tie.Need-add-met Inv-loop μ-loop
 add-met c = omega (arith, passed c .left, table (c .before .before .before .before .before) .most)
@@ -155,8 +161,8 @@ loop-again-2 c =
             l .pos + byte (l .tab) (l .pos),
             rw (entry e) (walked-record _ _ _ _ (record { table = table e; all = x }) _ _ _ _ _ (i .1) (omega arith) _ s refl),
             record { to = omega (arith, i .2 .to); met = λ _. refl; none = λ _ h. absurd (omega (arith, i .2 .to, room e)) },
-            rw (entry e) (marking-record _ _ _ _ (record { table = table e; all = x }) _ _ _ _ _ (i .1) (omega arith) _ _ s (i .3) (c .before .before .fill .ensures)),
-            signed-record _ _ _ _ (record { table = table e; all = x }) _ _ _ _ _ (i .1) (omega arith) _ _ s (i .4) (c .before .before .before .before .place-word .ensures),
+            rw (entry e) (marking-record _ _ _ _ (record { table = table e; all = x }) _ _ _ _ _ (i .1) (omega arith) _ _ s (i .3) (marks-of c)),
+            signed-record _ _ _ _ (record { table = table e; all = x }) _ _ _ _ _ (i .1) (omega arith) _ _ s (i .4) (c .before .before .before .before .le64 .ensures .0),
           )),
     )
 
@@ -223,7 +229,7 @@ walk-spec =
     add-pos
     loop-less
     loop-again
-    place-word-requires
+    le64-requires
     add-fill
     fill-requires
     add-pos-2

@@ -1,14 +1,16 @@
--- `page_check::place_word` meets its contract. Assumes nothing.
+-- `page_check::le64` meets its contract. Assumes nothing.
 use Prim.Native.Nat.{ℕ, _+_, _*_, _/_, _%_, _<_}
 use mathlib.Core.Path.{_≡_}
 use mathlib.Core.List.{List}
-use mathlib.Core.Logic.{_↔_}
+use mathlib.Core.Logic.{_↔_, ⊎-elim}
 use native.Mathlib.Omega.{arith}
 use borrow.Author.Needs.{needs}
 use Rattle.ground.specs.Lists.{byte}
+use Rattle.ground.proofs.Sides.{side}
+use Rattle.words.specs.Zeros.{ZeroFrom}
 use Rattle.page_check.specs.Rules.{NoSign, NaturalAt}
-use Rattle.page_check.proofs.place_word.Statement.{statement}
-use Rattle.page_check.proofs.place_word.Tie as tie
+use Rattle.page_check.proofs.le64.Statement.{statement}
+use Rattle.page_check.proofs.le64.Tie as tie
 
 add-wide : tie.Need-add-wide
 add-wide c = search needs
@@ -129,15 +131,28 @@ module _ (p : List ℕ) (bytes : (k : ℕ) → byte p k < 256) (o : ℕ) where
         (λ a. record { page = x .1 (a .page); slot = y .1 (a .slot); volume = z .1 (a .volume) }),
       )
 
+  each : (w : ℕ) → w ≡ high * 4294967296 + low → w ≡ 0 → (byte p o ≡ 0) × (byte p (o + 1) ≡ 0) × (byte p (o + 2) ≡ 0) × (byte p (o + 3) ≡ 0) × (byte p (o + 4) ≡ 0) × (byte p (o + 5) ≡ 0) × (byte p (o + 6) ≡ 0) × (byte p (o + 7) ≡ 0)
+  unfolding half
+  each w e z = omega arith
+
+  zero-word : (w : ℕ) → w ≡ high * 4294967296 + low → (w ≡ 0) ↔ ZeroFrom p o (o + 8)
+  unfolding half
+  zero-word w e = (
+    (λ y k g h. let z = each w e y in ⊎-elim (λ l0. let x : k ≡ o = omega arith in rw x (z .0)) (λ m0. ⊎-elim (λ l1. let x : k ≡ o + 1 = omega arith in rw x (z .1)) (λ m1. ⊎-elim (λ l2. let x : k ≡ o + 2 = omega arith in rw x (z .2)) (λ m2. ⊎-elim (λ l3. let x : k ≡ o + 3 = omega arith in rw x (z .3)) (λ m3. ⊎-elim (λ l4. let x : k ≡ o + 4 = omega arith in rw x (z .4)) (λ m4. ⊎-elim (λ l5. let x : k ≡ o + 5 = omega arith in rw x (z .5)) (λ m5. ⊎-elim (λ l6. let x : k ≡ o + 6 = omega arith in rw x (z .6)) (λ m6. let x : k ≡ o + 7 = omega arith in rw x (z .7)) (side k (o + 7))) (side k (o + 6))) (side k (o + 5))) (side k (o + 4))) (side k (o + 3))) (side k (o + 2))) (side k (o + 1))),
+    (λ z. omega (arith, e, z o (omega arith) (omega arith), z (o + 1) (omega arith) (omega arith), z (o + 2) (omega arith) (omega arith), z (o + 3) (omega arith) (omega arith), z (o + 4) (omega arith) (omega arith), z (o + 5) (omega arith) (omega arith), z (o + 6) (omega arith) (omega arith), z (o + 7) (omega arith) (omega arith))),
+  )
+
 returns : tie.Need-returns
 unfolding half
 returns c =
     let k = c .before .before .before .before .before .before .before .before .before .before .before .before .before .before .before .before .before in
     let a = k .before .args in
-    signs (a .page .now) (λ j. omega (arith, k .shared-slice-known .given j)) (a .o) (c .join8 .result) (omega arith)
+    let bytes : (j : ℕ) → byte (a .s .now) j < 256 = λ j. omega (arith, k .shared-slice-known .given j) in
+    let e : c .join8 .result ≡ high (a .s .now) bytes (a .k) * 4294967296 + low (a .s .now) bytes (a .k) = omega arith in
+    (signs (a .s .now) bytes (a .k) (c .join8 .result) e, zero-word (a .s .now) bytes (a .k) (c .join8 .result) e)
 
-pub place-word-spec : {M : Type 1} → statement M
-place-word-spec =
+pub le64-spec : {M : Type 1} → statement M
+le64-spec =
     tie.close
     (tie.spec
     add-wide
