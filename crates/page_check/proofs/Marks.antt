@@ -76,11 +76,11 @@ pub record Low (p t : List ℕ) (d k low : ℕ) : Type 0 where
 pub low-none : (p t : List ℕ) (d : ℕ) → Low p t d 0 255
 low-none p t d = record { so = λ _. ((λ k h l. absurd (omega arith)), (λ k h l. absurd (omega arith))); back = λ _ _. omega arith }
 
--- a byte that x says is no capital
-abbrev pub Tells : List ℕ → List ℕ → ℕ → ℕ → Type 0
-Tells p t k x = (26 ≤ x) ↔ (foldByte (bitOr (byte p k) (byte t k)) ≡ bitOr (byte p k) (byte t k))
+-- x is 26 or more where the byte at k, or-ed with its mark, is no capital
+abbrev pub LetterAt : List ℕ → List ℕ → ℕ → ℕ → Type 0
+LetterAt p t k x = (26 ≤ x) ↔ (foldByte (bitOr (byte p k) (byte t k)) ≡ bitOr (byte p k) (byte t k))
 
-pub low-more : (p t : List ℕ) (d k low x m y z : ℕ) → Low p t d k low → Tells p t (8 + k) x → m ≡ min low x → Tells p t (d + k) y → z ≡ min m y → Low p t d (k + 1) z
+pub low-more : (p t : List ℕ) (d k low x m y z : ℕ) → Low p t d k low → LetterAt p t (8 + k) x → m ≡ min low x → LetterAt p t (d + k) y → z ≡ min m y → Low p t d (k + 1) z
 low-more p t d k low x m y z w e u f v = record {
   so = λ l.
       let n = w .so (omega (arith, u, v)) in

@@ -15,7 +15,7 @@ use Rattle.page.proofs.Sums.{total-more}
 use Rattle.page.specs.Page.{off, len, word, code, count, frontier, free, need, slotAt}
 use Rattle.page_check.specs.Rules.{WordOk, SlotsOk, Preceded, Codes, prior, offOf, lenOf, slotOf}
 use Rattle.page_check.specs.Big.{Led}
-use Rattle.page_check.specs.Table.{Table, NextOk, Taken}
+use Rattle.page_check.specs.Table.{Table, NextOk, NextTold}
 use Rattle.page_check.proofs.Table.{table-none, table-more}
 
 -- a code comes after no code
@@ -77,8 +77,8 @@ pub led-none : (p : List ℕ) → Led p (prior p 0) 0
 led-none p x y s h o = after-none (part p x (y - x)) (omega (arith, length-part p x (y - x) (omega (arith, s)), h))
 
 -- a slot whose word breaks a rule
-pub taken-none : (p : List ℕ) (f i w : ℕ) → (NextOk p f i w → ⊥) → Taken p f i w 0
-taken-none p f i w n = record { none = λ _. n; sound = λ h. absurd (omega (arith, h)); told = λ h. absurd (omega (arith, h)) }
+pub told-none : (p : List ℕ) (f i w : ℕ) → (NextOk p f i w → ⊥) → NextTold p f i w 0
+told-none p f i w n = record { none = λ _. n; sound = λ h. absurd (omega (arith, h)); told = λ h. absurd (omega (arith, h)) }
 
 -- the code before the slot at k
 pub before-none : (p : List ℕ) (k : ℕ) → Preceded p k → length p ≤ k + 4 → Codes p 131072 (prior p (slotOf p k))

@@ -90,16 +90,16 @@ slots-of p b = record {
     climbs (suc i) h = b .rules .ascending i (suc i) (omega arith) h
 
 -- acc is zero exactly when the i bytes from a on and those from b on are
-pub record Emptied (p : List ℕ) (a b i acc : ℕ) : Type 0 where
+pub record BothGathered (p : List ℕ) (a b i acc : ℕ) : Type 0 where
   pub so : acc ≡ 0 → ZeroFrom p a (a + i) × ZeroFrom p b (b + i)
   pub back : ZeroFrom p a (a + i) → ZeroFrom p b (b + i) → acc ≡ 0
 
-pub emptied-none : (p : List ℕ) (a b : ℕ) → Emptied p a b 0 0
-emptied-none p a b = record { so = λ _. ((λ k l h. absurd (omega arith)), (λ k l h. absurd (omega arith))); back = λ _ _. refl }
+pub both-none : (p : List ℕ) (a b : ℕ) → BothGathered p a b 0 0
+both-none p a b = record { so = λ _. ((λ k l h. absurd (omega arith)), (λ k l h. absurd (omega arith))); back = λ _ _. refl }
 
 -- n bytes more in each, which x and y tell
-pub emptied-more : (p : List ℕ) (a b i n acc x y : ℕ) → Emptied p a b i acc → (x ≡ 0) ↔ ZeroFrom p (a + i) (a + i + n) → (y ≡ 0) ↔ ZeroFrom p (b + i) (b + i + n) → Emptied p a b (i + n) (bitOr (bitOr acc x) y)
-emptied-more p a b i n acc x y g u v = record {
+pub both-more : (p : List ℕ) (a b i n acc x y : ℕ) → BothGathered p a b i acc → (x ≡ 0) ↔ ZeroFrom p (a + i) (a + i + n) → (y ≡ 0) ↔ ZeroFrom p (b + i) (b + i + n) → BothGathered p a b (i + n) (bitOr (bitOr acc x) y)
+both-more p a b i n acc x y g u v = record {
   so = λ e.
       let q = or-zero (bitOr acc x) y e in
       let r = or-zero acc x (q .0) in

@@ -84,7 +84,7 @@ pub record LeadOver (p : List ℕ) (lead w r : ℕ) : Type 0 where
   pub over : lead < r
 
 -- r is 0 just where slot i's word w breaks a rule; else it tells of w's code
-pub record Taken (p : List ℕ) (f i w r : ℕ) : Type 0 where
+pub record NextTold (p : List ℕ) (f i w r : ℕ) : Type 0 where
   pub none : r ≡ 0 → NextOk p f i w → ⊥
   pub sound : 1 ≤ r → NextOk p f i w
   pub told : 1 ≤ r → Led p (part p (offOf w + 8) (lenOf w - 8)) r

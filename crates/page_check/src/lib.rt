@@ -13,7 +13,7 @@ ghost use Rattle.hash.specs.Fnv.{fnv};
 ghost use Rattle.partition.specs.Bits.{top};
 ghost use Rattle.page.specs.Page.{BucketPage, depth, count, code};
 ghost use Rattle.page_check.specs.Rules.{HeadOk, NaturalAt, NoSign, SlotsOk, offOf, slotOf, prior, Preceded, Codes};
-ghost use Rattle.page_check.specs.Table.{Table, HeadKnown, Tabled, Inside, Laid, Pair, Turn, LeadOver, Taken};
+ghost use Rattle.page_check.specs.Table.{Table, HeadKnown, Tabled, Inside, Laid, Pair, Turn, LeadOver, NextTold};
 ghost use Rattle.page_check.specs.Marks.{Marked, NoCapital, Halves};
 ghost use Rattle.page_check.specs.Big.{Bytes4, Bytes8, big, Stretch, Led};
 ghost use Rattle.page_check.specs.Shared.{PageOk, FirstHash, LentTable, Alike, Share, Keeps};
@@ -127,7 +127,7 @@ fn rises(page: &[u8], k: usize, x: usize, y: usize) -> bool
     }
 }
 
-// What tells of the code from x up to y: its first eight bytes as one number, or the greatest number, of which no code tells anything.
+// What tells of the code from x up to y: its first eight bytes as one number, or the greatest number, which tells nothing.
 fn lead_of(page: &[u8], x: usize, y: usize) -> usize
     requires { ⌜ Stretch (now page) x y ⌝ }
     ensures { λ r. ⌜ (1 ≤ r) × Led (now (page .entry)) (part (now (page .entry)) x (y - x)) r ⌝ }
@@ -145,7 +145,7 @@ fn lead_of(page: &[u8], x: usize, y: usize) -> usize
 // The slot at k by comparing its code with the one before: what tells of it, 0 where its word w breaks a rule.
 fn compared(page: &[u8], k: usize, w: usize) -> usize
     requires { ⌜ Preceded (now page) k × (offOf w + w / 16384 ≤ length (now page) + 16384) ⌝ }
-    ensures { λ r. ⌜ Taken (now (page .entry)) (length (now (page .entry))) (slotOf (now (page .entry)) k) w r ⌝ }
+    ensures { λ r. ⌜ NextTold (now (page .entry)) (length (now (page .entry))) (slotOf (now (page .entry)) k) w r ⌝ }
 {
     let t = w / 16384;
     if t < 16393 {
@@ -184,7 +184,7 @@ fn lead_over(page: &[u8], lead: usize, w: usize) -> usize
 // What tells of the code of the slot at k, whose word is w, after one of which lead tells; 0 where it breaks a rule. Only where the first eight bytes do not tell are codes compared.
 fn next_lead(page: &[u8], f: usize, k: usize, lead: usize, w: usize) -> usize
     requires { ⌜ Turn (now page) f k lead ⌝ }
-    ensures { λ r. ⌜ Taken (now (page .entry)) f (slotOf (now (page .entry)) k) w r ⌝ }
+    ensures { λ r. ⌜ NextTold (now (page .entry)) f (slotOf (now (page .entry)) k) w r ⌝ }
 {
     if f + 16384 < w % 16384 + w / 16384 {
         return 0;

@@ -5,18 +5,18 @@ use native.Mathlib.Omega.{arith}
 use lib.Bits.{bitOr}
 use Rattle.ground.proofs.Tests.{says-eqb}
 use Rattle.words.specs.Zeros.{ZeroFrom}
-use Rattle.page_check.proofs.Whole.{Emptied, emptied-none, emptied-more}
+use Rattle.page_check.proofs.Whole.{BothGathered, both-none, both-more}
 use Rattle.page_check.proofs.both_zero.Statement.{statement}
 use Rattle.page_check.proofs.both_zero.Tie as tie
 
 abbrev Inv-loop : tie.InvT-loop
-Inv-loop page a b h acc₀ i₀ acc i = (i ≤ h) × Emptied page a b (8 * i) acc
+Inv-loop page a b h acc₀ i₀ acc i = (i ≤ h) × BothGathered page a b (8 * i) acc
 
 abbrev μ-loop : tie.MeasureT-loop
 μ-loop page a b h acc₀ i₀ acc i = h - i
 
 loop-holds : tie.Need-loop-holds Inv-loop μ-loop
-loop-holds c = (omega arith, emptied-none _ _ _)
+loop-holds c = (omega arith, both-none _ _ _)
 
 mul-le64 : tie.Need-mul-le64 Inv-loop μ-loop
 mul-le64 c = omega arith
@@ -50,7 +50,7 @@ loop-again c =
     let l = t .loop in
     let s = t .before .before .args in
     let e : 8 * l .i + 8 ≡ 8 * (l .i + 1) = omega arith in
-    (omega arith, subst (λ n. Emptied (s .page .now) (s .a) (s .b) n (bitOr (bitOr (l .acc) (x .result)) (y .result))) e (emptied-more _ _ _ _ 8 _ _ _ (l .inv .1) (x .ensures .1) (y .ensures .1)))
+    (omega arith, subst (λ n. BothGathered (s .page .now) (s .a) (s .b) n (bitOr (bitOr (l .acc) (x .result)) (y .result))) e (both-more _ _ _ _ 8 _ _ _ (l .inv .1) (x .ensures .1) (y .ensures .1)))
 
 returns : tie.Need-returns Inv-loop μ-loop
 returns c =

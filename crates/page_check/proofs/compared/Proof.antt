@@ -6,7 +6,7 @@ use borrow.Author.Tests.{not-true, not-false}
 use borrow.Author.Needs.{needs}
 use Rattle.ground.proofs.Tests.{says-true, says-false}
 use Rattle.page_check.specs.Rules.{offOf, lenOf}
-use Rattle.page_check.proofs.Sweep.{taken-none}
+use Rattle.page_check.proofs.Sweep.{told-none}
 use Rattle.page_check.proofs.compared.Statement.{statement}
 use Rattle.page_check.proofs.compared.Tie as tie
 
@@ -15,10 +15,10 @@ step : (w : ℕ) → 16393 ≤ w / 16384 → w / 16384 < 16457 → w % 16384 + (
 step w h l = omega (arith, h, l)
 
 returns : tie.Need-returns
-returns c = taken-none _ _ _ _ (λ n. omega (arith, c .if1 .taken, n .sound .kind-one, n .sound .short))
+returns c = told-none _ _ _ _ (λ n. omega (arith, c .if1 .taken, n .sound .kind-one, n .sound .short))
 
 returns-2 : tie.Need-returns-2
-returns-2 c = taken-none _ _ _ _ (λ n. omega (arith, c .if2 .taken, n .sound .kind-one, n .sound .long))
+returns-2 c = told-none _ _ _ _ (λ n. omega (arith, c .if2 .taken, n .sound .kind-one, n .sound .long))
 
 add-x : tie.Need-add-x
 add-x c = search needs
@@ -36,7 +36,7 @@ returns-3 : tie.Need-returns-3
 returns-3 c =
     let r = c .before .rises in
     let e = c .before .before in
-    taken-none _ _ _ _ (λ n. says-false (r .result) (not-true _ (c .if3 .taken)) (rw (step (e .before .before .before .args .w) (omega (arith, e .before .if1 .left)) (omega (arith, e .if2 .left))) at (r .ensures)) (n .rises))
+    told-none _ _ _ _ (λ n. says-false (r .result) (not-true _ (c .if3 .taken)) (rw (step (e .before .before .before .args .w) (omega (arith, e .before .if1 .left)) (omega (arith, e .if2 .left))) at (r .ensures)) (n .rises))
 
 lead-of-requires : tie.Need-lead-of-requires
 lead-of-requires c κs = search needs

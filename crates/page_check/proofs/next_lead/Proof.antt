@@ -10,7 +10,7 @@ use Rattle.words.specs.Codes.{Before}
 use Rattle.page_check.specs.Rules.{WordOk, offOf, lenOf, prior, slotOf}
 use Rattle.page_check.specs.Big.{Stretch}
 use Rattle.page_check.specs.Table.{NextOk, LeadOver}
-use Rattle.page_check.proofs.Sweep.{taken-none}
+use Rattle.page_check.proofs.Sweep.{told-none}
 use Rattle.page_check.proofs.Firsts.{led-of}
 use Rattle.page_check.proofs.next_lead.Statement.{statement}
 use Rattle.page_check.proofs.next_lead.Tie as tie
@@ -22,7 +22,7 @@ add-if1-2 : tie.Need-add-if1-2
 add-if1-2 c = search needs
 
 returns : tie.Need-returns
-returns c = taken-none _ _ _ _ (λ n. omega (arith, c .if1 .taken, n .sound .kind-one, n .sound .inside))
+returns c = told-none _ _ _ _ (λ n. omega (arith, c .if1 .taken, n .sound .kind-one, n .sound .inside))
 
 lead-over-requires : tie.Need-lead-over-requires
 lead-over-requires c κs = search needs
