@@ -29,7 +29,7 @@ unfolding code
 byte-code p i k l = byte-part p (off p i + 8) (len p i - 8) k l
 
 module _ (p t : List ℕ) (b : BucketPage p) (m : Marked p (count p) t) where
-  pub spelled-of : (g : ℕ) → frontier p ≤ g → NoCapital p t g → Spelled p
+  pub spelled-of : (g : ℕ) → frontier p ≤ g → NoCapital p t 8 g → Spelled p
   spelled-of g h c i l = folded-each (code p i) (λ k s.
       let r : k < len p i - 8 = omega (arith, len-of-code p i (b .rules) l) in
       rw (byte-code p i k r) (kept k r))
@@ -43,7 +43,7 @@ module _ (p t : List ℕ) (b : BucketPage p) (m : Marked p (count p) t) where
           (λ u. let s = b .rules .apart (u .0) i x (u .1) l (record { from = u .2 .from; to = omega (arith, u .2 .to, b .rules .short (u .0) (u .1)) }) in-i in absurd (omega (arith, rw s at (u .2 .to))))
           (m .only x)
 
-  pub no-capital-of : (g : ℕ) → g + 4 * count p ≤ length p → Spelled p → NoCapital p t g
+  pub no-capital-of : (g : ℕ) → g + 4 * count p ≤ length p → Spelled p → NoCapital p t 8 g
   no-capital-of g h s k l r = ⊎-elim
       (λ z. rw (or-none (byte p k) (byte t k) z) (elim (ℕ-discrete (foldByte (byte p k)) (byte p k)) [ yes e ↦ e | no n ↦ absurd (n (bare z n)) ]))
       (λ u. byte-kept _ .1 (inr (omega (arith, or-mark (byte p k) (byte t k) (m .places (u .0) k (u .1) (u .2))))))
@@ -64,22 +64,30 @@ module _ (p t : List ℕ) (b : BucketPage p) (m : Marked p (count p) t) where
       bare : byte t k ≡ 0 → (foldByte (byte p k) ≡ byte p k → ⊥) → foldByte (byte p k) ≡ byte p k
       bare z n = byte-kept _ .1 (inl (omega (arith, b .rules .clear k l (omega arith) (outside z n))))
 
--- low is 26 or more exactly when no byte before k is a capital, but for those that are marked
-pub record Low (p t : List ℕ) (k low : ℕ) : Type 0 where
-  pub so : 26 ≤ low → NoCapital p t k
-  pub back : NoCapital p t k → 26 ≤ low
+-- one byte more
+small-more : (p t : List ℕ) (a k : ℕ) → NoCapital p t a (a + k) → foldByte (bitOr (byte p (a + k)) (byte t (a + k))) ≡ bitOr (byte p (a + k)) (byte t (a + k)) → NoCapital p t a (a + (k + 1))
+small-more p t a k n e j l h = ⊎-elim (λ lt. n j l lt) (λ ge. let same : j ≡ a + k = omega arith in rw same e) (side j (a + k))
 
-pub low-none : (p t : List ℕ) → Low p t 8 255
-low-none p t = record { so = λ _ k h l. absurd (omega arith); back = λ _. omega arith }
+-- low is 26 or more exactly when none of the k bytes from 8 on and from d on is a capital, but for those that are marked
+pub record Low (p t : List ℕ) (d k low : ℕ) : Type 0 where
+  pub so : 26 ≤ low → NoCapital p t 8 (8 + k) × NoCapital p t d (d + k)
+  pub back : NoCapital p t 8 (8 + k) → NoCapital p t d (d + k) → 26 ≤ low
 
-pub low-more : (p t : List ℕ) (k low x y : ℕ) → 8 ≤ k → Low p t k low → (26 ≤ x) ↔ (foldByte (bitOr (byte p k) (byte t k)) ≡ bitOr (byte p k) (byte t k)) → y ≡ min low x → Low p t (k + 1) y
-low-more p t k low x y h w e m = record {
-  so = λ l j a r. ⊎-elim
-      (λ lt. w .so (omega (arith, m)) j a lt)
-      (λ ge. let same : j ≡ k = omega arith in rw same (e .0 (omega (arith, m))))
-      (side j k);
-  back = λ n.
-      let u : 26 ≤ low = w .back (λ j a r. n j a (omega arith)) in
-      let v : 26 ≤ x = e .1 (n k h (omega arith)) in
-      omega (arith, m);
+pub low-none : (p t : List ℕ) (d : ℕ) → Low p t d 0 255
+low-none p t d = record { so = λ _. ((λ k h l. absurd (omega arith)), (λ k h l. absurd (omega arith))); back = λ _ _. omega arith }
+
+-- x is 26 or more where the byte at k, or-ed with its mark, is no capital
+abbrev pub LetterAt : List ℕ → List ℕ → ℕ → ℕ → Type 0
+LetterAt p t k x = (26 ≤ x) ↔ (foldByte (bitOr (byte p k) (byte t k)) ≡ bitOr (byte p k) (byte t k))
+
+pub low-more : (p t : List ℕ) (d k low x m y z : ℕ) → Low p t d k low → LetterAt p t (8 + k) x → m ≡ min low x → LetterAt p t (d + k) y → z ≡ min m y → Low p t d (k + 1) z
+low-more p t d k low x m y z w e u f v = record {
+  so = λ l.
+      let n = w .so (omega (arith, u, v)) in
+      (small-more p t 8 k (n .0) (e .0 (omega (arith, u, v))), small-more p t d k (n .1) (f .0 (omega (arith, v))));
+  back = λ n o.
+      let q : 26 ≤ low = w .back (λ j a r. n j a (omega arith)) (λ j a r. o j a (omega arith)) in
+      let r : 26 ≤ x = e .1 (n (8 + k) (omega arith) (omega arith)) in
+      let s : 26 ≤ y = f .1 (o (d + k) (omega arith) (omega arith)) in
+      omega (arith, u, v);
 }

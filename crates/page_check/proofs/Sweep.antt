@@ -1,25 +1,32 @@
 -- What the pass over the slots has shown of the first of them. Assumes nothing.
 use Prim.Native.Nat.{ℕ, _+_, _*_, _-_, _≤_, _<_}
-use mathlib.Core.Path.{_≡_, refl, ap, _∙_}
-use mathlib.Core.List.{List}
+use mathlib.Core.Path.{_≡_, refl, sym, ap, _∙_}
+use mathlib.Core.List.{List, [], _∷_}
 use native.Mathlib.Omega.{arith}
 use native.Mathlib.Numerals.{add-one}
 use borrow.Author.Count.{below-more}
 use lib.ListN.{length, set}
 use Rattle.ground.specs.Lists.{part, total}
-use Rattle.words.specs.Codes.{Before}
+use Rattle.ground.proofs.Parts.{length-part}
+use Rattle.words.specs.Codes.{Before, order}
 use Rattle.words.specs.Le.{le32}
 use Rattle.words.specs.Zeros.{Zero}
 use Rattle.page.proofs.Sums.{total-more}
 use Rattle.page.specs.Page.{off, len, word, code, count, frontier, free, need, slotAt}
 use Rattle.page_check.specs.Rules.{WordOk, SlotsOk, Preceded, Codes, prior, offOf, lenOf, slotOf}
-use Rattle.page_check.specs.Big.{Lead, Led}
-use Rattle.page_check.specs.Table.{Table, NextOk}
+use Rattle.page_check.specs.Big.{Led}
+use Rattle.page_check.specs.Table.{Table, NextOk, NextTold}
 use Rattle.page_check.proofs.Table.{table-none, table-more}
+
+-- a code comes after no code
+pub after-none : (c : List ℕ) → 1 ≤ length c → Before [] c
+unfolding order
+after-none [] h = absurd (omega arith)
+after-none (x ∷ c) h = record { less = refl }
 
 -- of the first n slots each keeps its rules, they are in code order, and the table is theirs
 pub record Swept (p : List ℕ) (n f : ℕ) (t : List ℕ) : Type 0 where
-  pub words : (i : ℕ) → i < n → WordOk p f (word p i)
+  pub words : (i : ℕ) → i < n → WordOk f (word p i)
   pub ascending : (i : ℕ) → i < n → Before (prior p i) (code p i)
   pub table : Table p n f t
 
@@ -35,9 +42,9 @@ module _ (p t : List ℕ) (f j : ℕ) (s : Swept p j f t) where
   pub swept-more : (q : List ℕ) → f ≤ length t → NextOk p f j (word p j) → q ≡ set t (offOf (word p j)) (lenOf (word p j)) → Swept p (j + 1) f q
   unfolding off len code
   swept-more q h n e = record {
-    words = below-more (λ i. WordOk p f (word p i)) j (s .words) (n .sound);
+    words = below-more (λ i. WordOk f (word p i)) j (s .words) (n .sound);
     ascending = below-more (λ i. Before (prior p i) (code p i)) j (s .ascending) (n .rises);
-    table = table-more p t j f (s .table) q (n .sound .after) (n .sound .short) (n .sound .inside) h e;
+    table = table-more p t j f (s .table) q (n .sound .short) (n .sound .inside) h e;
   }
 
   -- where the slots keep their rules, so does the next
@@ -60,22 +67,18 @@ module _ (p t : List ℕ) (f j : ℕ) (s : Swept p j f t) where
         inside = λ i l. omega (arith, s .words i (omega arith) .inside);
       }
 
--- the code that the next slot's comes after, with its lead
-pub led-more : (p : List ℕ) (j w f lead : ℕ) → w ≡ word p j → WordOk p f w → f ≤ length p → Lead p (offOf w + 8) (offOf w + lenOf w) lead → Led p (prior p (j + 1)) lead
+-- the code that the next slot's comes after, and what tells of it
+pub led-more : (p : List ℕ) (j w lead : ℕ) → w ≡ word p j → Led p (part p (offOf w + 8) (lenOf w - 8)) lead → Led p (prior p (j + 1)) lead
 unfolding off len code
-led-more p j w f lead e s h l =
-    let n : offOf w + lenOf w - (offOf w + 8) ≡ lenOf w - 8 = omega (arith, s .short) in
-    record {
-      from = offOf w + 8;
-      to = offOf w + lenOf w;
-      lies = record { order = omega (arith, s .short); within = omega (arith, s .inside) };
-      is = rw (n, add-one, e) refl;
-      lead = l;
-    }
+led-more p j w lead e l x y s h o = rw (add-one, ap (λ v. part p (offOf v + 8) (lenOf v - 8)) (sym e)) (l x y s h o)
 
-pub led-none : (p : List ℕ) → 8 ≤ length p → Led p (prior p 0) 18446744073709551615
-unfolding part
-led-none p h = record { from = 8; to = 8; lies = record { order = omega arith; within = h }; is = refl; lead = record { eight = λ l. absurd (omega arith); fewer = λ _. refl } }
+-- before the first there is none, which comes before every code
+pub led-none : (p : List ℕ) → Led p (prior p 0) 0
+led-none p x y s h o = after-none (part p x (y - x)) (omega (arith, length-part p x (y - x) (omega (arith, s)), h))
+
+-- a slot whose word breaks a rule
+pub told-none : (p : List ℕ) (f i w : ℕ) → (NextOk p f i w → ⊥) → NextTold p f i w 0
+told-none p f i w n = record { none = λ _. n; sound = λ h. absurd (omega (arith, h)); told = λ h. absurd (omega (arith, h)) }
 
 -- the code before the slot at k
 pub before-none : (p : List ℕ) (k : ℕ) → Preceded p k → length p ≤ k + 4 → Codes p 131072 (prior p (slotOf p k))

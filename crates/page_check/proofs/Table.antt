@@ -4,7 +4,6 @@ use mathlib.Core.Path.{_≡_, refl, sym, _∙_, ap}
 use mathlib.Core.Logic.{_⊎_, inl, inr, ⊎-elim}
 use mathlib.Core.List.{List, [], _∷_}
 use native.Mathlib.Omega.{arith}
-use lib.Bits.{bitOr, or-add-and, and-le-l, and-le-r}
 use lib.ListN.{length, set}
 use lib.Seq.{getD-set-same, getD-set-other}
 use Rattle.ground.specs.Lists.{byte}
@@ -13,10 +12,6 @@ use Rattle.words.specs.Moves.{Cleared}
 use Rattle.words.specs.Zeros.{Zero}
 use Rattle.page.specs.Page.{off, len}
 use Rattle.page_check.specs.Table.{entries, Distinct, Table, Inside}
-
--- an or is below 128 just where both are
-pub or-small : (x y : ℕ) → bitOr x y < 128 → (x < 128) × (y < 128)
-or-small x y h = omega (arith, or-add-and x y, and-le-l x y, and-le-r x y)
 
 -- an entry made, one written over and one taken back
 pub entries-more : (t : List ℕ) (k v : ℕ) → k < length t → byte t k ≡ 0 → 1 ≤ v → entries (set t k v) ≡ entries t + 1
@@ -61,7 +56,6 @@ none-entries (suc x ∷ t) e k = absurd (omega arith)
 
 pub table-none : (p t : List ℕ) (f : ℕ) → Zero t → Table p 0 f t
 table-none p t f z = record {
-  after = λ i h. absurd (omega arith);
   short = λ i h. absurd (omega arith);
   inside = λ i h. absurd (omega arith);
   only = λ k. inl (z k);
@@ -72,17 +66,13 @@ table-none p t f z = record {
 }
 
 module _ (p t : List ℕ) (n f : ℕ) (b : Table p n f t) where
-  -- the entries lie between 8 and f
+  -- the entries lie before f
   pub inside-of : Inside f t
-  inside-of = record {
-    below = λ k h. ⊎-elim (λ z. z) (λ u. absurd (omega (arith, u .2, b .after (u .0) (u .1)))) (b .only k);
-    above = λ k h. ⊎-elim (λ z. z) (λ u. absurd (omega (arith, u .2, b .inside (u .0) (u .1), b .short (u .0) (u .1)))) (b .only k);
-  }
+  inside-of k h = ⊎-elim (λ z. z) (λ u. absurd (omega (arith, u .2, b .inside (u .0) (u .1), b .short (u .0) (u .1)))) (b .only k)
 
   -- the next record's entry
-  pub table-more : (q : List ℕ) → 8 ≤ off p n → 9 ≤ len p n → off p n + len p n ≤ f → f ≤ length t → q ≡ set t (off p n) (len p n) → Table p (n + 1) f q
-  table-more q a s l g e = record {
-    after = λ i h. ⊎-elim (λ x. rw x a) (λ x. b .after i (omega (arith, x))) (same i n);
+  pub table-more : (q : List ℕ) → 9 ≤ len p n → off p n + len p n ≤ f → f ≤ length t → q ≡ set t (off p n) (len p n) → Table p (n + 1) f q
+  table-more q s l g e = record {
     short = λ i h. ⊎-elim (λ x. rw x s) (λ x. b .short i (omega (arith, x))) (same i n);
     inside = λ i h. ⊎-elim (λ x. rw x l) (λ x. b .inside i (omega (arith, x))) (same i n);
     only = λ k. ⊎-elim
@@ -126,9 +116,6 @@ module _ (p t : List ℕ) (n f : ℕ) (b : Table p n f t) where
       free : Distinct p (n + 1) → byte t (off p n) ≡ 0
       free d = ⊎-elim (λ z. z) (λ u. absurd (omega (arith, u .1, d (u .0) n (omega (arith, u .1)) (omega arith) (u .2)))) (b .only (off p n))
 
--- what lies between 8 and f cleared, all is zero
-pub cleared : (t q : List ℕ) (f : ℕ) → Inside f t → Cleared t 8 f q → Zero q
-cleared t q f h c k = ⊎-elim
-    (λ l. c .below k l ∙ h .below k l)
-    (λ g. ⊎-elim (λ l. c .new k g l) (λ m. c .above k m ∙ h .above k m) (side k f))
-    (side k 8)
+-- what lies before f cleared, all is zero
+pub cleared : (t q : List ℕ) (f : ℕ) → Inside f t → Cleared t 0 f q → Zero q
+cleared t q f h c k = ⊎-elim (λ l. c .new k (omega arith) l) (λ m. c .above k m ∙ h k m) (side k f)

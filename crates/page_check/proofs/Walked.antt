@@ -1,10 +1,10 @@
 -- What the walk over the table has shown at a byte. Assumes nothing.
-use Prim.Native.Nat.{ℕ, _+_, _≤_, _<_}
-use mathlib.Core.Path.{_≡_, refl, sym, _∙_, ap}
-use mathlib.Core.Logic.{_⊎_, inl, inr, ⊎-elim}
+use Prim.Native.Nat.{ℕ, _+_, _/_, _%_, _^_, _≤_, _<_}
+use mathlib.Core.Path.{_≡_, refl, sym, subst, _∙_, ap}
+use mathlib.Core.Logic.{_⊎_, inl, inr, ⊎-elim, _↔_}
 use mathlib.Core.List.{List}
 use native.Mathlib.Omega.{arith}
-use lib.Bits.{bitOr}
+use lib.Bits.{bitOr, or-shr, or-mod}
 use lib.ListN.{length, set, List·getD-eq-default}
 use lib.Seq.{getD-set-same, getD-set-other}
 use Rattle.ground.specs.Lists.{byte}
@@ -13,16 +13,32 @@ use Rattle.words.specs.Moves.{Span}
 use Rattle.words.specs.Zeros.{Zero}
 use Rattle.words.proofs.Zeros.{or-zero, zero-or}
 use Rattle.page.specs.Page.{In, off, len}
+use Rattle.page_check.specs.Rules.{NaturalAt, NoSign}
 use Rattle.page_check.specs.Table.{entries, Distinct, Table, Inside, Laid}
 use Rattle.page_check.specs.Marks.{OfPlace, Marked}
 use Rattle.page_check.proofs.Table.{entries-less, entries-none, none-entries, inside-of}
 
-abbrev Apart : List ℕ → ℕ → Type 0
-Apart p n = (i j k : ℕ) → i < n → j < n → In p i k → In p j k → i ≡ j
-
 -- record i was met: its entry is taken back
 abbrev Met : List ℕ → ℕ → List ℕ → ℕ → Type 0
 Met p n m i = (i < n) × (byte m (off p i) ≡ 0)
+
+-- an or has no sign just where neither has one
+bit-or : (a b k : ℕ) → bitOr a b / 2 ^ k % 2 ≡ bitOr (a / 2 ^ k % 2) (b / 2 ^ k % 2)
+bit-or a b k = rw (or-shr a b k) (or-mod (a / 2 ^ k) (b / 2 ^ k) 1)
+
+or-no-sign : (a b : ℕ) → NoSign (bitOr a b) → NoSign a × NoSign b
+or-no-sign a b h =
+    let x = or-zero _ _ (sym (bit-or a b 31) ∙ h .page) in
+    let y = or-zero _ _ (sym (bit-or a b 47) ∙ h .slot) in
+    let z = or-zero _ _ (sym (bit-or a b 63) ∙ h .volume) in
+    (record { page = x .0; slot = y .0; volume = z .0 }, record { page = x .1; slot = y .1; volume = z .1 })
+
+no-sign-or : (a b : ℕ) → NoSign a → NoSign b → NoSign (bitOr a b)
+no-sign-or a b h k = record {
+  page = bit-or a b 31 ∙ zero-or _ _ (h .page) (k .page);
+  slot = bit-or a b 47 ∙ zero-or _ _ (h .slot) (k .slot);
+  volume = bit-or a b 63 ∙ zero-or _ _ (h .volume) (k .volume);
+}
 
 -- at byte x, of the table t the entries m are left; met records were met, the last ends at e, and acc has the bytes of none
 pub record Walked (p : List ℕ) (n f : ℕ) (t m : List ℕ) (x e met acc : ℕ) : Type 0 where
@@ -36,8 +52,14 @@ pub record Walked (p : List ℕ) (n f : ℕ) (t m : List ℕ) (x e met acc : ℕ
   pub till : e ≤ x
   pub ends : (e ≡ 8) ⊎ ((i : ℕ) × (i < n) × (off p i + len p i ≡ e))
   pub zeros : acc ≡ 0 → (k : ℕ) → 8 ≤ k → k < x → ((i : ℕ) → i < n → In p i k → ⊥) → byte p k ≡ 0
-  pub spent : Apart p n → (k : ℕ) → k < x → byte m k ≡ 0
+  pub early : (k : ℕ) → k < 8 → byte m k ≡ byte t k
+  pub spent : Laid p n f → (k : ℕ) → k < x → byte m k ≡ 0
   pub clear : Laid p n f → acc ≡ 0
+
+-- in the or of the places of the records met there is no sign just where no place has a negative part
+pub record Signed (p : List ℕ) (n : ℕ) (m : List ℕ) (signs : ℕ) : Type 0 where
+  pub so : NoSign signs → (i : ℕ) → Met p n m i → NaturalAt p (off p i)
+  pub back : ((i : ℕ) → i < n → NaturalAt p (off p i)) → NoSign signs
 
 -- u at byte x: the entries m that are left, and 255 on the places of the records met
 pub record Marking (p : List ℕ) (n : ℕ) (m : List ℕ) (x : ℕ) (u : List ℕ) : Type 0 where
@@ -50,6 +72,10 @@ pub record Gap (g x e : ℕ) : Type 0 where
   pub to : g ≤ x
   pub met : g < x → e ≡ x
   pub none : 8 < x → g ≡ x → e < x
+
+-- marks up to y are marks up to z
+pub ends-at : (u v : List ℕ) (x y z : ℕ) → Span u x y (λ _. 255) v → y ≡ z → Span u x z (λ _. 255) v
+ends-at u v x y z s e = subst (λ w. Span u x w (λ _. 255) v) e s
 
 -- at byte x, whether or not two records start at one byte: of the table t the entries m are left, met records were met, and u is t from x on
 pub record Passed (t : List ℕ) (f : ℕ) (m : List ℕ) (x met : ℕ) (u : List ℕ) : Type 0 where
@@ -91,10 +117,7 @@ module _ (p t : List ℕ) (n f : ℕ) (b : Table p n f t) where
           later = λ k h. getD-set-other m x k 0 0 (λ y. omega (arith, y, r .0)) ∙ w .later k (omega arith);
           left = omega (arith, w .left, entries-less m x (omega (arith, w .later x (omega arith), w .ahead x (omega arith))));
           ahead = λ k h. c .above k (omega (arith, r .0)) ∙ w .ahead k (omega arith);
-          inside = record {
-            below = λ k h. c .below k (omega (arith, w .from)) ∙ w .inside .below k h;
-            above = λ k h. c .above k (omega (arith, r .0, r .1)) ∙ w .inside .above k h;
-          };
+          inside = λ k h. c .above k (omega (arith, r .0, r .1)) ∙ w .inside k h;
         }
 
 -- a table where no two records start at one byte
@@ -109,6 +132,9 @@ distinct-of p n f t b d i j h l e = d .apart i j (off p i) h l (record { from = 
 module _ (p t : List ℕ) (n f : ℕ) (b : Exact p n f t) where
   fresh : (i : ℕ) → Met p n t i → ⊥
   fresh i u = omega (arith, b .table .at (b .all) i (u .0), b .table .short i (u .0), u .1)
+
+  pub signed-none : Signed p n t 0
+  signed-none = record { so = λ _ i u. absurd (fresh i u); back = λ _. record { page = refl; slot = refl; volume = refl } }
 
   pub marking-none : Marking p n t 8 t
   marking-none = record { ahead = λ k _. refl; places = λ i k u. absurd (fresh i u); only = λ k. inl refl }
@@ -125,7 +151,8 @@ module _ (p t : List ℕ) (n f : ℕ) (b : Exact p n f t) where
     till = omega arith;
     ends = inl refl;
     zeros = λ _ k l g. absurd (omega arith);
-    spent = λ _ k l. inside-of p t n f (b .table) .below k l;
+    early = λ k _. refl;
+    spent = λ d k l. ⊎-elim (λ z. z) (λ u. absurd (omega (arith, u .2, d .after (u .0) (u .1)))) (b .table .only k);
     clear = λ _. refl;
   }
 
@@ -143,9 +170,10 @@ module _ (p t : List ℕ) (n f : ℕ) (b : Exact p n f t) where
       till = omega (arith, w .till);
       ends = w .ends;
       zeros = λ o k g h out. ⊎-elim (λ s. rw s (or-zero acc (byte p x) o .1)) (λ s. w .zeros (or-zero acc (byte p x) o .0) k g (omega (arith, s)) out) (same k x);
+      early = w .early;
       spent = λ a k h. ⊎-elim (λ s. rw s z) (λ s. w .spent a k (omega (arith, s))) (same k x);
       clear = λ d. zero-or acc (byte p x) (w .clear d) (d .clear x (w .from) l (λ i h y. ⊎-elim
-          (λ s. omega (arith, y .to, w .till, w .done i (h, w .spent (d .apart) (off p i) s)))
+          (λ s. omega (arith, y .to, w .till, w .done i (h, w .spent d (off p i) s)))
           (λ s. let o : off p i ≡ x = omega (arith, y .from) in omega (arith, w .later x (omega arith), b .table .at (b .all) i h, ap (byte t) o, b .table .short i h))
           (side (off p i) x)));
     }
@@ -186,6 +214,16 @@ module _ (p t : List ℕ) (n f : ℕ) (b : Exact p n f t) where
         kept : (k : ℕ) → (k ≡ x → ⊥) → byte (set m x 0) k ≡ byte m k
         kept k y = getD-set-other m x k 0 0 y
 
+    -- its place or-ed
+    pub signed-record : (signs v : ℕ) → 1 ≤ byte m x → Signed p n m signs → NoSign v ↔ NaturalAt p x → Signed p n (set m x 0) (bitOr signs v)
+    signed-record signs v s g e = record {
+      so = λ o i u. ⊎-elim
+          (λ y. rw y (e .0 (or-no-sign signs v o .1)))
+          (λ y. g .so (or-no-sign signs v o .0) i (u .0, sym (getD-set-other m x (off p i) 0 0 y) ∙ u .1))
+          (same (off p i) x);
+      back = λ a. let r = here s in no-sign-or signs v (g .back a) (e .1 (subst (NaturalAt p) (r .2) (a (r .0) (r .1))));
+    }
+
     pub walked-record : (q : List ℕ) → 1 ≤ byte m x → q ≡ set m x 0 → Walked p n f t q (x + byte m x) (x + byte m x) (met + 1) acc
     walked-record q s g = record {
       from = omega (arith, w .from);
@@ -201,11 +239,12 @@ module _ (p t : List ℕ) (n f : ℕ) (b : Exact p n f t) where
       till = omega arith;
       ends = inr (i₀, r .1, omega (arith, r .2, r .3));
       zeros = λ o k h c out. ⊎-elim (λ y. w .zeros o k h y out) (λ y. absurd (out i₀ (r .1) (within k y c))) (side k x);
+      early = λ k h. kept k (λ y. omega (arith, y, w .from)) ∙ w .early k h;
       spent = λ a k h. ⊎-elim
           (λ y. rw y gone)
           (λ y. kept k y ∙ ⊎-elim (λ c. w .spent a k c) (λ c. w .later k c ∙ ⊎-elim
           (λ z. z)
-          (λ u. absurd (y (sym (u .2) ∙ ap (off p) (a (u .0) i₀ k (u .1) (r .1) (record { from = omega (arith, u .2); to = omega (arith, u .2, b .table .short (u .0) (u .1)) }) (within k c h)) ∙ r .2)))
+          (λ u. absurd (y (sym (u .2) ∙ ap (off p) (a .apart (u .0) i₀ k (u .1) (r .1) (record { from = omega (arith, u .2); to = omega (arith, u .2, b .table .short (u .0) (u .1)) }) (within k c h)) ∙ r .2)))
           (b .table .only k)) (side k x))
           (same k x);
       clear = w .clear;
@@ -235,7 +274,7 @@ module _ (p t : List ℕ) (n f : ℕ) (b : Exact p n f t) where
 
   module _ (m : List ℕ) (e met acc : ℕ) (w : Walked p n f t m f e met acc) where
     inside-still : Inside f m
-    inside-still = record { below = λ k h. w .never k (inside-of p t n f (b .table) .below k h); above = λ k h. w .never k (inside-of p t n f (b .table) .above k h) }
+    inside-still k h = w .never k (inside-of p t n f (b .table) k h)
 
     -- all met
     emptied : met ≡ n → Zero m
@@ -247,15 +286,24 @@ module _ (p t : List ℕ) (n f : ℕ) (b : Exact p n f t) where
       only = λ k. ⊎-elim (λ y. inl (y ∙ emptied h k)) (λ z. inr z) (a .only k);
     }
 
-    pub laid-of : 17 ≤ f → acc ≡ 0 → met ≡ n → e ≡ f → Laid p n f
-    laid-of l z h s = record {
+    -- each was met, so behind the header
+    behind : met ≡ n → (i : ℕ) → i < n → 8 ≤ off p i
+    behind h i l = ⊎-elim
+        (λ y. absurd (omega (arith, w .early (off p i) y, emptied h (off p i), b .table .at (b .all) i l, b .table .short i l)))
+        (λ y. y)
+        (side (off p i) 8)
+
+    pub laid-of : (signs : ℕ) → Signed p n m signs → 17 ≤ f → acc ≡ 0 → met ≡ n → e ≡ f → NoSign signs → Laid p n f
+    laid-of signs g l z h s o = record {
+      after = behind h;
+      natural = λ i u. g .so o i (u, emptied h (off p i));
       apart = λ i j k u v. w .apart i j k (u, emptied h (off p i)) (v, emptied h (off p j));
       clear = w .zeros z;
       top = ⊎-elim (λ y. absurd (omega arith)) (λ u. (u .0, u .1, u .2 ∙ s)) (w .ends);
     }
 
     pub met-all : Laid p n f → met ≡ n
-    met-all d = omega (arith, w .left, entries-none m (λ k. ⊎-elim (w .spent (d .apart) k) (inside-still .above k) (side k f)))
+    met-all d = omega (arith, w .left, entries-none m (λ k. ⊎-elim (w .spent d k) (inside-still k) (side k f)))
 
     pub end-top : Laid p n f → e ≡ f
     end-top d =

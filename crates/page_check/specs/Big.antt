@@ -1,9 +1,9 @@
 -- Bytes as one number, the first the highest. Assumes nothing.
 use Prim.Native.Nat.{ℕ, zero, suc, _+_, _-_, _*_, _≤_, _<_}
-use mathlib.Core.Path.{_≡_}
 use mathlib.Core.List.{List}
 use lib.ListN.{length}
 use Rattle.ground.specs.Lists.{byte, part}
+use Rattle.words.specs.Codes.{Before}
 
 -- the n bytes of s from k
 unfoldable pub big : ℕ → List ℕ → ℕ → ℕ
@@ -26,15 +26,6 @@ pub record Stretch (p : List ℕ) (a b : ℕ) : Type 0 where
   pub order : a ≤ b
   pub within : b ≤ length p
 
--- n is the first eight of the bytes a up to b as one number; where there are fewer, the greatest number of 64 bits
-pub record Lead (p : List ℕ) (a b n : ℕ) : Type 0 where
-  pub eight : a + 8 ≤ b → n ≡ big 8 p a
-  pub fewer : b < a + 8 → n ≡ 18446744073709551615
-
--- c lies in p, and n is its lead
-pub record Led (p c : List ℕ) (n : ℕ) : Type 0 where
-  pub from : ℕ
-  pub to : ℕ
-  pub lies : Stretch p from to
-  pub is : part p from (to - from) ≡ c
-  pub lead : Lead p from to n
+-- a code of eight bytes or more in p whose first eight, as one number, are above n comes after c
+abbrev pub Led : List ℕ → List ℕ → ℕ → Type 0
+Led p c n = (x y : ℕ) → Stretch p x y → x + 8 ≤ y → n < big 8 p x → Before c (part p x (y - x))

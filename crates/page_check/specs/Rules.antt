@@ -22,6 +22,12 @@ pub record NaturalAt (p : List ℕ) (o : ℕ) : Type 0 where
   pub slot : byte p (o + 5) < 128
   pub volume : byte p (o + 7) < 128
 
+-- no sign in the eight bytes of a place as one number, the first the lowest
+pub record NoSign (w : ℕ) : Type 0 where
+  pub page : w / 2147483648 % 2 ≡ 0
+  pub slot : w / 140737488355328 % 2 ≡ 0
+  pub volume : w / 9223372036854775808 % 2 ≡ 0
+
 -- a slot's word: offset in bits 0 to 13, record length in 14 to 27
 abbrev pub offOf : ℕ → ℕ
 offOf w = w % 16384
@@ -29,14 +35,12 @@ offOf w = w % 16384
 abbrev pub lenOf : ℕ → ℕ
 lenOf w = w / 16384 % 16384
 
--- a slot's word, 1 in bits 28 to 31, and its record: 9 to 72 bytes between 8 and the frontier f, a place with no negative part
-pub record WordOk (p : List ℕ) (f w : ℕ) : Type 0 where
+-- a slot's word, 1 in bits 28 to 31, and its record: 9 to 72 bytes that end before the frontier f
+pub record WordOk (f w : ℕ) : Type 0 where
   pub kind-one : w / 268435456 ≡ 1
   pub short : 9 ≤ lenOf w
   pub long : lenOf w ≤ 72
-  pub after : 8 ≤ offOf w
   pub inside : offOf w + lenOf w ≤ f
-  pub natural : NaturalAt p (offOf w)
 
 -- the code before slot i's, none before the first
 abbrev pub prior : List ℕ → ℕ → List ℕ
@@ -62,6 +66,6 @@ pub record Codes (p : List ℕ) (w : ℕ) (c : List ℕ) : Type 0 where
 
 -- the slots with their records: each for itself, in code order, and the needs with total free
 pub record SlotsOk (p : List ℕ) : Type 0 where
-  pub words : (i : ℕ) → i < count p → WordOk p (frontier p) (word p i)
+  pub words : (i : ℕ) → i < count p → WordOk (frontier p) (word p i)
   pub ascending : (i : ℕ) → i < count p → Before (prior p i) (code p i)
   pub unused : free p + total (need p) (count p) ≡ length p - 8

@@ -1,5 +1,5 @@
 -- The table of starts: a record's length at its start, zero elsewhere. Assumes nothing.
-use Prim.Native.Nat.{ℕ, zero, suc, _+_, _-_, _≤_, _<_}
+use Prim.Native.Nat.{ℕ, zero, suc, _+_, _-_, _/_, _≤_, _<_}
 use mathlib.Core.Path.{_≡_}
 use mathlib.Core.Logic.{_⊎_}
 use mathlib.Core.List.{List, [], _∷_}
@@ -8,8 +8,8 @@ use Rattle.ground.specs.Lists.{byte, part}
 use Rattle.words.specs.Codes.{Before}
 use Rattle.words.specs.Zeros.{Zero}
 use Rattle.page.specs.Page.{In, off, len, count, frontier}
-use Rattle.page_check.specs.Rules.{HeadOk, WordOk, Preceded, offOf, lenOf, slotOf, prior}
-use Rattle.page_check.specs.Big.{Stretch, Lead, Led}
+use Rattle.page_check.specs.Rules.{HeadOk, NaturalAt, WordOk, Preceded, offOf, lenOf, slotOf, prior}
+use Rattle.page_check.specs.Big.{Stretch, Led, big}
 
 -- how many bytes are not zero
 unfoldable pub entries : List ℕ → ℕ
@@ -21,9 +21,8 @@ entries (suc x ∷ t) = suc (entries t)
 abbrev pub Distinct : List ℕ → ℕ → Type 0
 Distinct p n = (i j : ℕ) → i < n → j < n → off p i ≡ off p j → i ≡ j
 
--- the first n records lie between 8 and f, and t has entries at their starts only; there are n exactly when no two start at one byte, and then each has its own
+-- the first n records end before f, and t has entries at their starts only; there are n exactly when no two start at one byte, and then each has its own
 pub record Table (p : List ℕ) (n f : ℕ) (t : List ℕ) : Type 0 where
-  pub after : (i : ℕ) → i < n → 8 ≤ off p i
   pub short : (i : ℕ) → i < n → 9 ≤ len p i
   pub inside : (i : ℕ) → i < n → off p i + len p i ≤ f
   pub only : (k : ℕ) → (byte t k ≡ 0) ⊎ ((i : ℕ) × (i < n) × (off p i ≡ k) × (byte t k ≡ len p i))
@@ -47,32 +46,45 @@ pub record Tabled (p t : List ℕ) (n f : ℕ) : Type 0 where
   pub same : length t ≡ length p
   pub table : Table p n f t
 
--- zeros before 8 and from f on
-pub record Inside (f : ℕ) (t : List ℕ) : Type 0 where
-  pub below : (k : ℕ) → k < 8 → byte t k ≡ 0
-  pub above : (k : ℕ) → f ≤ k → byte t k ≡ 0
+-- zeros from f on
+abbrev pub Inside : ℕ → List ℕ → Type 0
+Inside f t = (k : ℕ) → f ≤ k → byte t k ≡ 0
 
--- no byte is in two of the first n records, those in none are zero from 8 up to f, and a record ends at f
+-- the first n records lie behind the header, no place has a negative part, no byte is in two of them, those in none are zero from 8 up to f, and a record ends at f
 pub record Laid (p : List ℕ) (n f : ℕ) : Type 0 where
+  pub after : (i : ℕ) → i < n → 8 ≤ off p i
+  pub natural : (i : ℕ) → i < n → NaturalAt p (off p i)
   pub apart : (i j k : ℕ) → i < n → j < n → In p i k → In p j k → i ≡ j
   pub clear : (k : ℕ) → 8 ≤ k → k < f → ((i : ℕ) → i < n → In p i k → ⊥) → byte p k ≡ 0
   pub top : (i : ℕ) × (i < n) × (off p i + len p i ≡ f)
 
--- the code before the slot at k and the one from x up to y, with their leads
-pub record Pair (p : List ℕ) (k lead x y next : ℕ) : Type 0 where
+-- a slot lies at k, after others, and a code from x up to y
+pub record Pair (p : List ℕ) (k x y : ℕ) : Type 0 where
+  pub before : Preceded p k
+  pub lies : Stretch p x y
+
+-- the slot at k, in a page of frontier f, after a code of which lead tells
+pub record Turn (p : List ℕ) (f k lead : ℕ) : Type 0 where
   pub before : Preceded p k
   pub led : Led p (prior p (slotOf p k)) lead
-  pub lies : Stretch p x y
-  pub leads : Lead p x y next
-
--- the slot at k, whose word w keeps its own rules, with the leads of the code before and of its own, and a table as long as the page
-pub record Turn (p t : List ℕ) (f k lead w next : ℕ) : Type 0 where
-  pub sound : WordOk p f w
   pub room : f ≤ length p
-  pub pair : Pair p k lead (offOf w + 8) (offOf w + lenOf w) next
-  pub same : length t ≡ length p
+  pub most : f ≤ 16384
 
 -- slot i's word w: its own rules, in code order
 pub record NextOk (p : List ℕ) (f i w : ℕ) : Type 0 where
-  pub sound : WordOk p f w
+  pub sound : WordOk f w
   pub rises : Before (prior p i) (part p (offOf w + 8) (lenOf w - 8))
+
+-- w is the word of a record of 16 to 72 bytes, and the first eight of its code, as one number, are r, above lead
+pub record LeadOver (p : List ℕ) (lead w r : ℕ) : Type 0 where
+  pub kind-one : w / 268435456 ≡ 1
+  pub eight : 16 ≤ lenOf w
+  pub long : lenOf w ≤ 72
+  pub is : r ≡ big 8 p (offOf w + 8)
+  pub over : lead < r
+
+-- r is 0 just where slot i's word w breaks a rule; else it tells of w's code
+pub record NextTold (p : List ℕ) (f i w r : ℕ) : Type 0 where
+  pub none : r ≡ 0 → NextOk p f i w → ⊥
+  pub sound : 1 ≤ r → NextOk p f i w
+  pub told : 1 ≤ r → Led p (part p (offOf w + 8) (lenOf w - 8)) r

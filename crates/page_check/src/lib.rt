@@ -1,20 +1,21 @@
 // Whether bytes are a bucket page: the rules of its bytes by page_ok, the shared bits of its hashes slot by slot.
 ghost use mathlib.Core.Path.{_≡_};
-ghost use mathlib.Core.Bool.{true, false};
+ghost use mathlib.Core.Bool.{true};
+ghost use mathlib.Core.Logic.{_↔_};
 ghost use Prim.Native.Nat.{_+_, _*_, _-_, _/_, _%_, _^_, _≤_, _<_};
 ghost use lib.Bits.{bitXor};
-ghost use lib.ListN.{length, set};
+ghost use lib.ListN.{length};
 ghost use Rattle.ground.specs.Says.{Says};
 ghost use Rattle.ground.specs.Lists.{part};
 ghost use Rattle.words.specs.Codes.{Before};
-ghost use Rattle.words.specs.Zeros.{Zero};
+ghost use Rattle.words.specs.Zeros.{Zero, ZeroFrom};
 ghost use Rattle.hash.specs.Fnv.{fnv};
 ghost use Rattle.partition.specs.Bits.{top};
 ghost use Rattle.page.specs.Page.{BucketPage, depth, count, off, len, code};
-ghost use Rattle.page_check.specs.Rules.{HeadOk, NaturalAt, WordOk, SlotsOk, offOf, lenOf, slotOf, prior, Preceded, Codes};
-ghost use Rattle.page_check.specs.Table.{Table, HeadKnown, Tabled, Inside, Laid, Pair, Turn, NextOk};
-ghost use Rattle.page_check.specs.Marks.{Marked, NoCapital};
-ghost use Rattle.page_check.specs.Big.{Bytes4, Bytes8, big, Stretch, Lead};
+ghost use Rattle.page_check.specs.Rules.{HeadOk, NaturalAt, NoSign, SlotsOk, offOf, slotOf, prior, Preceded, Codes};
+ghost use Rattle.page_check.specs.Table.{Table, HeadKnown, Tabled, Inside, Laid, Pair, Turn, LeadOver, NextTold};
+ghost use Rattle.page_check.specs.Marks.{Marked, NoCapital, Halves};
+ghost use Rattle.page_check.specs.Big.{Bytes4, Bytes8, big, Stretch, Led};
 ghost use Rattle.page_check.specs.Shared.{PageOk, FirstHash, LentTable, Alike, Share, Keeps, NearUpTo};
 use hash::Hashes;
 use words::Order;
@@ -45,37 +46,6 @@ fn head_ok(page: &[u8]) -> bool
         return false;
     }
     true
-}
-
-// A place at o with no negative part: the sign bits are looked at together.
-fn natural_at(page: &[u8], o: usize) -> bool
-    requires { ⌜ o + 8 ≤ length (now page) ⌝ }
-    ensures { λ r. ⌜ Says r (NaturalAt (now (page .entry)) o) ⌝ }
-{
-    (page[o + 3] | page[o + 5] | page[o + 7]) < 128
-}
-
-// A slot's word and its record, in a page with frontier f.
-fn word_ok(page: &[u8], f: usize, w: usize) -> bool
-    requires { ⌜ (f ≤ length (now page)) × (f ≤ 16384) ⌝ }
-    ensures { λ r. ⌜ Says r (WordOk (now (page .entry)) f w) ⌝ }
-{
-    // 1 above a length of 9 to 72, in one look
-    let t = w / 16384;
-    if t < 16393 {
-        return false;
-    }
-    if 16456 < t {
-        return false;
-    }
-    let o = w % 16384;
-    if o < 8 {
-        return false;
-    }
-    if f + 16384 < o + t {
-        return false;
-    }
-    natural_at(page, o)
 }
 
 // Four bytes as one number, and eight: nested so that they become one load.
@@ -114,26 +84,22 @@ fn be64(s: &[u8], k: usize) -> usize
     )
 }
 
-// The first eight bytes of the code from x up to y as one number; where it has fewer, the greatest number.
-fn lead_of(page: &[u8], x: usize, y: usize) -> usize
-    requires { ⌜ Stretch (now page) x y ⌝ }
-    ensures { λ r. ⌜ Lead (now (page .entry)) x y r ⌝ }
+// The eight bytes at k as one number, the first the lowest.
+fn le64(s: &[u8], k: usize) -> usize
+    requires { ⌜ k + 8 ≤ length (now s) ⌝ }
+    ensures signs { λ r. ⌜ NoSign r ↔ NaturalAt (now (s .entry)) k ⌝ }
+    ensures zero { λ r. ⌜ (r ≡ 0) ↔ ZeroFrom (now (s .entry)) k (k + 8) ⌝ }
 {
-    if y - x < 8 {
-        return usize::MAX;
-    }
-    be64(page, x)
-}
-
-// Whether the first eight bytes alone show that a code of that lead comes before the one from x up to y, which has the other.
-fn leads(lead: usize, x: usize, y: usize, next: usize) -> bool
-    requires { ⌜ x ≤ y ⌝ }
-    ensures { λ r. ⌜ (r ≡ true → (x + 8 ≤ y) × (lead < next) × (lead < 18446744073709551615)) ⌝ }
-{
-    if y - x < 8 {
-        return false;
-    }
-    lead < next
+    join8(
+        words::wide(s[k + 7]),
+        words::wide(s[k + 6]),
+        words::wide(s[k + 5]),
+        words::wide(s[k + 4]),
+        words::wide(s[k + 3]),
+        words::wide(s[k + 2]),
+        words::wide(s[k + 1]),
+        words::wide(s[k]),
+    )
 }
 
 // The word of the slot before the one at k; before the first, that of an empty code.
@@ -147,14 +113,11 @@ fn word_before(page: &[u8], k: usize) -> usize
     words::get32(page, k + 4)
 }
 
-// Whether the code before the slot at k, which has that lead, comes before the one from x up to y, which has the other.
-fn rises(page: &[u8], k: usize, lead: usize, x: usize, y: usize, next: usize) -> bool
-    requires { ⌜ Pair (now page) k lead x y next ⌝ }
+// Whether the code before the slot at k comes before the one from x up to y.
+fn rises(page: &[u8], k: usize, x: usize, y: usize) -> bool
+    requires { ⌜ Pair (now page) k x y ⌝ }
     ensures { λ r. ⌜ Says r (Before (prior (now (page .entry)) (slotOf (now (page .entry)) k)) (part (now (page .entry)) x (y - x))) ⌝ }
 {
-    if leads(lead, x, y, next) {
-        return true;
-    }
     let v = word_before(page, k);
     let a = v % 16384 + 8;
     let b = v % 16384 + v / 16384 % 16384;
@@ -165,31 +128,76 @@ fn rises(page: &[u8], k: usize, lead: usize, x: usize, y: usize, next: usize) ->
     }
 }
 
-// The word of the slot at k, after a code of that lead: code order, and its length entered at its start. Two that start at one byte have one entry, so that the walk meets too few.
-fn next_ok(
-    page: &[u8],
-    tab: &mut [u8],
-    f: usize,
-    k: usize,
-    lead: usize,
-    w: usize,
-    next: usize,
-) -> bool
-    requires { ⌜ Turn (now page) (now tab) f k lead w next ⌝ }
-    ensures says { λ r. ⌜ Says r (NextOk (now (page .entry)) f (slotOf (now (page .entry)) k) w) ⌝ }
-    ensures entered { λ r. ⌜ (r ≡ true → now (tab .exit) ≡ set (now (tab .entry)) (offOf w) (lenOf w)) ⌝ }
-    ensures kept { λ r. ⌜ (r ≡ false → now (tab .exit) ≡ now (tab .entry)) ⌝ }
+// What tells of the code from x up to y: its first eight bytes as one number, or the greatest number, which tells nothing.
+fn lead_of(page: &[u8], x: usize, y: usize) -> usize
+    requires { ⌜ Stretch (now page) x y ⌝ }
+    ensures { λ r. ⌜ (1 ≤ r) × Led (now (page .entry)) (part (now (page .entry)) x (y - x)) r ⌝ }
 {
-    let o = w % 16384;
-    let l = w / 16384 % 16384;
-    if !rises(page, k, lead, o + 8, o + l, next) {
-        return false;
+    if y - x < 8 {
+        return usize::MAX;
     }
-    tab[o] = l as u8;
-    true
+    let next = be64(page, x);
+    if next == 0 {
+        return usize::MAX;
+    }
+    next
 }
 
-// The slots with their records, in one pass, each at k; lead is that of the code before, none before the first.
+// The slot at k by comparing its code with the one before: what tells of it, 0 where its word w breaks a rule.
+fn compared(page: &[u8], k: usize, w: usize) -> usize
+    requires { ⌜ Preceded (now page) k × (offOf w + w / 16384 ≤ length (now page) + 16384) ⌝ }
+    ensures { λ r. ⌜ NextTold (now (page .entry)) (length (now (page .entry))) (slotOf (now (page .entry)) k) w r ⌝ }
+{
+    let t = w / 16384;
+    if t < 16393 {
+        return 0;
+    }
+    if 16457 <= t {
+        return 0;
+    }
+    let x = w % 16384 + 8;
+    let y = w % 16384 + (t - 16384);
+    if !rises(page, k, x, y) {
+        return 0;
+    }
+    lead_of(page, x, y)
+}
+
+// The first eight bytes of w's code as one number, where it has so many and they are above lead; else 0. The length, with the 1 above it, is tested in one look.
+fn lead_over(page: &[u8], lead: usize, w: usize) -> usize
+    requires { ⌜ offOf w + w / 16384 ≤ length (now page) + 16384 ⌝ }
+    ensures { λ r. ⌜ (1 ≤ r → LeadOver (now (page .entry)) lead w r) ⌝ }
+{
+    let t = w / 16384;
+    if t < 16400 {
+        return 0;
+    }
+    if 16456 < t {
+        return 0;
+    }
+    let next = be64(page, w % 16384 + 8);
+    if next <= lead {
+        return 0;
+    }
+    next
+}
+
+// What tells of the code of the slot at k, whose word is w, after one of which lead tells; 0 where it breaks a rule. Only where the first eight bytes do not tell are codes compared.
+fn next_lead(page: &[u8], f: usize, k: usize, lead: usize, w: usize) -> usize
+    requires { ⌜ Turn (now page) f k lead ⌝ }
+    ensures { λ r. ⌜ NextTold (now (page .entry)) f (slotOf (now (page .entry)) k) w r ⌝ }
+{
+    if f + 16384 < w % 16384 + w / 16384 {
+        return 0;
+    }
+    let next = lead_over(page, lead, w);
+    if 0 < next {
+        return next;
+    }
+    compared(page, k, w)
+}
+
+// The slots with their records, in one pass, each at k; lead tells of the code before. Each length is entered at its record's start: two that start at one byte have one entry, so that the walk meets too few.
 fn slots_ok(page: &[u8], tab: &mut [u8], n: usize, f: usize) -> bool
     requires { ⌜ HeadKnown (now page) (now tab) n f ⌝ }
     ensures says { λ r. ⌜ Says r (SlotsOk (now (page .entry))) ⌝ }
@@ -198,27 +206,35 @@ fn slots_ok(page: &[u8], tab: &mut [u8], n: usize, f: usize) -> bool
 {
     let end = page.len() - 4 * n;
     let mut k = page.len();
-    let mut lead = usize::MAX;
+    let mut lead = 0;
     let mut lens = 0;
     while end < k {
         k -= 4;
         let w = words::get32(page, k);
-        if !word_ok(page, f, w) {
+        lead = next_lead(page, f, k, lead, w);
+        if lead == 0 {
             return false;
         }
-        let o = w % 16384;
-        let l = w / 16384 % 16384;
-        let next = lead_of(page, o + 8, o + l);
-        if !next_ok(page, tab, f, k, lead, w, next) {
-            return false;
-        }
-        lead = next;
-        lens = lens + l;
+        tab[w % 16384] = (w / 16384 % 256) as u8;
+        lens = lens + w / 16384;
     }
-    words::get16(page, 6) + 4 * n + lens == page.len() - 8
+    words::get16(page, 6) + 8 + lens == page.len() + 16380 * n
 }
 
-// From 8 to the frontier by the table: over each record that is met, its place marked in the table, and the bytes of none or-ed; gap is where the last of these ends.
+// Whether none of the three sign bits is set.
+fn no_sign(w: usize) -> bool
+    ensures { λ r. ⌜ Says r (NoSign w) ⌝ }
+{
+    if w / 2147483648 % 2 != 0 {
+        return false;
+    }
+    if w / 140737488355328 % 2 != 0 {
+        return false;
+    }
+    w / 9223372036854775808 % 2 == 0
+}
+
+// From 8 to the frontier by the table: over each record that is met, its place or-ed and marked in the table, and the bytes of none or-ed; gap is where the last of these ends.
 // Met records lie apart; that all n are met, those bytes are zero and none of them is the last before f is that the records are laid well.
 fn walk(page: &[u8], tab: &mut [u8], n: usize, f: usize) -> bool
     requires { ⌜ Tabled (now page) (now tab) n f ⌝ }
@@ -230,6 +246,7 @@ fn walk(page: &[u8], tab: &mut [u8], n: usize, f: usize) -> bool
     let mut gap = 8;
     let mut met = 0;
     let mut acc: u8 = 0;
+    let mut signs = 0;
     while pos < f {
         let l = tab[pos] as usize;
         if l == 0 {
@@ -238,6 +255,7 @@ fn walk(page: &[u8], tab: &mut [u8], n: usize, f: usize) -> bool
             gap = pos;
             continue;
         }
+        signs = signs | le64(page, pos);
         words::fill(tab, pos, pos + 8, 255);
         pos += l;
         met += 1;
@@ -248,33 +266,77 @@ fn walk(page: &[u8], tab: &mut [u8], n: usize, f: usize) -> bool
     if met != n {
         return false;
     }
-    gap < f
-}
-
-// Where the test for capitals ends: by whole turns of 32 bytes where those end before the slots, at e, so that it has no rest.
-fn rounded(f: usize, e: usize) -> usize
-    requires { ⌜ (f ≤ e) × (e ≤ 16384) ⌝ }
-    ensures { λ r. ⌜ (f ≤ r) × (r ≤ e) ⌝ }
-{
-    let g = (f + 23) / 32 * 32 + 8;
-    if e < g {
-        return f;
+    if f <= gap {
+        return false;
     }
-    g
+    no_sign(signs)
 }
 
-// Whether no byte from 8 up to g is a capital, but for those that are marked. No way out before the end, so that it vectorises.
-fn no_capital(page: &[u8], tab: &[u8], g: usize) -> bool
-    requires { ⌜ (g ≤ length (now page)) × (g ≤ length (now tab)) ⌝ }
-    ensures { λ r. ⌜ Says r (NoCapital (now (page .entry)) (now (tab .entry)) g) ⌝ }
+// Whether the bytes from a up to b are zero, one by one.
+fn each_zero(page: &[u8], a: usize, b: usize) -> bool
+    requires { ⌜ Stretch (now page) a b ⌝ }
+    ensures { λ r. ⌜ Says r (ZeroFrom (now (page .entry)) a b) ⌝ }
+{
+    let mut acc: u8 = 0;
+    let mut i = a;
+    while i < b {
+        acc = acc | page[i];
+        i += 1;
+    }
+    acc == 0
+}
+
+// Whether the 8 h bytes from a on and those from b on are zero. No way out before the end, so that it vectorises; two stretches at once, so that a turn has more of them.
+fn both_zero(page: &[u8], a: usize, b: usize, h: usize) -> bool
+    requires { ⌜ (a + 8 * h ≤ length (now page)) × (b + 8 * h ≤ length (now page)) ⌝ }
+    ensures { λ r. ⌜ Says r (ZeroFrom (now (page .entry)) a (a + 8 * h) × ZeroFrom (now (page .entry)) b (b + 8 * h)) ⌝ }
+{
+    let mut acc = 0;
+    let mut i = 0;
+    while i < h {
+        acc = acc | le64(page, a + 8 * i) | le64(page, b + 8 * i);
+        i += 1;
+    }
+    acc == 0
+}
+
+// Whether the bytes from a up to b are zero: in two stretches of whole turns of 32 bytes, which overlap, so that there is no rest.
+fn zeros(page: &[u8], a: usize, b: usize) -> bool
+    requires { ⌜ Stretch (now page) a b × (b ≤ 16384) ⌝ }
+    ensures { λ r. ⌜ Says r (ZeroFrom (now (page .entry)) a b) ⌝ }
+{
+    let turns = (b - a + 63) / 64;
+    if b < a + 32 * turns {
+        return each_zero(page, a, b);
+    }
+    both_zero(page, a, b - 32 * turns, 4 * turns)
+}
+
+// Whether none of the h bytes from 8 on and of the h bytes from d on is a capital, but for those that are marked. As both_zero.
+fn both_small(page: &[u8], tab: &[u8], d: usize, h: usize) -> bool
+    requires { ⌜ Halves (now page) (now tab) d h ⌝ }
+    ensures { λ r. ⌜ Says r (NoCapital (now (page .entry)) (now (tab .entry)) 8 (8 + h) × NoCapital (now (page .entry)) (now (tab .entry)) d (d + h)) ⌝ }
 {
     let mut low: u8 = 255;
-    let mut k = 8;
-    while k < g {
-        low = words::lesser(low, words::letter(page[k] | tab[k]));
+    let mut k = 0;
+    while k < h {
+        low = words::lesser(low, words::letter(page[8 + k] | tab[8 + k]));
+        low = words::lesser(low, words::letter(page[d + k] | tab[d + k]));
         k += 1;
     }
     26 <= low
+}
+
+// Whether no byte from 8 up to f is a capital, but for those that are marked. Stretches as in zeros.
+fn no_capital(page: &[u8], tab: &[u8], f: usize) -> bool
+    requires { ⌜ Stretch (now page) 8 f × (length (now tab) ≡ length (now page)) ⌝ }
+    ensures { λ r. ⌜ Says r (NoCapital (now (page .entry)) (now (tab .entry)) 8 f) ⌝ }
+{
+    let h = (f + 55) / 64 * 32;
+    if f < 8 + h {
+        return both_small(page, tab, 8, f - 8);
+    }
+    both_small(page, tab, f - h, h)
 }
 
 // The rules after the header, of n rows and frontier f.
@@ -289,11 +351,10 @@ fn records_ok(page: &[u8], tab: &mut [u8], n: usize, f: usize) -> bool
     if !walk(page, tab, n, f) {
         return false;
     }
-    let e = page.len() - 4 * n;
-    if !words::all_zero(&page[f..e]) {
+    if !zeros(page, f, page.len() - 4 * n) {
         return false;
     }
-    no_capital(page, tab, rounded(f, e))
+    no_capital(page, tab, f)
 }
 
 // Whether the page keeps the rules of a bucket page (but for the hashes' shared bits). tab is scratch of the page's length, zero before and after.
@@ -308,7 +369,7 @@ pub fn page_ok(page: &[u8], tab: &mut [u8]) -> bool
     let n = words::get16(page, 2);
     let f = words::get16(page, 4);
     let ok = records_ok(page, tab, n, f);
-    words::clear(tab, 8, f);
+    words::clear(tab, 0, f);
     ok
 }
 

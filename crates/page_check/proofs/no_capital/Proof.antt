@@ -1,60 +1,59 @@
 -- `page_check::no_capital` meets its contract. Assumes nothing.
-use Prim.Native.Nat.{ℕ, _-_, _≤_, _<_}
+use Prim.Native.Nat.{_+_, _*_, _-_, _/_}
+use mathlib.Core.Logic.{⊎-elim}
 use native.Mathlib.Omega.{arith}
-use Rattle.ground.proofs.Tests.{says-leb}
-use Rattle.page_check.proofs.Marks.{Low, low-none, low-more}
+use borrow.Author.Needs.{needs}
+use Rattle.ground.proofs.Sides.{side}
+use Rattle.ground.proofs.Tests.{says-same}
 use Rattle.page_check.proofs.no_capital.Statement.{statement}
 use Rattle.page_check.proofs.no_capital.Tie as tie
 
-abbrev Inv-loop : tie.InvT-loop
-Inv-loop page tab g low₀ k₀ low k = (8 ≤ k) × ((j : ℕ) → 8 ≤ j → j < k → j < g) × Low page tab k low
+add-h : tie.Need-add-h
+add-h c = search needs
 
-abbrev μ-loop : tie.MeasureT-loop
-μ-loop page tab g low₀ k₀ low k = g - k
+mul-h : tie.Need-mul-h
+mul-h c = search needs
 
-loop-holds : tie.Need-loop-holds Inv-loop μ-loop
-loop-holds c = (omega arith, λ j h l. absurd (omega arith), low-none _ _)
+add-if1 : tie.Need-add-if1
+add-if1 c = search needs
 
-shared-slice-read-letter : tie.Need-shared-slice-read-letter Inv-loop μ-loop
-shared-slice-read-letter c = omega arith
+sub-both-small : tie.Need-sub-both-small
+sub-both-small c = search needs
 
-shared-slice-read-letter-2 : tie.Need-shared-slice-read-letter-2 Inv-loop μ-loop
-shared-slice-read-letter-2 c = omega arith
+both-small-requires : tie.Need-both-small-requires
+both-small-requires c κs = search needs
 
-letter-requires : tie.Need-letter-requires Inv-loop μ-loop
-letter-requires c κs = tt
-
-lesser-requires : tie.Need-lesser-requires Inv-loop μ-loop
-lesser-requires c κs = tt
-
-add-k : tie.Need-add-k Inv-loop μ-loop
-add-k c = omega arith
-
-loop-less : tie.Need-loop-less Inv-loop μ-loop
-loop-less c = omega arith
-
-loop-again : tie.Need-loop-again Inv-loop μ-loop
-loop-again c =
-    let l = c .before .before .before .before .before .loop in
-    (omega (arith, l .inv .0), λ j h r. omega arith, low-more _ _ (l .k) (l .low) (c .before .letter .result) (c .lesser .result) (l .inv .0) (l .inv .2) (c .before .letter .ensures) (c .lesser .ensures))
-
-returns : tie.Need-returns Inv-loop μ-loop
+returns : tie.Need-returns
 returns c =
-    let l = c .before .loop in
-    says-leb _ (l .low) (λ h k a r. l .inv .2 .so (omega (arith, h)) k a (omega arith)) (λ n. omega (arith, l .inv .2 .back (λ j a r. n j a (l .inv .1 j a r))))
+    let o = c .before .before .before .before .pre .0 in
+    says-same (c .both-small .result) (c .both-small .ensures)
+    (λ n k l u. n .0 k l (omega (arith, o)))
+    (λ n. ((λ k l u. n k l (omega (arith, o))), (λ k l u. n k l (omega (arith, o)))))
+
+sub-both-small-2 : tie.Need-sub-both-small-2
+sub-both-small-2 c = search needs
+
+both-small-requires-2 : tie.Need-both-small-requires-2
+both-small-requires-2 c κs = search needs
+
+returns-2 : tie.Need-returns-2
+returns-2 c =
+    let f = c .before .before .before .before .args .f in
+    let h = (f + 55) / 64 * 32 in
+    says-same (c .both-small2 .result) (c .both-small2 .ensures)
+    (λ n k l u. ⊎-elim (λ lt. n .0 k l lt) (λ ge. n .1 k (omega (arith, c .before .if1 .left)) (omega (arith, c .before .if1 .left))) (side k (8 + h)))
+    (λ n. ((λ k l u. n k l (omega (arith, c .before .if1 .left))), (λ k l u. n k (omega (arith, c .before .if1 .left)) (omega (arith, c .before .if1 .left)))))
 
 pub no-capital-spec : {M : Type 1} → statement M
 no-capital-spec =
     tie.close
     (tie.spec
-    Inv-loop
-    μ-loop
-    loop-holds
-    shared-slice-read-letter
-    shared-slice-read-letter-2
-    letter-requires
-    lesser-requires
-    add-k
-    loop-less
-    loop-again
-    returns)
+    add-h
+    mul-h
+    add-if1
+    sub-both-small
+    both-small-requires
+    returns
+    sub-both-small-2
+    both-small-requires-2
+    returns-2)
