@@ -7,7 +7,7 @@ use mathlib.Core.Logic.{_⊎_, inl, inr, ⊎-elim}
 use lib.Dec.{eqb}
 use borrow.Author.Tests.{eq-eqb, ne-eqb}
 use Rattle.ground.proofs.Sides.{same}
-use Rattle.text_lines.specs.Ends.{isFeed, behindLast, endedAfter, unendedAfter, ended, unended, withFeeds, Feedless, FeedlessEach, Parted}
+use Rattle.text_lines.specs.Ends.{isFeed, behindLast, endedAfter, unendedAfter, ended, unended, withFeeds, Feedless, FeedlessEach, LinesAre}
 
 -- ---- bytes behind others
 
@@ -65,23 +65,23 @@ feedless-more : (w : List ℕ) (b : ℕ) → Feedless w → (b ≡ 10 → ⊥) �
 feedless-more [] b f n = (n, tt)
 feedless-more (c ∷ w) b f n = (f .0, feedless-more w b (f .1) n)
 
-parted-after : (w l : List ℕ) → Feedless w → Parted (w ++ l) (endedAfter w l) (unendedAfter w l)
+lines-after : (w l : List ℕ) → Feedless w → LinesAre (w ++ l) (endedAfter w l) (unendedAfter w l)
 unfolding endedAfter behindLast withFeeds
-parted-after w [] f = record { whole = append-nil w; lines = tt; rest = f }
-parted-after w (b ∷ l) f = ⊎-elim
+lines-after w [] f = record { whole = append-nil w; lines = tt; rest = f }
+lines-after w (b ∷ l) f = ⊎-elim
     (λ (e : b ≡ 10).
-    let x = parted-after [] l tt in
-    subst (λ (t : Bool). Parted (w ++ (b ∷ l)) (cond t (w ∷ endedAfter [] l) (endedAfter (w ++ (b ∷ [])) l)) (cond t (unendedAfter [] l) (unendedAfter (w ++ (b ∷ [])) l))) (sym (eq-eqb b 10 e))
+    let x = lines-after [] l tt in
+    subst (λ (t : Bool). LinesAre (w ++ (b ∷ l)) (cond t (w ∷ endedAfter [] l) (endedAfter (w ++ (b ∷ [])) l)) (cond t (unendedAfter [] l) (unendedAfter (w ++ (b ∷ [])) l))) (sym (eq-eqb b 10 e))
     (record { whole = ap (λ (c : ℕ). w ++ (c ∷ l)) e ∙ ap (λ (m : List ℕ). w ++ (10 ∷ m)) (x .whole); lines = (f, x .lines); rest = x .rest }))
     (λ (n : b ≡ 10 → ⊥).
-    let x = parted-after (w ++ (b ∷ [])) l (feedless-more w b f n) in
-    subst (λ (t : Bool). Parted (w ++ (b ∷ l)) (cond t (w ∷ endedAfter [] l) (endedAfter (w ++ (b ∷ [])) l)) (cond t (unendedAfter [] l) (unendedAfter (w ++ (b ∷ [])) l))) (sym (ne-eqb b 10 n))
+    let x = lines-after (w ++ (b ∷ [])) l (feedless-more w b f n) in
+    subst (λ (t : Bool). LinesAre (w ++ (b ∷ l)) (cond t (w ∷ endedAfter [] l) (endedAfter (w ++ (b ∷ [])) l)) (cond t (unendedAfter [] l) (unendedAfter (w ++ (b ∷ [])) l))) (sym (ne-eqb b 10 n))
     (record { whole = sym (append-assoc w (b ∷ []) l) ∙ x .whole; lines = x .lines; rest = x .rest }))
     (same b 10)
 
 -- bytes are parted into their lines
-pub parted : (l : List ℕ) → Parted l (ended l) (unended l)
-parted l = parted-after [] l tt
+pub lines-are : (l : List ℕ) → LinesAre l (ended l) (unended l)
+lines-are l = lines-after [] l tt
 
 -- what has no line feed adds no line
 feedless-ends : (w x j : List ℕ) → Feedless x → (endedAfter w (x ++ j) ≡ endedAfter (w ++ x) j) × (unendedAfter w (x ++ j) ≡ unendedAfter (w ++ x) j)
@@ -105,5 +105,5 @@ with-feeds (x ∷ ls) r f g =
     (y .0 ∙ ap (λ (v : List (List ℕ)). x ∷ v) (z .0), y .1 ∙ z .1)
 
 -- and in no other way
-pub parted-one : (l : List ℕ) (ls : List (List ℕ)) (r : List ℕ) → Parted l ls r → (ended l ≡ ls) × (unended l ≡ r)
-parted-one l ls r p = let x = with-feeds ls r (p .lines) (p .rest) in (ap ended (p .whole) ∙ x .0, ap unended (p .whole) ∙ x .1)
+pub lines-are-one : (l : List ℕ) (ls : List (List ℕ)) (r : List ℕ) → LinesAre l ls r → (ended l ≡ ls) × (unended l ≡ r)
+lines-are-one l ls r p = let x = with-feeds ls r (p .lines) (p .rest) in (ap ended (p .whole) ∙ x .0, ap unended (p .whole) ∙ x .1)

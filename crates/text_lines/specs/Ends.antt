@@ -47,7 +47,7 @@ FeedlessEach [] = Unit {0}
 FeedlessEach (x ∷ ls) = Feedless x × FeedlessEach ls
 
 -- in other words: the lines, each with its line feed, and the rest are the bytes, and have no other line feed
-pub record Parted (l : List ℕ) (ls : List (List ℕ)) (r : List ℕ) : Type 0 where
+pub record LinesAre (l : List ℕ) (ls : List (List ℕ)) (r : List ℕ) : Type 0 where
   pub whole : l ≡ withFeeds ls r
   pub lines : FeedlessEach ls
   pub rest : Feedless r
