@@ -1,8 +1,10 @@
 -- `lots::read` meets its contract. Assumes nothing.
+use mathlib.Core.Bool.{true≢false}
+use mathlib.Core.List.{[]}
 use mathlib.Core.Path.{refl}
 use borrow.Author.Needs.{needs}
-use mathlib.Core.Bool.{true≢false}
-use Rattle.lots.proofs.Running.{stays, stays-beside}
+use Rattle.lots.proofs.Leaving.{beside, holds-as}
+use Rattle.lots.proofs.Running.{feeds-none}
 use Rattle.lots.proofs.input.read.Statement.{statement}
 use Rattle.lots.proofs.input.read.Tie as tie
 
@@ -25,10 +27,17 @@ fail-requires : tie.Need-fail-requires
 fail-requires c κs = search needs
 
 returns : tie.Need-returns
-returns c = (stays (record { quiet = λ q. absurd (true≢false (q .1)); same = λ q. refl; long = λ q. refl; holds = search needs }) refl refl, search needs)
+returns c =
+    let h = c .before .before .before .before .before .before .before .before .before .before .pre in
+    record {
+      bytes = [];
+      feeds = feeds-none (record { quiet = λ q. absurd (true≢false (q .1)); same = λ q. refl; long = λ q. refl; holds = holds-as refl refl (h .holds) }) refl refl refl (h .fits);
+    }
 
 returns-2 : tie.Need-returns-2
-returns-2 c = (stays-beside (record { len = refl; known = refl; changed = refl; stopped = refl }) (c .before .before .before .before .before .before .before .before .before .pre .0), search needs)
+returns-2 c =
+    let h = c .before .before .before .before .before .before .before .before .before .pre in
+    record { bytes = []; feeds = feeds-none (beside (record { len = refl; known = refl; changed = refl; stopped = refl }) (h .holds)) refl refl refl (h .fits) }
 
 slice-aggregate-count : tie.Need-slice-aggregate-count
 slice-aggregate-count c = search needs
