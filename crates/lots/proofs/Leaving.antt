@@ -218,7 +218,7 @@ page-unchanged o d w = unchanged o (reads-untouched _ o (d .refused (λ k. uncha
 inspect-unchanged : (n : ℕ) (s : List ℕ) (o : Outcome) → InspectAsked n s o → Changes o → ⊥
 inspect-unchanged n s o d w = unchanged o (passes-untouched o (d .absent (λ h. page-unchanged o (d .there h) w))) w
 
-listed-untouched : {s : List ℕ} {o : Outcome} → ListAsked s o → Untouched o
+pub listed-untouched : {s : List ℕ} {o : Outcome} → ListAsked s o → Untouched o
 listed-untouched {s} {o} d = go (ok (d .answer)) refl
   where
     go : (b : Bool) → ok (d .answer) ≡ b → Untouched o

@@ -5,3 +5,4 @@ pub mod OneCommand
 pub mod Lines
 pub mod Reporting
 pub mod Running
+pub mod OneRun

@@ -11,6 +11,7 @@ use borrow.Author.Tests.{eq-eqb, ne-eqb}
 use Rattle.ground.specs.Lists.{byte}
 use Rattle.ground.proofs.Sides.{side, same}
 use Rattle.commands.specs.SheetLines.{wordThen}
+use Rattle.text_lines.proofs.Words.{some-then}
 use Rattle.text_lines.specs.LineText.{isBlank, behindBlanks, spaced, behindMark, markless, Blankless, Worded}
 
 -- a byte of a word that is not 0 stands in the text
@@ -44,10 +45,6 @@ unmarked w x h = as-it-is (eqb (byte w 0) 239) (eqb (byte w 1) 187) (eqb (byte w
     j))
     k))
     h)
-
-some-then : (w : List ℕ) (ws : List (List ℕ)) → 1 ≤ length w → wordThen w ws ≡ w ∷ ws
-some-then [] ws h = absurd (omega arith)
-some-then (b ∷ w) ws h = refl
 
 module _ (t : List ℕ) where
   pub plain-text : (ws : List (List ℕ)) → Worded ws → t ≡ spaced ws → NoMark t → t ≡ spaced (markless ws)

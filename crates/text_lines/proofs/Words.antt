@@ -10,11 +10,12 @@ use lib.Dec.{eqb}
 use lib.ListN.{length, take, drop, set, replicate, length-append, length-set, length-replicate}
 use lib.Seq.{take-suc-set, take-set-le, length-take-le}
 use borrow.Author.Tests.{eq-eqb, ne-eqb}
+use Rattle.ground.specs.Lists.{byte}
 use Rattle.ground.specs.Says.{Says}
 use Rattle.ground.proofs.Sides.{side}
 use Rattle.commands.specs.SheetLines.{kind, wordThen, cutFrom, wordsOf}
 use Rattle.text_lines.specs.Ends.{behindLast}
-use Rattle.text_lines.specs.LineText.{isBlank, behindBlanks, spaced, Blankless, Worded}
+use Rattle.text_lines.specs.LineText.{isBlank, behindBlanks, spaced, behindMark, markless, textOf, Blankless, Worded}
 use Rattle.text_lines.specs.Reading.{lastWord, gapBefore}
 use Rattle.text_lines.proofs.Ending.{behind-parted, behind-more}
 
@@ -162,3 +163,55 @@ pushed p fill at b h k f = ⊎-elim
   where
     first : take (at + 1) (set (set p fill 32) at b) ≡ take at (set p fill 32) ++ (b ∷ [])
     first = ap (λ (n : ℕ). take n (set (set p fill 32) at b)) (add-one at) ∙ take-suc-set (set p fill 32) at b (omega (arith, length-set p fill 32))
+
+-- ---- the words of words with one blank between
+
+cut-word : (v w x : List ℕ) → Blankless w → cutFrom v (w ++ x) ≡ cutFrom (v ++ w) x
+unfolding cutFrom
+cut-word v [] x f = ap (λ (u : List ℕ). cutFrom u x) (sym (append-nil v))
+cut-word v (b ∷ w) x f =
+    ap (λ (t : Bool). cond t (wordThen v (cutFrom [] (w ++ x))) (cutFrom (v ++ (b ∷ [])) (w ++ x))) (f .0)
+    ∙ cut-word (v ++ (b ∷ [])) w x (f .1)
+    ∙ ap (λ (u : List ℕ). cutFrom u x) (append-assoc v (b ∷ []) w)
+
+-- a word that has a byte
+pub some-then : (w : List ℕ) (ws : List (List ℕ)) → 1 ≤ length w → wordThen w ws ≡ w ∷ ws
+some-then [] ws h = absurd (omega arith)
+some-then (b ∷ w) ws h = refl
+
+cut-blanks : (w : List ℕ) (ws : List (List ℕ)) → 1 ≤ length w → Worded ws → cutFrom w (behindBlanks ws) ≡ w ∷ ws
+unfolding cutFrom behindBlanks
+cut-blanks w [] h f = some-then w [] h
+cut-blanks w (u ∷ us) h f =
+    ap (λ (ws : List (List ℕ)). wordThen w ws) (cut-word [] u (behindBlanks us) (f .1) ∙ cut-blanks u us (f .0) (f .2))
+    ∙ some-then w (u ∷ us) h
+
+-- THEY ARE THE WORDS
+pub words-spaced : (ws : List (List ℕ)) → Worded ws → wordsOf (spaced ws) ≡ ws
+unfolding cutFrom spaced
+words-spaced [] f = refl
+words-spaced (w ∷ ws) f = cut-word [] w (behindBlanks ws) (f .1) ∙ cut-blanks w ws (f .0) (f .2)
+
+blankless-drop : (n : ℕ) (w : List ℕ) → Blankless w → Blankless (drop n w)
+blankless-drop zero w f = f
+blankless-drop (suc n) [] f = tt
+blankless-drop (suc n) (b ∷ w) f = blankless-drop n w (f .1)
+
+unmarked-when : (a b c : Bool) (u w : List ℕ) → Blankless u → Blankless w → Blankless (cond a (cond b (cond c u w) w) w)
+unmarked-when false b c u w f g = g
+unmarked-when true false c u w f g = g
+unmarked-when true true false u w f g = g
+unmarked-when true true true u w f g = f
+
+markless-worded : (ws : List (List ℕ)) → Worded ws → Worded (markless ws)
+unfolding markless behindMark
+markless-worded [] f = tt
+markless-worded (w ∷ ws) f = worded-then (behindMark w) ws (unmarked-when (eqb (byte w 0) 239) (eqb (byte w 1) 187) (eqb (byte w 2) 191) (drop 3 w) w (blankless-drop 3 w (f .1)) (f .1)) (f .2)
+
+-- SO THE WORDS OF A LINE'S TEXT ARE THE LINE'S, without a byte-order mark
+pub text-words : (l : List ℕ) → wordsOf (textOf l) ≡ markless (wordsOf l)
+text-words l = words-spaced (markless (wordsOf l)) (markless-worded (wordsOf l) (words-worded l))
+
+-- and its words with one blank between are the text again
+pub text-again : (l : List ℕ) → spaced (wordsOf (textOf l)) ≡ textOf l
+text-again l = ap spaced (text-words l)
