@@ -8,12 +8,13 @@ use lib.Dec.{eqb}
 use lib.ListN.{length, take, set, replicate, length-append, length-set, length-replicate}
 use lib.Seq.{length-take-le}
 use Rattle.ground.specs.Says.{Says}
+use Rattle.ground.proofs.Tests.{says-one}
 use Rattle.commands.specs.SheetLines.{wordsOf}
-use Rattle.text_lines.specs.LineText.{isBlank, spaced, TooLong}
+use Rattle.text_lines.specs.LineText.{isBlank, spaced, markless, textOf, TooLong}
 use Rattle.text_lines.specs.Reading.{lastWord, gapBefore, ReadSoFar}
 use Rattle.text_lines.specs.declared.LineRead.{LineRead}
 use Rattle.text_lines.proofs.Ending.{behind-parted, behind-more}
-use Rattle.text_lines.proofs.Words.{words-blank, text-more, pushed}
+use Rattle.text_lines.proofs.Words.{words-blank, words-worded, words-spaced, text-more, pushed}
 
 gap-by : (t : Bool) → cond t 0 1 ≤ 1
 gap-by true = omega arith
@@ -88,3 +89,26 @@ module _ {p : List ℕ} {g : LineRead} {l : List ℕ} (h : ReadSoFar p g l) wher
       blank = λ w. absurd (true≢false (sym v ∙ w));
       long = λ _. omega (arith, k, a, text-long, word-long l b e (g .blank) (h .blank o), ap (gapBefore (g .blank)) text-long);
     }
+
+-- ---- what was read is settled by the line
+
+-- it is too long exactly where there was no room
+pub over-says : {p : List ℕ} {g : LineRead} {l : List ℕ} → ReadSoFar p g l → Says (g .over) (TooLong (length p) l)
+over-says {p} {g} {l} h = go (g .over) refl
+  where
+    go : (t : Bool) → g .over ≡ t → Says t (TooLong (length p) l)
+    go true e = h .long e
+    go false e = λ w. let n : length (spaced (wordsOf l)) ≡ g .fill = ap length (sym (h .words e)) ∙ length-take-le (g .fill) p (h .within) in omega (arith, w, n, h .within)
+
+module _ {p : List ℕ} {g : LineRead} {l : List ℕ} (h : ReadSoFar p g l) where
+  pub read-settled : {q : List ℕ} {k : LineRead} → length q ≡ length p → ReadSoFar q k l → (g .over ≡ k .over) × (g .over ≡ false → take (g .fill) p ≡ take (k .fill) q)
+  read-settled {q} {k} e r =
+      let s : Says (k .over) (TooLong (length p) l) = subst (λ (n : ℕ). Says (k .over) (TooLong n l)) e (over-says r) in
+      let o : g .over ≡ k .over = says-one (TooLong (length p) l) (g .over) (k .over) (over-says h) s in
+      (o, λ f. h .words f ∙ sym (r .words (sym o ∙ f)))
+
+  -- and lines that are read alike have one text
+  pub text-settled : {m : List ℕ} → g .over ≡ false → ReadSoFar p g m → textOf l ≡ textOf m
+  text-settled {m} o r =
+      let e : spaced (wordsOf l) ≡ spaced (wordsOf m) = sym (h .words o) ∙ r .words o in
+      ap (λ (ws : List (List ℕ)). spaced (markless ws)) (sym (words-spaced (wordsOf l) (words-worded l)) ∙ ap wordsOf e ∙ words-spaced (wordsOf m) (words-worded m))

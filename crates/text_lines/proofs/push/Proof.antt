@@ -32,7 +32,7 @@ returns c =
     let a = ap (λ n. c .before .before .before .args .g .fill + n) (c .before .gap-before .ensures) in
     record {
       fits = simp length-set (omega (arith, c .if1 .taken));
-      more = λ l h. word-more h _ _ _ (w .room) (w .word) a (c .if1 .taken) refl refl refl;
+      more = λ l h. word-more h _ _ _ (w .room) (w .word) a (c .if1 .taken) (omega arith) refl refl;
     }
 
 returns-2 : tie.Need-returns-2
