@@ -2,7 +2,7 @@
 use Prim.Native.Nat.{ℕ, _+_}
 use mathlib.Core.Path.{_≡_, refl, sym, ap, subst, _∙_}
 use mathlib.Core.Bool.{Bool, true, false, true≢false}
-use mathlib.Core.List.{List, [], _∷_, _++_, append-nil}
+use mathlib.Core.List.{List, _++_, append-nil}
 use mathlib.Core.Logic.{_⊎_, inl, inr, ⊎-elim}
 use native.Mathlib.Omega.{arith}
 use lib.ListN.{length, take, length-append}
@@ -104,22 +104,22 @@ module _ (l s : List ℕ) where
   counts-left t u k j o o′ x y = ap (λ r. r .1) (fill-settled (shapeOf s) fnv (sized-of s) s (x .answer, t) (y .answer, u) (x .made) (y .made))
 
   -- the commands that may write
-  abbrev Writes : Command → Type 0
-  Writes (Put n p m) = Unit {0}
-  Writes (Remove n) = Unit {0}
-  Writes Counts = Unit {0}
-  Writes Nothing = ⊥
-  Writes (Format n size) = ⊥
-  Writes (Lookup n) = ⊥
-  Writes Count = ⊥
-  Writes (Row n) = ⊥
-  Writes Listing = ⊥
-  Writes Check = ⊥
-  Writes (Inspect n) = ⊥
-  Writes Report = ⊥
-  Writes Unknown = ⊥
+  abbrev MayWrite : Command → Type 0
+  MayWrite (Put n p m) = Unit {0}
+  MayWrite (Remove n) = Unit {0}
+  MayWrite Counts = Unit {0}
+  MayWrite Nothing = ⊥
+  MayWrite (Format n size) = ⊥
+  MayWrite (Lookup n) = ⊥
+  MayWrite Count = ⊥
+  MayWrite (Row n) = ⊥
+  MayWrite Listing = ⊥
+  MayWrite Check = ⊥
+  MayWrite (Inspect n) = ⊥
+  MayWrite Report = ⊥
+  MayWrite Unknown = ⊥
 
-  leaves-or-writes : (k : List ℕ) (c : Command) (o : Outcome) (t : List ℕ) → Does k c s o t → (t ≡ s) ⊎ Writes c
+  leaves-or-writes : (k : List ℕ) (c : Command) (o : Outcome) (t : List ℕ) → Does k c s o t → (t ≡ s) ⊎ MayWrite c
   leaves-or-writes k (Put n p m) o t x = inr tt
   leaves-or-writes k (Remove n) o t x = inr tt
   leaves-or-writes k Counts o t x = inr tt
@@ -134,7 +134,7 @@ module _ (l s : List ℕ) where
   leaves-or-writes k Report o t x = inl (x .1)
   leaves-or-writes k Unknown o t x = inl (x .1)
 
-  written : (t u k j : List ℕ) (o o′ : Outcome) (c d : Command) → Writes c → kind c ≡ kind d → Means l k c → Means l j d → Does k c s o t → Does j d s o′ u → t ≡ u
+  written : (t u k j : List ℕ) (o o′ : Outcome) (c d : Command) → MayWrite c → kind c ≡ kind d → Means l k c → Means l j d → Does k c s o t → Does j d s o′ u → t ≡ u
   written t u k j o o′ (Put n p m) d w e a b x y =
       let f = is-put d m (sym e) in
       let g = f .1 .1 .1 in

@@ -8,13 +8,13 @@ use native.Mathlib.Nat.{sub-zero}
 use native.Mathlib.Omega.{arith}
 use lib.Dec.{ltb}
 use lib.ListN.{length, take, drop, length-append, length-drop, length-take, take-append-drop}
-use lib.Seq.{length-take-le, take-all, take-append-le, take-take, drop-at}
+use lib.Seq.{length-take-le, take-all, take-append-le, drop-at}
 use Rattle.commands.specs.SheetLines.{wordsOf}
 use Rattle.commands.specs.Texts.{text}
 use Rattle.ground.specs.Says.{Says}
 use Rattle.ground.proofs.Sides.{side}
 use Rattle.ground.proofs.Tests.{says-ltb, says-same}
-use Rattle.text_lines.specs.Ends.{isFeed, behindLast, endedAfter, unendedAfter, ended, unended, inputLines}
+use Rattle.text_lines.specs.Ends.{isFeed, behindLast, endedAfter, unendedAfter, unended, inputLines}
 use Rattle.text_lines.specs.LineText.{spaced, textOf, TooLong}
 use Rattle.text_lines.specs.Reading.{ReadSoFar, ByteRead}
 use Rattle.text_lines.specs.declared.LineRead.{LineRead}
@@ -23,7 +23,7 @@ use Rattle.lots.specs.declared.Outcome.{Outcome}
 use Rattle.lots.specs.declared.Outcome.the-variants.{Format as Formats}
 use Rattle.lots.specs.declared.Session.{Session}
 use Rattle.lots.specs.Obeys.{Obeys}
-use Rattle.lots.specs.Runs.{Anew, BeforeAnew, Without, Done, FormatCall, DueOn, Commanded, formats, held, obeyed, Did, LineDid, passed, spoken, Quits, Chain, none, last, next, WordsTurned, LineTurned, Fed, Feeds, Brought, Ran}
+use Rattle.lots.specs.Runs.{Anew, BeforeAnew, Without, Done, FormatCall, Commanded, formats, held, obeyed, Did, LineDid, passed, spoken, Quits, Chain, none, last, next, WordsTurned, LineTurned, Fed, Feeds, Brought, Ran}
 use Rattle.lots.specs.Sessions.{Leaves, Alike, NextLine, SessionBegins, SessionHolds, SessionReads, Kept, FormatAsked, FormatTold}
 use Rattle.lots.proofs.Leaving.{leaves, part-back, front-back, beside, then}
 

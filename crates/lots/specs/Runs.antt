@@ -18,7 +18,7 @@ use Rattle.lots.specs.declared.Outcome.{Outcome}
 use Rattle.lots.specs.declared.Outcome.the-variants.{Silent, Unknown, Told, Changed, Listed, Format as Formats, Stopped}
 use Rattle.lots.specs.declared.Session.{Session}
 use Rattle.lots.specs.Obeys.{Obeys}
-use Rattle.lots.specs.Sessions.{Kept, LacksRoom, lentFor, NextLine, Quiet, SessionHolds}
+use Rattle.lots.specs.Sessions.{Kept, LacksRoom, lentFor, Quiet, SessionHolds}
 
 -- l is a format, w, with " anew" behind it
 pub record Anew (l w : List ℕ) : Type 0 where

@@ -4,9 +4,9 @@ ghost use mathlib.Core.Bool.{true};
 ghost use mathlib.Core.Logic.{_⊎_};
 ghost use mathlib.Core.List.{[], _∷_};
 ghost use Prim.Native.Nat.{_≤_};
-ghost use lib.ListN.{length};
+ghost use lib.ListN.{length, take};
 ghost use Rattle.ground.specs.Says.{Says};
-ghost use Rattle.lots.specs.Runs.{Aside, BeforeAnew, Feeds, LineTurned, Ran, Brought, Turned, WordsTurned};
+ghost use Rattle.lots.specs.Runs.{Aside, BeforeAnew, Brought, Feeds, LineTurned, Ran, Turned, WordsTurned};
 ghost use Rattle.lots.specs.Sessions.{After, Alike, AsRead, SessionBegins, FormatAsked, FormatTold, Kept, LacksRoom, Learnt, lentFor, mostPages, NextLine, SessionHolds, SessionReads};
 use super::known;
 use super::obey;
@@ -263,26 +263,41 @@ fn feed(store: &mut [u8], z: Session, line: &mut [u8], piece: &[u8]) -> Session
     y
 }
 
+// What a read of the input brought, the first n bytes of the buffer: none at its end, and where it failed.
+fn take_read(
+    store: &mut [u8],
+    z: Session,
+    line: &mut [u8],
+    piece: &[u8],
+    n: usize,
+    failed: bool,
+) -> Session
+    requires { ⌜ SessionReads z (now store) (now line) × (n ≤ length (now piece)) ⌝ }
+    ensures { λ r. ⌜ Feeds (take n (now (piece .entry))) z (now (store .entry)) (now (line .entry)) r (now (store .exit)) (now (line .exit)) ⌝ }
+{
+    let mut y = z;
+    if failed {
+        os::fail(b"standard input");
+        y.stopped = true;
+        return y;
+    }
+    if n == 0 {
+        y.ended = true;
+        return y;
+    }
+    feed(store, y, line, &piece[0..n])
+}
+
 // What one read of the input brings.
 fn read(store: &mut [u8], z: Session, line: &mut [u8]) -> Session
     requires { ⌜ SessionReads z (now store) (now line) ⌝ }
     ensures { λ r. ⌜ Brought z (now (store .entry)) (now (line .entry)) r (now (store .exit)) (now (line .exit)) ⌝ }
 {
-    let mut y = z;
-    say::prompt(y.terminal);
+    say::prompt(z.terminal);
     let mut piece = io::buffer();
     let got = libc::read(STDIN_FILENO, &mut piece);
-    if got < 0 {
-        os::fail(b"standard input");
-        y.stopped = true;
-        return y;
-    }
-    if got == 0 {
-        y.ended = true;
-        return y;
-    }
     let n = io::count(got, &piece);
-    feed(store, y, line, &piece[0..n])
+    take_read(store, z, line, &piece, n, got < 0)
 }
 
 // The whole input. A proved loop has to end, and nothing says that the input does: it counts down from a number that no run uses up.

@@ -1,5 +1,5 @@
 -- Where the text of a line begins: behind a byte-order mark. Assumes nothing.
-use Prim.Native.Nat.{ℕ, zero, suc, _≤_, _<_}
+use Prim.Native.Nat.{ℕ, _≤_, _<_}
 use mathlib.Core.Path.{_≡_, refl, sym, ap, _∙_, subst}
 use mathlib.Core.Bool.{Bool, true, false, true≢false, cond}
 use mathlib.Core.List.{List, [], _∷_, _++_}
@@ -9,9 +9,9 @@ use lib.Dec.{eqb}
 use lib.ListN.{length, drop, length-append, List·getD-append, List·getD-eq-default}
 use borrow.Author.Tests.{eq-eqb, ne-eqb}
 use Rattle.ground.specs.Lists.{byte}
-use Rattle.ground.proofs.Sides.{side, same}
+use Rattle.ground.proofs.Sides.{side}
+use Rattle.commands.proofs.Cutting.{some-then}
 use Rattle.commands.specs.SheetLines.{wordThen}
-use Rattle.text_lines.proofs.Words.{some-then}
 use Rattle.text_lines.specs.LineText.{isBlank, behindBlanks, spaced, behindMark, markless, Blankless, Worded}
 
 -- a byte of a word that is not 0 stands in the text

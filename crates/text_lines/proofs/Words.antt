@@ -1,19 +1,20 @@
 -- The words of a line with one byte more, and their text. Assumes nothing.
 use Prim.Native.Nat.{ℕ, zero, suc, _+_, _-_, _≤_, _<_}
-use mathlib.Core.Path.{_≡_, refl, sym, ap, _∙_, subst}
+use mathlib.Core.Path.{_≡_, refl, sym, ap, _∙_}
 use mathlib.Core.Bool.{Bool, true, false, cond}
 use mathlib.Core.List.{List, [], _∷_, _++_, append-assoc, append-nil}
-use mathlib.Core.Logic.{_⊎_, inl, inr, ⊎-elim}
+use mathlib.Core.Logic.{_⊎_, ⊎-elim}
 use native.Mathlib.Numerals.{add-one}
 use native.Mathlib.Omega.{arith}
 use lib.Dec.{eqb}
-use lib.ListN.{length, take, drop, set, replicate, length-append, length-set, length-replicate}
-use lib.Seq.{take-suc-set, take-set-le, length-take-le}
-use borrow.Author.Tests.{eq-eqb, ne-eqb}
+use lib.ListN.{length, take, drop, set, replicate, length-append, length-set}
+use lib.Seq.{take-suc-set, take-set-le}
+use borrow.Author.Tests.{ne-eqb}
 use Rattle.ground.specs.Lists.{byte}
 use Rattle.ground.specs.Says.{Says}
 use Rattle.ground.proofs.Sides.{side}
-use Rattle.commands.specs.SheetLines.{kind, wordThen, cutFrom, wordsOf}
+use Rattle.commands.proofs.Cutting.{some-then}
+use Rattle.commands.specs.SheetLines.{wordThen, cutFrom, wordsOf}
 use Rattle.text_lines.specs.Ends.{behindLast}
 use Rattle.text_lines.specs.LineText.{isBlank, behindBlanks, spaced, behindMark, markless, textOf, Blankless, Worded}
 use Rattle.text_lines.specs.Reading.{lastWord, gapBefore}
@@ -118,10 +119,10 @@ last-longer (d ∷ ds) w b =
     ∙ sym (append-assoc d (behindBlanks (ds ++ (w ∷ []))) (b ∷ []))
 
 -- one word more, of one byte
-word-more : (ws : List (List ℕ)) (b : ℕ) → Worded ws → spaced (ws ++ ((b ∷ []) ∷ [])) ≡ spaced ws ++ (replicate (gapBefore true (length (spaced ws))) 32 ++ (b ∷ []))
+word-added : (ws : List (List ℕ)) (b : ℕ) → Worded ws → spaced (ws ++ ((b ∷ []) ∷ [])) ≡ spaced ws ++ (replicate (gapBefore true (length (spaced ws))) 32 ++ (b ∷ []))
 unfolding spaced behindBlanks
-word-more [] b f = refl
-word-more (w ∷ ws) b f =
+word-added [] b f = refl
+word-added (w ∷ ws) b f =
     ap (λ (x : List ℕ). w ++ x) (blanks-append ws ((b ∷ []) ∷ []))
     ∙ sym (append-assoc w (behindBlanks ws) (32 ∷ b ∷ []))
     ∙ ap (λ (t : Bool). (w ++ behindBlanks ws) ++ (replicate (cond t 0 1) 32 ++ (b ∷ []))) (sym (ne-eqb (length (w ++ behindBlanks ws)) 0 (λ e. omega (arith, e, length-append w (behindBlanks ws), f .0))))
@@ -132,7 +133,7 @@ pub text-more : (l : List ℕ) (b : ℕ) → isBlank b ≡ false → (t : Bool) 
 text-more l b e true s =
     let d : wordsOf l ≡ done [] l = cut-is [] l ∙ ap (λ (w : List ℕ). done [] l ++ wordThen w []) s ∙ append-nil (done [] l) in
     ap spaced (words-other l b e ∙ ap (λ (w : List ℕ). done [] l ++ ((w ++ (b ∷ [])) ∷ [])) s ∙ ap (λ (ws : List (List ℕ)). ws ++ ((b ∷ []) ∷ [])) (sym d))
-    ∙ word-more (wordsOf l) b (words-worded l)
+    ∙ word-added (wordsOf l) b (words-worded l)
 text-more l b e false s =
     ap spaced (words-other l b e)
     ∙ last-longer (done [] l) (lastWord l) b
@@ -173,11 +174,6 @@ cut-word v (b ∷ w) x f =
     ap (λ (t : Bool). cond t (wordThen v (cutFrom [] (w ++ x))) (cutFrom (v ++ (b ∷ [])) (w ++ x))) (f .0)
     ∙ cut-word (v ++ (b ∷ [])) w x (f .1)
     ∙ ap (λ (u : List ℕ). cutFrom u x) (append-assoc v (b ∷ []) w)
-
--- a word that has a byte
-pub some-then : (w : List ℕ) (ws : List (List ℕ)) → 1 ≤ length w → wordThen w ws ≡ w ∷ ws
-some-then [] ws h = absurd (omega arith)
-some-then (b ∷ w) ws h = refl
 
 cut-blanks : (w : List ℕ) (ws : List (List ℕ)) → 1 ≤ length w → Worded ws → cutFrom w (behindBlanks ws) ≡ w ∷ ws
 unfolding cutFrom behindBlanks

@@ -45,7 +45,7 @@ abbrev pub Feedless : List ℕ → Type 0
 Feedless [] = Unit {0}
 Feedless (b ∷ l) = (b ≡ 10 → ⊥) × Feedless l
 
--- nor is one of any line
+-- no line has one
 abbrev pub FeedlessEach : List (List ℕ) → Type 0
 FeedlessEach [] = Unit {0}
 FeedlessEach (x ∷ ls) = Feedless x × FeedlessEach ls
