@@ -142,7 +142,8 @@ opening l i a r h = subst (Opens (byte l a)) (sym e) (opens (byte l a) [] (drop 
 
 -- ---- words one after another
 
-some-then : (w : List ℕ) (ws : List (List ℕ)) → 1 ≤ length w → wordThen w ws ≡ w ∷ ws
+-- a word that has a byte
+pub some-then : (w : List ℕ) (ws : List (List ℕ)) → 1 ≤ length w → wordThen w ws ≡ w ∷ ws
 some-then [] ws h = absurd (omega arith)
 some-then (b ∷ w) ws h = refl
 

@@ -42,7 +42,7 @@ use Rattle.filling.specs.Filling.{fillTable}
 use Rattle.filling.proofs.Laws.{fill-laws, fill-done}
 use Rattle.lots.specs.Obeys.{Outcomes, Passes, TellsOnly, Numbers, Untouched, ListAsked, PageAsked, InspectAsked, Does, Obeys}
 use Rattle.store.proofs.Demands.Unchecked.{check-says}
-use Rattle.lots.specs.Sessions.{Leaves, After, Alike, Changes, Learnt, SessionHolds, Kept}
+use Rattle.lots.specs.Sessions.{Leaves, After, Alike, AsRead, Changes, Learnt, SessionHolds, Kept}
 
 -- a check that is no refusal accepts
 pub checked-accepted : (s : List ℕ) (o : Out) → Answers (checkTable (shapeOf s) fnv s) o → ok o ≡ true → Accepted (shapeOf s) fnv s
@@ -208,7 +208,7 @@ page-unchanged o d w = unchanged o (reads-untouched _ o (d .refused (λ k. uncha
 inspect-unchanged : (n : ℕ) (s : List ℕ) (o : Outcome) → InspectAsked n s o → Changes o → ⊥
 inspect-unchanged n s o d w = unchanged o (passes-untouched o (d .absent (λ h. page-unchanged o (d .there h) w))) w
 
-listed-untouched : {s : List ℕ} {o : Outcome} → ListAsked s o → Untouched o
+pub listed-untouched : {s : List ℕ} {o : Outcome} → ListAsked s o → Untouched o
 listed-untouched {s} {o} d = go (ok (d .answer)) refl
   where
     go : (b : Bool) → ok (d .answer) ≡ b → Untouched o
@@ -328,12 +328,16 @@ beside a h = record {
   holds = holds-as (a .len) (a .known) h;
 }
 
+-- what was read is the same twice
+pub as-read : {z y r : Session} → AsRead z y → AsRead y r → AsRead z r
+as-read a b = record { line = b .line ∙ a .line; quit = b .quit ∙ a .quit }
+
 -- the line is counted first
-pub after-counted : {z y r : Session} {o : Outcome} → Alike z y → y .fill ≡ z .fill → After y o r → After z o r
+pub after-counted : {z y r : Session} {o : Outcome} → Alike z y → AsRead z y → After y o r → After z o r
 after-counted k f a = record {
   len = a .len ∙ k .len;
   known = a .known ∙ k .known;
-  fill = a .fill ∙ f;
+  read = as-read f (a .read);
   quiet = λ q. let p = a .quiet q in (sym (k .changed) ∙ p .0, sym (k .stopped) ∙ p .1);
   leaves = a .leaves;
 }

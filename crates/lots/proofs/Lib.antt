@@ -4,3 +4,4 @@ pub mod Leaving
 pub mod OneCommand
 pub mod Reporting
 pub mod Running
+pub mod OneRun

@@ -120,6 +120,6 @@ means-one l k j c d e w v m n = go (taken l k c m) (taken l j d n)
     go (inr x) (inl y) = absurd (y .1 k c (sym e) w x)
     go (inr x) (inr y) = asks-one l k j c d x y
 
--- and so is the command that a line is obeyed as, whatever its store, where its numbers fit
-pub obeys-one : {l s t s′ t′ : List ℕ} {o o′ : Outcome} (x : Obeys l s o t) (y : Obeys l s′ o′ t′) → WithinLimits (x .command) → WithinLimits (y .command) → kind (x .command) ≡ kind (y .command)
-obeys-one {l} x y w v = means-one l (x .code) (y .code) (x .command) (y .command) (y .long ∙ sym (x .long)) w v (x .means) (y .means)
+-- and so is the command that a line is obeyed as, whatever its store
+pub obeys-one : {l s t s′ t′ : List ℕ} {o o′ : Outcome} (x : Obeys l s o t) (y : Obeys l s′ o′ t′) → kind (x .command) ≡ kind (y .command)
+obeys-one {l} x y = means-one l (x .code) (y .code) (x .command) (y .command) (y .long ∙ sym (x .long)) (x .fits) (y .fits) (x .means) (y .means)

@@ -7,7 +7,7 @@ use mathlib.Core.Option.{some}
 use lib.ListN.{length, take, getElem?}
 use Rattle.commands.specs.declared.Command.{Command}
 use Rattle.commands.specs.declared.Command.the-variants.{Nothing, Unknown, Format, Put, Lookup, Remove, Count, Row, Listing, Check, Counts, Inspect, Report}
-use Rattle.commands.specs.Lines.{Means}
+use Rattle.commands.specs.Lines.{Means, WithinLimits}
 use Rattle.ground.specs.Ladder.{Answers}
 use Rattle.hash.specs.Fnv.{fnv}
 use Rattle.partition.specs.Listing.{listing}
@@ -153,10 +153,11 @@ Does k Counts s o t = CountsAsked s o t
 Does k (Inspect n) s o t = InspectAsked n s o × (t ≡ s)
 Does k Report s o t = ReportAsked s o × (t ≡ s)
 
--- the line is a command, whose code has room for 4,096 bytes, and that is done
+-- the line is a command, whose code has room for 4,096 bytes and whose numbers fit their fields, and that is done
 pub record Obeys (line s : List ℕ) (o : Outcome) (t : List ℕ) : Type 0 where
   pub code : List ℕ
   pub long : length code ≡ 4096
   pub command : Command
   pub means : Means line code command
+  pub fits : WithinLimits command
   pub does : Does code command s o t

@@ -1,11 +1,13 @@
 // The input taken apart into lines, and what is kept from one to the next.
 ghost use mathlib.Core.Path.{_≡_};
-ghost use mathlib.Core.Bool.{true, false};
+ghost use mathlib.Core.Bool.{true};
 ghost use mathlib.Core.Logic.{_⊎_};
-ghost use Prim.Native.Nat.{_*_, _≤_};
-ghost use lib.ListN.{length};
-ghost use Rattle.lots.specs.Runs.{BeforeAnew, Ran, Turned, Went};
-ghost use Rattle.lots.specs.Sessions.{After, Alike, FormatAsked, FormatTold, Learnt, SessionHolds, Kept};
+ghost use mathlib.Core.List.{[], _∷_};
+ghost use Prim.Native.Nat.{_≤_};
+ghost use lib.ListN.{length, take};
+ghost use Rattle.ground.specs.Says.{Says};
+ghost use Rattle.lots.specs.Runs.{Aside, BeforeAnew, Brought, Feeds, LineTurned, Ran, Turned, WordsTurned};
+ghost use Rattle.lots.specs.Sessions.{After, Alike, AsRead, SessionBegins, FormatAsked, FormatTold, Kept, LacksRoom, Learnt, lentFor, mostPages, NextLine, SessionHolds, SessionReads};
 use super::known;
 use super::obey;
 use crate::Outcome;
@@ -15,18 +17,18 @@ use commands::Fault;
 use libc::STDIN_FILENO;
 use telling::say;
 
-// The length of a store of n pages of a size; of too many, the whole buffer, which is no store either.
+// How many bytes are lent for a store of n pages of a size; none where that is no store, or there is no room.
 fn length_of(n: usize, size: usize, most: usize) -> usize
-    ensures { λ r. ⌜ (r ≤ most) × (n ≤ 4098 → size ≤ 16384 → n * size ≤ most → r ≡ n * size) ⌝ }
+    ensures { λ r. ⌜ (r ≡ lentFor most n size) × (r ≤ most) ⌝ }
 {
     if n > 4098 {
-        return most;
+        return 0;
     }
     if size > 16384 {
-        return most;
+        return 0;
     }
     let len = n * size;
-    if len > most { most } else { len }
+    if len > most { 0 } else { len }
 }
 
 // What a line did, marked.
@@ -52,7 +54,7 @@ fn marked(z: Session, o: Outcome) -> Session
 
 // A line that was not obeyed is counted.
 fn counted(z: Session, more: usize) -> Session
-    ensures { λ r. ⌜ Alike z r × (r .fill ≡ z .fill) ⌝ }
+    ensures { λ r. ⌜ Alike z r × AsRead z r ⌝ }
 {
     let mut y = z;
     y.refused = std::num::wrapping_add_usize(y.refused, more);
@@ -69,7 +71,7 @@ fn after(z: Session, o: Outcome) -> Session
 // A store of n pages of a size in the place of the old one, unless that is refused.
 fn format(store: &mut [u8], z: Session, n: usize, size: usize) -> Session
     requires { ⌜ SessionHolds z (now store) ⌝ }
-    ensures { λ r. ⌜ Kept z (now (store .entry)) r (now (store .exit)) × (r .fill ≡ z .fill) × FormatAsked n size z (now (store .entry)) r (now (store .exit)) ⌝ }
+    ensures { λ r. ⌜ Kept z (now (store .entry)) r (now (store .exit)) × AsRead z r × FormatAsked n size z (now (store .entry)) r (now (store .exit)) ⌝ }
 {
     let len = length_of(n, size, store.len());
     let a = directory::format(&mut store[0..len], size);
@@ -81,22 +83,19 @@ fn format(store: &mut [u8], z: Session, n: usize, size: usize) -> Session
     y
 }
 
-// Whether a format waits for the word anew: there is something that it would clear.
-fn held_back(len: usize, anew: bool) -> bool
-    ensures { λ r. ⌜ ((len ≡ 0) ⊎ (anew ≡ true) → r ≡ false) ⌝ }
+// Whether a format may clear what there is: there is nothing, or the word anew is said.
+fn may_clear(len: usize, anew: bool) -> bool
+    ensures { λ r. ⌜ Says r ((len ≡ 0) ⊎ (anew ≡ true)) ⌝ }
 {
     if anew {
-        return false;
+        return true;
     }
-    if len == 0 {
-        return false;
-    }
-    true
+    len == 0
 }
 
 // How many pages a store of a larger page size has at most; none of another size.
 fn most_pages(size: usize) -> usize
-    ensures { λ r. ⌜ r ≤ 4098 ⌝ }
+    ensures { λ r. ⌜ (r ≡ mostPages size) × (r ≤ 4098) ⌝ }
 {
     if size == 4096 {
         return 1026;
@@ -109,7 +108,7 @@ fn most_pages(size: usize) -> usize
 
 // Whether n pages of a size would be a store, but one that the buffer has no room for.
 fn lacks_room(n: usize, size: usize, most: usize) -> bool
-    ensures { λ r. ⌜ (n * size ≤ most → r ≡ false) ⌝ }
+    ensures { λ r. ⌜ Says r (LacksRoom most n size) ⌝ }
 {
     if size > 16384 {
         return false;
@@ -127,9 +126,9 @@ fn lacks_room(n: usize, size: usize, most: usize) -> bool
 // A format of n pages of a size that a line asks.
 fn ask_format(store: &mut [u8], z: Session, n: usize, size: usize, anew: bool) -> Session
     requires { ⌜ SessionHolds z (now store) ⌝ }
-    ensures { λ r. ⌜ Kept z (now (store .entry)) r (now (store .exit)) × (r .fill ≡ z .fill) × FormatTold n size anew z (now (store .entry)) r (now (store .exit)) ⌝ }
+    ensures { λ r. ⌜ Kept z (now (store .entry)) r (now (store .exit)) × AsRead z r × FormatTold n size anew z (now (store .entry)) r (now (store .exit)) ⌝ }
 {
-    if held_back(z.len, anew) {
+    if !may_clear(z.len, anew) {
         return after(z, obey::unknown(Fault::Filled, z.number));
     }
     if lacks_room(n, size, store.len()) {
@@ -169,7 +168,7 @@ fn learnt(z: Session, o: Outcome) -> Session
 
 // A command on the store.
 fn command(store: &mut [u8], z: Session, line: &[u8]) -> Session
-    requires { ⌜ SessionHolds z (now store) ⌝ }
+    requires { ⌜ SessionHolds z (now store) × (Aside (now line) → ⊥) ⌝ }
     ensures { λ r. ⌜ Turned (now (line .entry)) z (now (store .entry)) r (now (store .exit)) ⌝ }
 {
     let n = before_anew(line);
@@ -181,14 +180,14 @@ fn command(store: &mut [u8], z: Session, line: &[u8]) -> Session
     after(learnt(z, o), o)
 }
 
-// A whole line.
+// The text of a line.
 fn turn(store: &mut [u8], z: Session, line: &[u8]) -> Session
     requires { ⌜ SessionHolds z (now store) ⌝ }
     ensures { λ r. ⌜ Turned (now (line .entry)) z (now (store .entry)) r (now (store .exit)) ⌝ }
 {
     if same(line, b"quit") {
         let mut y = z;
-        y.ended = true;
+        y.quit = true;
         return y;
     }
     if same(line, b"help") {
@@ -199,136 +198,63 @@ fn turn(store: &mut [u8], z: Session, line: &[u8]) -> Session
 
 // The session at the start of the next line.
 fn next_line(z: Session) -> Session
-    ensures { λ r. ⌜ Alike z r × (r .fill ≡ 0) ⌝ }
+    ensures { λ r. ⌜ Alike z r × NextLine z r ⌝ }
 {
     let mut y = z;
     y.number = std::num::wrapping_add_usize(y.number, 1);
-    y.fill = 0;
-    y.over = false;
+    let line = text_lines::fresh_line();
+    y.line = line;
     y
 }
 
-// Where the line's text begins: behind a byte-order mark and a blank.
-fn text_start(line: &[u8], e: usize) -> usize
-    requires { ⌜ e ≤ length (now line) ⌝ }
-    ensures { λ r. ⌜ r ≤ e ⌝ }
+// A line whose words stand with one blank between, or as many of them as there was room for.
+fn words_line(store: &mut [u8], z: Session, over: bool, words: &[u8]) -> Session
+    requires { ⌜ SessionHolds z (now store) ⌝ }
+    ensures { λ r. ⌜ WordsTurned over (now (words .entry)) z (now (store .entry)) r (now (store .exit)) ⌝ }
 {
-    if e < 3 {
-        return 0;
+    let a = text_lines::text_start(words);
+    if over {
+        return after(z, obey::too_long(&words[a..], z.number));
     }
-    if line[0] != 239 {
-        return 0;
-    }
-    if line[1] != 187 {
-        return 0;
-    }
-    if line[2] != 191 {
-        return 0;
-    }
-    if e > 3 {
-        if line[3] == 32 {
-            return 4;
-        }
-    }
-    3
-}
-
-// Where it ends: before a blank.
-fn text_end(line: &[u8], e: usize) -> usize
-    requires { ⌜ e ≤ length (now line) ⌝ }
-    ensures { λ r. ⌜ r ≤ e ⌝ }
-{
-    if e == 0 {
-        return 0;
-    }
-    if line[e - 1] == 32 {
-        return e - 1;
-    }
-    e
+    turn(store, z, &words[a..])
 }
 
 // The end of a line: it is obeyed, and the next one begins.
 fn end_line(store: &mut [u8], z: Session, line: &[u8]) -> Session
-    requires { ⌜ SessionHolds z (now store) × (z .fill ≤ length (now line)) ⌝ }
-    ensures { λ r. ⌜ Went z (now (store .entry)) r (now (store .exit)) × (r .fill ≡ 0) ⌝ }
+    requires { ⌜ SessionReads z (now store) (now line) ⌝ }
+    ensures { λ r. ⌜ LineTurned (now (line .entry)) z (now (store .entry)) r (now (store .exit)) ⌝ }
 {
-    let y = next_line(z);
-    let e = text_end(line, z.fill);
-    let a = text_start(line, e);
-    if z.over {
-        return after(y, obey::too_long(&line[a..e], y.number));
-    }
-    turn(store, y, &line[a..e])
+    let g = z.line;
+    let fill = g.fill;
+    words_line(store, next_line(z), g.over, &line[0..fill])
 }
 
-// One byte more of the line, if there is room.
-fn push(z: Session, line: &mut [u8], b: u8) -> Session
-    requires { ⌜ z .fill ≤ length (now line) ⌝ }
-    ensures { λ r. ⌜ Alike z r × (r .fill ≤ length (now (line .exit))) ⌝ }
-{
-    let mut y = z;
-    let fill = y.fill;
-    if fill < line.len() {
-        line[fill] = b;
-        y.fill = fill + 1;
-        return y;
-    }
-    y.over = true;
-    y
-}
-
-// A blank: one stands for several, and none before the first word.
-fn push_blank(z: Session, line: &mut [u8]) -> Session
-    requires { ⌜ z .fill ≤ length (now line) ⌝ }
-    ensures { λ r. ⌜ Alike z r × (r .fill ≤ length (now (line .exit))) ⌝ }
-{
-    let fill = z.fill;
-    if fill == 0 {
-        return z;
-    }
-    if line[fill - 1] == 32 {
-        return z;
-    }
-    push(z, line, 32)
-}
-
-// A space, a tab or a carriage return.
-fn is_blank(b: u8) -> bool {
-    if b == 32 {
-        return true;
-    }
-    if b == 9 {
-        return true;
-    }
-    b == 13
-}
-
-// One byte of the input; none after the line quit.
+// One byte of the input.
 fn take(store: &mut [u8], z: Session, line: &mut [u8], b: u8) -> Session
-    requires { ⌜ SessionHolds z (now store) × (z .fill ≤ length (now line)) ⌝ }
-    ensures { λ r. ⌜ Went z (now (store .entry)) r (now (store .exit)) × (r .fill ≤ length (now (line .exit))) ⌝ }
+    requires { ⌜ SessionReads z (now store) (now line) ⌝ }
+    ensures { λ r. ⌜ Feeds (b ∷ []) z (now (store .entry)) (now (line .entry)) r (now (store .exit)) (now (line .exit)) ⌝ }
 {
-    if z.ended {
-        return z;
-    }
     if b == 10 {
         return end_line(store, z, line);
     }
-    if is_blank(b) {
-        return push_blank(z, line);
-    }
-    push(z, line, b)
+    let g = text_lines::read_byte(line, z.line, b);
+    let mut y = z;
+    y.line = g;
+    y
 }
 
-// A piece of the input.
+// A piece of the input; nothing of it after the line quit.
 fn feed(store: &mut [u8], z: Session, line: &mut [u8], piece: &[u8]) -> Session
-    requires { ⌜ SessionHolds z (now store) × (z .fill ≤ length (now line)) ⌝ }
-    ensures { λ r. ⌜ Went z (now (store .entry)) r (now (store .exit)) × (r .fill ≤ length (now (line .exit))) ⌝ }
+    requires { ⌜ SessionReads z (now store) (now line) ⌝ }
+    ensures { λ r. ⌜ Feeds (now (piece .entry)) z (now (store .entry)) (now (line .entry)) r (now (store .exit)) (now (line .exit)) ⌝ }
 {
     let mut y = z;
     let mut i = 0;
     while i < piece.len() {
         if y.stopped {
+            return y;
+        }
+        if y.quit {
             return y;
         }
         y = take(store, y, line, piece[i]);
@@ -337,37 +263,55 @@ fn feed(store: &mut [u8], z: Session, line: &mut [u8], piece: &[u8]) -> Session
     y
 }
 
-// What one read of the input brings.
-fn read(store: &mut [u8], z: Session, line: &mut [u8]) -> Session
-    requires { ⌜ SessionHolds z (now store) × (z .fill ≤ length (now line)) ⌝ }
-    ensures { λ r. ⌜ Went z (now (store .entry)) r (now (store .exit)) × (r .fill ≤ length (now (line .exit))) ⌝ }
+// What a read of the input brought, the first n bytes of the buffer: none at its end, and where it failed.
+fn take_read(
+    store: &mut [u8],
+    z: Session,
+    line: &mut [u8],
+    piece: &[u8],
+    n: usize,
+    failed: bool,
+) -> Session
+    requires { ⌜ SessionReads z (now store) (now line) × (n ≤ length (now piece)) ⌝ }
+    ensures { λ r. ⌜ Feeds (take n (now (piece .entry))) z (now (store .entry)) (now (line .entry)) r (now (store .exit)) (now (line .exit)) ⌝ }
 {
     let mut y = z;
-    say::prompt(y.terminal);
-    let mut piece = io::buffer();
-    let got = libc::read(STDIN_FILENO, &mut piece);
-    if got < 0 {
+    if failed {
         os::fail(b"standard input");
         y.stopped = true;
         return y;
     }
-    if got == 0 {
+    if n == 0 {
         y.ended = true;
         return y;
     }
-    let n = io::count(got, &piece);
     feed(store, y, line, &piece[0..n])
+}
+
+// What one read of the input brings.
+fn read(store: &mut [u8], z: Session, line: &mut [u8]) -> Session
+    requires { ⌜ SessionReads z (now store) (now line) ⌝ }
+    ensures { λ r. ⌜ Brought z (now (store .entry)) (now (line .entry)) r (now (store .exit)) (now (line .exit)) ⌝ }
+{
+    say::prompt(z.terminal);
+    let mut piece = io::buffer();
+    let got = libc::read(STDIN_FILENO, &mut piece);
+    let n = io::count(got, &piece);
+    take_read(store, z, line, &piece, n, got < 0)
 }
 
 // The whole input. A proved loop has to end, and nothing says that the input does: it counts down from a number that no run uses up.
 fn read_all(store: &mut [u8], z: Session, line: &mut [u8]) -> Session
-    requires { ⌜ SessionHolds z (now store) × (z .fill ≤ length (now line)) ⌝ }
-    ensures { λ r. ⌜ Went z (now (store .entry)) r (now (store .exit)) × (r .fill ≤ length (now (line .exit))) ⌝ }
+    requires { ⌜ SessionReads z (now store) (now line) ⌝ }
+    ensures { λ r. ⌜ Brought z (now (store .entry)) (now (line .entry)) r (now (store .exit)) (now (line .exit)) ⌝ }
 {
     let mut y = z;
     let mut turns = u64::MAX;
     while turns > 0 {
         if y.stopped {
+            return y;
+        }
+        if y.quit {
             return y;
         }
         if y.ended {
@@ -381,17 +325,18 @@ fn read_all(store: &mut [u8], z: Session, line: &mut [u8]) -> Session
 
 // A session before its first line.
 fn begin(len: usize, known: bool, terminal: bool) -> Session
-    ensures { λ r. ⌜ (r .len ≡ len) × (r .fill ≡ 0) × (r .known ≡ known) ⌝ }
+    ensures { λ r. ⌜ SessionBegins len known r ⌝ }
 {
+    let line = text_lines::fresh_line();
     Session {
         len,
         changed: false,
         known,
-        fill: 0,
-        over: false,
+        line,
         number: 0,
         refused: 0,
         terminal,
+        quit: false,
         ended: false,
         stopped: false,
     }
@@ -408,9 +353,9 @@ pub fn run(store: &mut [u8], len: usize, terminal: bool) -> Session
     if y.stopped {
         return y;
     }
-    // a last line that no line end follows
-    if y.fill == 0 {
+    if y.quit {
         return y;
     }
+    // what stands behind the last line end
     end_line(store, y, &line)
 }

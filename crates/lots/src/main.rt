@@ -13,6 +13,7 @@ mod sheets;
 use check::same;
 use libc::STDERR_FILENO;
 use store::Answer;
+use text_lines::LineRead;
 
 // What a line said, and whether it changed the store. Listed: so many rows, and their number. Format is still to be done, so many pages of that size; Stopped: an answer could not be written.
 pub enum Outcome {
@@ -30,14 +31,14 @@ pub struct Session {
     pub len: usize,
     pub changed: bool,
     pub known: bool,
-    // the line that is being read: how much of it is there, whether it is too long, how many came before it
-    pub fill: usize,
-    pub over: bool,
+    // the line that is being read, and how many came before it
+    pub line: LineRead,
     pub number: usize,
     // how many lines were refused or unknown; whether lines are typed at a terminal
     pub refused: usize,
     pub terminal: bool,
-    // the input is at its end; it cannot be read, or an answer cannot be written
+    // the line quit was read; the input is at its end; it cannot be read, or an answer cannot be written
+    pub quit: bool,
     pub ended: bool,
     pub stopped: bool,
 }

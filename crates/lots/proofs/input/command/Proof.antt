@@ -2,7 +2,7 @@
 use Prim.Native.Nat.{_-_}
 use mathlib.Core.List.{[], _∷_}
 use mathlib.Core.Logic.{inl, inr}
-use mathlib.Core.Path.{subst, sym, refl, _∙_}
+use mathlib.Core.Path.{_≡_, subst, sym, refl, _∙_}
 use native.Mathlib.Omega.{arith}
 use lib.Dec.{ltb}
 use lib.ListN.{length, take}
@@ -12,7 +12,9 @@ use types.Run.{OneOf}
 use lib.Seq.{length-take-le}
 use Rattle.lots.specs.declared.Outcome.{Outcome}
 use Rattle.lots.specs.declared.Outcome.the-variants.{Silent, Unknown, Told, Changed, Listed, Format, Stopped}
-use Rattle.lots.specs.Runs.{Done}
+use Rattle.commands.specs.Texts.{text}
+use Rattle.ground.specs.Says.{Says}
+use Rattle.lots.specs.Runs.{Done, asked}
 use Rattle.lots.specs.Sessions.{Leaves}
 use Rattle.lots.proofs.Outcome.{the-type}
 use Rattle.lots.proofs.Leaving.{leaves, lent-known, part-back, still-holds, learnt-holds, learnt-in, then}
@@ -52,13 +54,13 @@ slice-aggregate-obey : tie.Need-slice-aggregate-obey
 slice-aggregate-obey c = sym (length-take-le _ _ (c .before .before .before-anew .ensures .within))
 
 obey-requires : tie.Need-obey-requires
-obey-requires c κs = lent-known (c .before .before .before .before .before .pre)
+obey-requires c κs = lent-known (c .before .before .before .before .before .pre .0)
 
 enum-known-o : tie.Need-enum-known-o
 enum-known-o c = search needs
 
 ask-format-requires : tie.Need-ask-format-requires
-ask-format-requires c κs = still-holds (c .before .before .before .before .before .before .before .before .before .before .before .before .pre) (c .before .before .before .before .before .before .obey .ensures) (search needs)
+ask-format-requires c κs = still-holds (c .before .before .before .before .before .before .before .before .before .before .before .before .pre .0) (c .before .before .before .before .before .before .obey .ensures) (search needs)
 
 same-length : tie.Need-same-length
 same-length c = search needs
@@ -72,9 +74,10 @@ returns c =
     let s = c .before .before .before .before .before .before .before .before .before .before .before .before .before .before .before in
     let l = now (s .args .line) in
     record {
-      kept = then (record { quiet = λ q. q; same = λ q. part-back _ _ 0 (s .args .z .len - 0) (leaves b (subst Leaves (sym (o .1)) tt)); long = λ q. refl; holds = still-holds (s .pre) b (search needs) }) (f .0);
-      fill = f .1;
-      did = formats-did l (take (a .result) l) (ltb (a .result) (length l)) (s .pre) (without l (a .result) (a .ensures)) b (o .1) (f .2);
+      kept = then (record { quiet = λ q. q; same = λ q. part-back _ _ 0 (s .args .z .len - 0) (leaves b (subst Leaves (sym (o .1)) tt)); long = λ q. refl; holds = still-holds (s .pre .0) b (search needs) }) (f .0);
+      line = f .1 .line;
+      quit = λ e. subst (λ q. Says q (l ≡ text "quit")) (sym (f .1 .quit ∙ e)) (λ x. s .pre .1 (inl x));
+      did = asked (s .pre .1) (take (a .result) l) (ltb (a .result) (length l)) (without l (a .result) (a .ensures)) (formats-did (take (a .result) l) (ltb (a .result) (length l)) (s .pre .0) b (o .1) (f .2));
     }
 
 learnt-requires : tie.Need-learnt-requires
@@ -95,9 +98,10 @@ returns-2 c =
     let s = c .before .before .before .before .before .before .before .before .before .before .before in
     let l = now (s .args .line) in
     record {
-      kept = learnt-in k a (λ x. part-back _ _ 0 (s .args .z .len - 0) (leaves b x)) (learnt-holds k (s .pre) b (search needs));
-      fill = a .fill ∙ k .fill;
-      did = obeyed-did l (take (n .result) l) (ltb (n .result) (length l)) (c .after .result .len) (s .pre) (search needs) (without l (n .result) (n .ensures)) b (done (c .before .before .before .before .before .obey .result) (c .before .before .match .keys2)) (a .len ∙ k .len);
+      kept = learnt-in k a (λ x. part-back _ _ 0 (s .args .z .len - 0) (leaves b x)) (learnt-holds k (s .pre .0) b (search needs));
+      line = a .read .line ∙ k .read .line;
+      quit = λ e. subst (λ q. Says q (l ≡ text "quit")) (sym (a .read .quit ∙ k .read .quit ∙ e)) (λ x. s .pre .1 (inl x));
+      did = asked (s .pre .1) (take (n .result) l) (ltb (n .result) (length l)) (without l (n .result) (n .ensures)) (obeyed-did (take (n .result) l) (ltb (n .result) (length l)) (c .after .result .len) (s .pre .0) (search needs) b (done (c .before .before .before .before .before .obey .result) (c .before .before .match .keys2)) (a .len ∙ k .len));
     }
 
 pub command-spec : {M : Type 1} → statement M

@@ -51,18 +51,18 @@ returns c =
         quiet = λ q. absurd (no q);
         same = λ q. absurd (no q);
         long = λ q. absurd (no q);
-        holds = record { within = search needs; known = λ _. still-front _ _ (n .result) (n .ensures .0) y refl };
+        holds = record { within = search needs; known = λ _. still-front _ _ (n .result) (n .ensures .1) y refl };
       },
-      a .fill,
+      record { line = a .read .line; quit = a .read .quit },
       record {
         len = n .result;
-        within = n .ensures .0;
-        long = n .ensures .1;
+        within = n .ensures .1;
+        long = n .ensures .0;
         answer = meaning (f .result);
         left = f .last .0;
         made = simp sub-zero at (f .ensures);
         refused = λ e. absurd (true≢false (sym d ∙ e));
-        done = λ _. (still-back _ _ (n .result) (n .ensures .0) y, refl);
+        done = λ _. (still-back _ _ (n .result) (n .ensures .1) y, refl);
       },
     )
 
@@ -78,11 +78,11 @@ returns-2 c =
     let d : ok (meaning (f .result)) ≡ false = sym (c .before .is-done .ensures) ∙ c .if1 .left in
     let e = part-back (now (start .args .store)) (f .last .0) 0 (n .result - 0) (unformatted _ _ (meaning (f .result)) _ (f .ensures) d) in (
       taken-in a (λ l. e) (subst (SessionHolds (start .args .z)) (sym e) (start .pre)),
-      a .fill,
+      a .read,
       record {
         len = n .result;
-        within = n .ensures .0;
-        long = n .ensures .1;
+        within = n .ensures .1;
+        long = n .ensures .0;
         answer = meaning (f .result);
         left = f .last .0;
         made = simp sub-zero at (f .ensures);

@@ -1,7 +1,9 @@
 -- `lots::run` meets its contract. Assumes nothing.
+use mathlib.Core.List.{[]}
+use native.Mathlib.Omega.{arith}
 use borrow.Author.Needs.{needs}
 use Rattle.lots.proofs.Leaving.{begun}
-use Rattle.lots.proofs.Running.{go-on, ran}
+use Rattle.lots.proofs.Running.{ran-stopped, ran-quit, ran-ended}
 use Rattle.lots.proofs.input.run.Statement.{statement}
 use Rattle.lots.proofs.input.run.Tie as tie
 
@@ -30,31 +32,37 @@ read-all-requires : tie.Need-read-all-requires
 read-all-requires c κs =
     let b = c .before .begin .ensures in
     let k = c .before .before .before .is-accepted in
-    (begun (c .before .before .before .before .before .before .before .before .args .len) (k .result) (b .0) (b .2) (k .ensures) (c .before .before .before .before .before .before .before .before .pre), search needs)
+    record {
+      holds = begun (c .before .before .before .before .before .before .before .before .args .len) (k .result) (b .long) (b .knows) (k .ensures) (c .before .before .before .before .before .before .before .before .pre);
+      fits = omega (arith, b .line [] .within);
+      room = search needs;
+    }
 
 same-length : tie.Need-same-length
 same-length c = search needs
 
 returns : tie.Need-returns
-returns c = ran (c .before .before .before .before .before .before .begin .ensures .0) (c .before .before .before .before .read-all .ensures .0)
+returns c = ran-stopped (c .before .before .before .before .before .before .begin .ensures) (c .before .before .before .before .read-all .ensures) (c .if1 .taken)
 
 same-length-2 : tie.Need-same-length-2
 same-length-2 c = search needs
 
 returns-2 : tie.Need-returns-2
-returns-2 c = ran (c .before .before .before .before .before .before .before .before .begin .ensures .0) (c .before .before .before .before .before .before .read-all .ensures .0)
+returns-2 c = ran-quit (c .before .before .before .before .before .before .before .begin .ensures) (c .before .before .before .before .before .read-all .ensures) (c .before .if1 .left) (c .if2 .taken)
 
 slice-aggregate-end-line : tie.Need-slice-aggregate-end-line
 slice-aggregate-end-line c = search needs
 
 end-line-requires : tie.Need-end-line-requires
-end-line-requires c κs = search needs
+end-line-requires c κs =
+    let a = c .before .before .before .before .before .before .before .read-all .ensures in
+    record { holds = a .feeds .kept .holds; fits = a .feeds .fits; room = search needs }
 
 same-length-3 : tie.Need-same-length-3
 same-length-3 c = search needs
 
 returns-3 : tie.Need-returns-3
-returns-3 c = ran (c .before .before .before .before .before .before .before .before .before .before .before .before .before .begin .ensures .0) (go-on (search needs) (c .before .before .before .before .before .before .before .before .before .before .before .read-all .ensures .0) (c .before .before .end-line .ensures .0))
+returns-3 c = ran-ended (c .before .before .before .before .before .before .before .before .before .before .before .before .begin .ensures) (c .before .before .before .before .before .before .before .before .before .before .read-all .ensures) (search needs) (c .before .before .before .before .before .before .if1 .left) (c .before .before .before .before .before .if2 .left) (c .before .before .end-line .ensures)
 
 pub run-spec : {M : Type 1} → statement M
 run-spec =

@@ -8,10 +8,12 @@ use lib.ListN.{length}
 use denote.Ref.{now}
 use borrow.Author.Needs.{needs}
 use Rattle.store.specs.Tables.{meaning}
-use Rattle.commands.specs.Lines.{Means}
+use Rattle.commands.specs.Lines.{Means, WithinLimits}
 use Rattle.commands.specs.declared.Command.{Command}
 use Rattle.lots.specs.declared.Outcome.{Outcome}
 use Rattle.lots.specs.Obeys.{Does, Obeys}
+use Rattle.lots.proofs.obey.obey.Lts as lts
+use Rattle.commands.specs.declared.Command.the-variants.{Nothing, Unknown, Format, Put, Lookup, Remove, Count, Row, Listing, Check, Counts, Inspect, Report}
 use Rattle.lots.proofs.obey.obey.Statement.{statement}
 use Rattle.lots.proofs.obey.obey.Tie as tie
 
@@ -30,8 +32,27 @@ module _ (c : tie.After-code2) where
   read : (d : Command) → c .before .parse .result ≡ d → Means line buffer d
   read d e = subst (Means line buffer) e (c .before .parse .ensures)
 
+  -- the numbers of a result are of their types' widths
+  fits : (d : Command) → c .before .parse .result ≡ d → WithinLimits d
+  fits d e = limits d (subst (λ x. lts.r·1 .is .Ok (c .before .parse .lifetimes) x) e (c .before .parse .ok))
+    where
+      limits : (d : Command) → lts.r·1 .is .Ok (c .before .parse .lifetimes) d → WithinLimits d
+      limits Nothing k = tt
+      limits (Format n size) k = let o = k .1 .1 .1 .1 in (o .0 .1, o .1 .0 .1)
+      limits (Put n p m) k = let g = k .1 .1 .1 .1 .1 .0 .1 .1 in record { page = g .0 .1; slot = g .1 .0 .1; volume = g .1 .1 .0 .1 }
+      limits (Lookup n) k = tt
+      limits (Remove n) k = tt
+      limits Count k = tt
+      limits (Row n) k = k .1 .1 .1 .1 .0 .1
+      limits Listing k = tt
+      limits Check k = tt
+      limits Counts k = tt
+      limits (Inspect n) k = k .1 .1 .1 .1 .0 .1
+      limits Report k = tt
+      limits Unknown k = tt
+
   done : {s t : List ℕ} {o : Outcome} (d : Command) → c .before .parse .result ≡ d → Does buffer d s o t → Obeys line s o t
-  done d e x = record { code = buffer; long = long; command = d; means = read d e; does = x }
+  done d e x = record { code = buffer; long = long; command = d; means = read d e; fits = fits d e; does = x }
 
 buffer-requires : tie.Need-buffer-requires
 buffer-requires c κs = search needs

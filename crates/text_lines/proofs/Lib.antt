@@ -1,0 +1,4 @@
+pub mod Ending
+pub mod Words
+pub mod Marks
+pub mod Bytewise
