@@ -1,0 +1,4 @@
+pub mod Behind
+pub mod Breaks
+pub mod Added
+pub mod Read
