@@ -140,7 +140,7 @@ pub record InspectAsked (p : ℕ) (s : List ℕ) (o : Outcome) : Type 0 where
   pub there : HasPage s p → PageAsked (page (shapeOf s) s p) o
   pub absent : (HasPage s p → ⊥) → Passes o
 
--- a report: where n rows are told, they were laid out and summed over the store's listing
+-- a report: where n rows are told, they are those of some file's lines, none of another form, and the report over them answers with the sums
 pub record ReportAsked (s : List ℕ) (o : Outcome) : Type 0 where
   pub reads : Untouched o
   pub rows : (n : ℕ) → o ≡ Listed n → (fl : List ℕ) × ((x : Sums) × Reports s fl n (summed x))

@@ -18,7 +18,7 @@ use Rattle.text_lines.specs.Ends.{behindLast, endedAfter, ended, unended}
 use Rattle.text_lines.proofs.Ending.{ended-feed, ended-other, unended-feed, unended-other}
 use Rattle.sheets.specs.declared.Sheet.{Sheet}
 use Rattle.sheets.specs.Files.{lastLine, fileLines, LineIs, LinesSay, sheetRows, otherLine, BadLine}
-use Rattle.sheets.specs.Laying.{blankSheet, lowAfter, LaidOut, LaidBehind, FitsFields, LinesRead, LineHeld, HeldSays, LineTaken, BytesRead, BytesTaken}
+use Rattle.sheets.specs.Laying.{blankSheet, lowAfter, LaidOut, LaidBehind, FitsFields, LinesRead, LineHeld, HeldSays, LineTaken, BytesRead, BytesTaken, NoneRead}
 
 -- ---- what a line is
 
@@ -88,6 +88,14 @@ same-laid xs z z′ fl e L = record {
 
 pub same-read : (ls : List (List ℕ)) (z z′ : Sheet) (fl : List ℕ) → SameSheet z z′ → z′ .number ≡ z .number → LinesRead ls z fl → LinesRead ls z′ fl
 same-read ls z z′ fl e n R = record { said = R .said; says = R .says; number = n ∙ R .number; laid = same-laid (R .said) z z′ fl e (R .laid) }
+
+-- nor on whether the file is at its end
+pub same-bytes : (bs : List ℕ) (z z′ : Sheet) (line fl : List ℕ) → SameSheet z z′ → z′ .number ≡ z .number → z′ .fill ≡ z .fill → z′ .over ≡ z .over → BytesRead bs z line fl → BytesRead bs z′ line fl
+same-bytes bs z z′ line fl e n f o R = record {
+  lines = same-read (ended bs) z z′ fl e n (R .lines);
+  held = record { is = λ h. ap (λ (k : ℕ). take k line) f ∙ R .held .is (sym o ∙ h); long = λ h. R .held .long (sym o ∙ h) };
+  some = λ h. omega (arith, f, R .some (sym o ∙ h));
+}
 
 pub line-read : (z y z′ : Sheet) (held fl fl′ : List ℕ) (x : SheetLine) → length held ≤ 4096 → HeldSays (z .over) held x → FitsFields x → LaidBehind x (z .number + 1) z fl y fl′ → SameSheet y z′ → z′ .number ≡ z .number + 1
     → (ls : List (List ℕ)) (l : List ℕ) → LineHeld (z .over) held l → LinesRead ls z fl → LinesRead (ls ++ (l ∷ [])) z′ fl′
@@ -224,3 +232,7 @@ nothing-read z w r b o n f v line = record {
   held = record { is = λ _. ap (λ (k : ℕ). take k line) f; long = λ e. untrue (sym v ∙ e) };
   some = λ e. untrue (sym v ∙ e);
 }
+
+-- nothing is read of a file without a byte
+pub empty-read : (z z′ : Sheet) (fl : List ℕ) → NoneRead z → SameSheet z z′ → z′ .number ≡ z .number → fl ≡ blankSheet → LinesRead (fileLines []) z′ fl
+empty-read z z′ fl n e m f = subst (LinesRead (fileLines []) z′) (sym f) (same-read (fileLines []) z z′ blankSheet e m (none-left z [] blankSheet [] (n .read []) (n .fill)))

@@ -1,6 +1,9 @@
 -- `lots::bid::ask` meets its contract. Assumes nothing.
-use borrow.Author.Needs.{needs}
+use mathlib.Core.Path.{refl}
+use native.Mathlib.Omega.{arith}
+use Rattle.sheets.specs.Laying.{blankSheet}
 use Rattle.lots.proofs.Reporting.{untold}
+use borrow.Author.Needs.{needs}
 use Rattle.lots.proofs.bid.ask.Statement.{statement}
 use Rattle.lots.proofs.bid.ask.Tie as tie
 
@@ -8,7 +11,8 @@ slice-aggregate-load : tie.Need-slice-aggregate-load
 slice-aggregate-load c = search needs
 
 load-requires : tie.Need-load-requires
-load-requires c κs = search needs
+unfolding blankSheet
+load-requires c κs = refl
 
 tell-unread-requires : tie.Need-tell-unread-requires
 tell-unread-requires c κs = search needs
@@ -19,8 +23,13 @@ passed-requires c κs = search needs
 returns : tie.Need-returns
 returns c = untold _ (c .passed .result) (c .passed .ensures)
 
+slice-aggregate-tell-no-row : tie.Need-slice-aggregate-tell-no-row
+slice-aggregate-tell-no-row c = search needs
+
 tell-no-row-requires : tie.Need-tell-no-row-requires
-tell-no-row-requires c κs = search needs
+tell-no-row-requires c κs =
+    let f = c .before .before .before .before .before .load .ensures in
+    record { sheet = record { file = f .file; said = f .read .said; says = f .read .says; laid = f .read .laid .laid }; first = f .read .laid .wrong; some = c .before .if2 .taken }
 
 passed-requires-2 : tie.Need-passed-requires-2
 passed-requires-2 c κs = search needs
@@ -32,10 +41,10 @@ slice-aggregate-tell : tie.Need-slice-aggregate-tell
 slice-aggregate-tell c = search needs
 
 tell-requires : tie.Need-tell-requires
-tell-requires c κs = search needs
+tell-requires c κs = record { room = search needs; file = c .before .before .before .before .before .load .ensures; formed = omega (arith, c .before .if2 .left) }
 
 returns-3 : tie.Need-returns-3
-returns-3 c = c .tell .ensures
+returns-3 c = search needs
 
 pub ask-spec : {M : Type 1} → statement M
 ask-spec =
@@ -46,6 +55,7 @@ ask-spec =
     tell-unread-requires
     passed-requires
     returns
+    slice-aggregate-tell-no-row
     tell-no-row-requires
     passed-requires-2
     returns-2

@@ -8,12 +8,12 @@ use Rattle.hash.specs.Fnv.{fnv}
 use Rattle.partition.specs.Sizes.{shapeOf}
 use Rattle.report.specs.declared.Outcome.{Outcome}
 use Rattle.report.specs.Numbers.{numbersTable}
-use Rattle.report.specs.Report.{reported, summed}
+use Rattle.report.specs.Report.{reported, missing, summed}
 use Rattle.report.proofs.Told.{summed-over}
 use Rattle.report.specs.declared.Sums.{Sums}
 use Rattle.partition.proofs.Sizes.{sized-of}
 use Rattle.lots.specs.Reports.{Reports}
-use Rattle.lots.proofs.Reporting.{sums-of, untold}
+use Rattle.lots.proofs.Reporting.{sums-of, reports, row-refused, untold}
 use borrow.Author.Needs.{needs}
 use Rattle.lots.proofs.bid.tell.Statement.{statement}
 use Rattle.lots.proofs.bid.tell.Tie as tie
@@ -37,7 +37,10 @@ enum-told : tie.Need-enum-told
 enum-told c = search needs
 
 tell-bad-row-requires : tie.Need-tell-bad-row-requires
-tell-bad-row-requires c κs = search needs
+tell-bad-row-requires c κs =
+    let j = c .before .before in
+    let s = j .before .before .before in
+    row-refused (s .args .z) (now (s .args .flat)) (s .pre) (now (s .args .s)) (subst (λ (r : Outcome). Answers (numbersTable (shapeOf (now (s .args .s))) fnv (now (s .args .s)) (now (s .args .flat)) (s .args .z .rows)) (reported r)) (c .enum-told .given .1) (j .judge .ensures))
 
 passed-requires-2 : tie.Need-passed-requires-2
 passed-requires-2 c κs = search needs
@@ -49,7 +52,7 @@ tell-not-there-requires : tie.Need-tell-not-there-requires
 tell-not-there-requires c κs =
     let j = c .before .before .before in
     let s = j .before .before .before in
-    record { room = s .pre; answers = subst (λ (r : Outcome). Answers (numbersTable (shapeOf (now (s .args .s))) fnv (now (s .args .s)) (now (s .args .flat)) (s .args .n)) (reported r)) (c .before .p .given .1) (j .judge .ensures) }
+    reports (s .args .z) (now (s .args .flat)) (s .pre) (now (s .args .s)) (missing (c .before .p .given .0 .0)) tt (subst (λ (r : Outcome). Answers (numbersTable (shapeOf (now (s .args .s))) fnv (now (s .args .s)) (now (s .args .flat)) (s .args .z .rows)) (reported r)) (c .before .p .given .1) (j .judge .ensures))
 
 passed-requires-3 : tie.Need-passed-requires-3
 passed-requires-3 c κs = search needs
@@ -65,25 +68,29 @@ module _ (c : tie.After-known-told3) where
   abbrev sums : Sums
   sums = c .before .x .given .0 .0
 
-  answered : Answers (numbersTable (shapeOf (now (start .args .s))) fnv (now (start .args .s)) (now (start .args .flat)) (start .args .n)) (summed sums)
-  answered = subst (λ (r : Outcome). Answers (numbersTable (shapeOf (now (start .args .s))) fnv (now (start .args .s)) (now (start .args .flat)) (start .args .n)) (reported r)) (c .before .x .given .1) (c .before .before .before .judge .ensures)
+  answered-with : Answers (numbersTable (shapeOf (now (start .args .s))) fnv (now (start .args .s)) (now (start .args .flat)) (start .args .z .rows)) (summed sums)
+  answered-with = subst (λ (r : Outcome). Answers (numbersTable (shapeOf (now (start .args .s))) fnv (now (start .args .s)) (now (start .args .flat)) (start .args .z .rows)) (reported r)) (c .before .x .given .1) (c .before .before .before .judge .ensures)
+
+  reported-with : Reports (now (start .args .s)) (now (start .args .flat)) (start .args .z .rows) (summed sums)
+  reported-with = reports (start .args .z) (now (start .args .flat)) (start .pre) (now (start .args .s)) (summed sums) tt answered-with
 
 tell-named-requires : tie.Need-tell-named-requires
 tell-named-requires c κs =
     let s = start c in
     let S = shapeOf (now (s .args .s)) in
-    let o = summed-over S fnv (now (s .args .s)) (now (s .args .flat)) (s .args .n) (sums c) (s .pre) (answered c) in
+    let o = summed-over S fnv (now (s .args .s)) (now (s .args .flat)) (s .args .z .rows) (sums c) (s .pre .room) (answered-with c) in
     record {
+      over = reported-with c .over;
       markable = record { sized = sized-of (now (s .args .s)); accepted = o .0; laid = o .1 };
       sums = sums c;
-      summed = sums-of S (now (s .args .s)) (now (s .args .flat)) (s .args .n) (sums c) (answered c);
+      summed = sums-of S (now (s .args .s)) (now (s .args .flat)) (s .args .z .rows) (sums c) (answered-with c);
     }
 
 returns : tie.Need-returns
 returns c = record { reads = tt; rows = λ n e. absurd (let f : _≡_ {A = ℕ} 0 1 = cc in omega (arith, f)) }
 
 tell-sums-requires : tie.Need-tell-sums-requires
-tell-sums-requires c κs = record { room = start (c .before .before) .pre; answers = answered (c .before .before) }
+tell-sums-requires c κs = reported-with (c .before .before)
 
 returns-2 : tie.Need-returns-2
 returns-2 c = record { reads = tt; rows = λ n e. absurd (let f : _≡_ {A = ℕ} 0 1 = cc in omega (arith, f)) }
@@ -105,8 +112,8 @@ returns-6 c =
     record {
       reads = tt;
       rows = λ n e.
-          let f : s .args .n ≡ n = cc in
-          (now (s .args .flat), (sums k, subst (λ m. Reports (now (s .args .s)) (now (s .args .flat)) m (summed (sums k))) f (record { room = s .pre; answers = answered k })));
+          let f : s .args .z .rows ≡ n = cc in
+          (now (s .args .flat), (sums k, subst (λ m. Reports (now (s .args .s)) (now (s .args .flat)) m (summed (sums k))) f (reported-with k)));
     }
 
 pub tell-spec : {M : Type 1} → statement M
