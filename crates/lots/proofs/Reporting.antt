@@ -27,7 +27,7 @@ use Rattle.store.specs.Tables.{refused}
 use Rattle.store.proofs.Accepted.Reading.{row-none}
 use Rattle.lots.specs.declared.Outcome.{Outcome}
 use Rattle.lots.specs.declared.Outcome.the-variants.{Silent, Unknown as NotKnown, Told, Changed, Listed, Format as Formats, Stopped}
-use Rattle.lots.specs.Obeys.{Passes, ReportAsked}
+use Rattle.lots.specs.Obeys.{Untouched, Numbers, ReportTold, ReportAsked}
 use Rattle.lots.specs.Reports.{FileFormed, FileLaid, ListedSums, Reports, RowRefused}
 use Rattle.lots.proofs.Leaving.{passes-untouched}
 
@@ -65,6 +65,20 @@ marked-as S s fl n x t cs cs′ r e m =
 pub none-begun : {z : Sheet} {line fl : List ℕ} → NoneRead z → fl ≡ blankSheet → BytesRead [] z line fl
 none-begun {z} {line} {fl} n e = subst (BytesRead [] z line) (sym e) (n .read line)
 
+numbers-untouched : (n : ℕ) (o : Outcome) → Numbers n o → Untouched o
+numbers-untouched n (Listed m) t = tt
+numbers-untouched n Stopped t = tt
+numbers-untouched n Silent t = absurd t
+numbers-untouched n NotKnown t = absurd t
+numbers-untouched n (Told x) t = absurd t
+numbers-untouched n (Changed x) t = absurd t
+numbers-untouched n (Formats m size) t = absurd t
+
+told-untouched : (n : ℕ) (r : Reported) (o : Outcome) → ReportTold n r o → Untouched o
+told-untouched n (summed x) o t = numbers-untouched n o t
+told-untouched n (missing p) o t = passes-untouched o t
+told-untouched n (other a) o t = passes-untouched o t
+
 module _ (z : Sheet) (fl : List ℕ) (w : FileFormed z fl) where
   abbrev file-laid : FileLaid fl
   file-laid = let r = w .file .read in record { file = w .file .file; said = r .said; says = r .says; laid = r .laid .laid }
@@ -86,26 +100,9 @@ module _ (z : Sheet) (fl : List ℕ) (w : FileFormed z fl) where
         let b = w .file .read .laid .bad in
         record { sheet = file-laid; formed = formed; bad = b; some = ten-named (shapeOf s) fnv s (w .file .read .said) (z .bad) b (over-rows (other (refused 10)) a); answers = over-rows (other (refused 10)) a }
 
--- ---- the outcome
-
-abbrev Other : Outcome → Type 0
-Other (Listed n) = ⊥
-Other Silent = Unit {0}
-Other NotKnown = Unit {0}
-Other (Told x) = Unit {0}
-Other (Changed x) = Unit {0}
-Other (Formats n size) = Unit {0}
-Other Stopped = Unit {0}
-
-passes-other : (o : Outcome) → Passes o → Other o
-passes-other NotKnown p = tt
-passes-other Stopped p = tt
-passes-other Silent p = tt
-passes-other (Told x) p = tt
-passes-other (Listed n) p = p
-passes-other (Changed x) p = tt
-passes-other (Formats n size) p = tt
-
--- a report that is not told
-pub untold : (s : List ℕ) (o : Outcome) → Passes o → ReportAsked s o
-untold s o p = record { reads = passes-untouched o p; rows = λ n e. absurd (subst Other e (passes-other o p)) }
+    -- a report over the file's rows
+    pub file-reported : (r : Reported) (o : Outcome) → Answers (numbersTable (shapeOf s) fnv s fl (z .rows)) r → ReportTold (length (sheetRows (w .file .read .said))) r o → ReportAsked s o
+    file-reported r o a t = record {
+      reads = told-untouched (length (sheetRows (w .file .read .said))) r o t;
+      asked = inr (record { file = w .file .file; said = w .file .read .said; says = w .file .read .says; unformed = λ l. absurd (omega (arith, l, formed)); formed = λ _. (r, (over-rows r a, t)) });
+    }

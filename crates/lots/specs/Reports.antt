@@ -1,5 +1,5 @@
 -- What a line report is given to tell. Its sheet is the rows of some file's lines, laid out in fl as numbers. Assumes nothing.
-use Prim.Native.Nat.{ℕ, _*_, _^_, _+_, _≤_, _<_}
+use Prim.Native.Nat.{ℕ, _+_, _*_, _≤_, _<_}
 use mathlib.Core.Path.{_≡_}
 use mathlib.Core.List.{List}
 use lib.ListN.{length, replicate}
@@ -15,10 +15,11 @@ use Rattle.report.specs.Named.{Markable, TellsRow}
 use Rattle.report.specs.Numbers.{ranksOf, raisedOf, spreadFrom, SumsOf}
 use Rattle.report.specs.Report.{limit, sheetRow, Reported, other, reportTable}
 use Rattle.sheets.specs.declared.Sheet.{Sheet}
-use Rattle.sheets.specs.Files.{fileLines, LinesSay, sheetRows, otherLine, BadLine}
+use Rattle.sheets.specs.Files.{LinesSay, sheetRows, otherLine, BadLine}
 use Rattle.sheets.specs.Laying.{blankSheet, BytesRead, LinesRead, SheetRoom}
 use Rattle.store.specs.Pages.{rowsHeld}
 use Rattle.store.specs.Tables.{refused}
+use Rattle.text_lines.specs.Ends.{inputLines}
 
 -- ---- the file
 
@@ -38,7 +39,7 @@ pub record PieceRead (z z′ : Sheet) (line′ fl′ : List ℕ) : Type 0 where
 -- some file is read to its end
 pub record FileRead (z : Sheet) (fl : List ℕ) : Type 0 where
   pub file : List ℕ
-  pub read : LinesRead (fileLines file) z fl
+  pub read : LinesRead (inputLines file) z fl
 
 -- no line of it is of another form
 pub record FileFormed (z : Sheet) (fl : List ℕ) : Type 0 where
@@ -52,7 +53,7 @@ pub record FileFormed (z : Sheet) (fl : List ℕ) : Type 0 where
 pub record FileLaid (fl : List ℕ) : Type 0 where
   pub file : List ℕ
   pub said : List SheetLine
-  pub says : LinesSay (fileLines file) said
+  pub says : LinesSay (inputLines file) said
   pub laid : fl ≡ spreadFrom 0 (sheetRows said) blankSheet
 
 -- its first line of another form is line l

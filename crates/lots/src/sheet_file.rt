@@ -1,4 +1,5 @@
 // A sheet's file: opened, read piece by piece, laid out as numbers.
+ghost use mathlib.Core.Bool.{false};
 ghost use mathlib.Core.Path.{_≡_};
 ghost use Prim.Native.Nat.{_≤_};
 ghost use lib.ListN.{length};
@@ -95,10 +96,10 @@ fn open_sheet(name: &[u8]) -> i32 {
     os::open_read(&path[0..n])
 }
 
-// The sheet of that name; one that cannot be read is as an empty one.
+// The sheet of that name, unless it cannot be read.
 pub fn load(name: &[u8], flat: &mut [u64]) -> Sheet
     requires { ⌜ now flat ≡ blankSheet ⌝ }
-    ensures { λ r. ⌜ FileRead r (now (flat .exit)) ⌝ }
+    ensures { λ r. ⌜ (r .unread ≡ false → FileRead r (now (flat .exit))) ⌝ }
 {
     let fd = open_sheet(name);
     if fd < 0 {

@@ -17,8 +17,8 @@ use Rattle.commands.proofs.OneRow.{FitsLine, line-one}
 use Rattle.text_lines.specs.Ends.{behindLast, endedAfter, ended, unended}
 use Rattle.text_lines.proofs.Ending.{ended-feed, ended-other, unended-feed, unended-other}
 use Rattle.sheets.specs.declared.Sheet.{Sheet}
-use Rattle.sheets.specs.Files.{lastLine, fileLines, LineIs, LinesSay, sheetRows, otherLine, BadLine}
-use Rattle.sheets.specs.Laying.{blankSheet, lowAfter, LaidOut, LaidBehind, FitsFields, LinesRead, LineHeld, HeldSays, LineTaken, BytesRead, BytesTaken, NoneRead}
+use Rattle.sheets.specs.Files.{LineIs, LinesSay, sheetRows, otherLine, BadLine}
+use Rattle.sheets.specs.Laying.{blankSheet, lowAfter, LaidOut, LaidBehind, FitsFields, LinesRead, LineHeld, HeldSays, LineTaken, BytesRead, BytesTaken}
 
 -- ---- what a line is
 
@@ -94,7 +94,6 @@ pub same-bytes : (bs : List ℕ) (z z′ : Sheet) (line fl : List ℕ) → SameS
 same-bytes bs z z′ line fl e n f o R = record {
   lines = same-read (ended bs) z z′ fl e n (R .lines);
   held = record { is = λ h. ap (λ (k : ℕ). take k line) f ∙ R .held .is (sym o ∙ h); long = λ h. R .held .long (sym o ∙ h) };
-  some = λ h. omega (arith, f, R .some (sym o ∙ h));
 }
 
 pub line-read : (z y z′ : Sheet) (held fl fl′ : List ℕ) (x : SheetLine) → length held ≤ 4096 → HeldSays (z .over) held x → FitsFields x → LaidBehind x (z .number + 1) z fl y fl′ → SameSheet y z′ → z′ .number ≡ z .number + 1
@@ -119,7 +118,6 @@ module _ (z : Sheet) (line fl : List ℕ) (b : ℕ) where
     read = λ bs R. record {
       lines = subst (λ (ls : List (List ℕ)). LinesRead ls z′ fl′) (sym (ended-feed [] bs b e)) (t .read (ended bs) (unended bs) (R .held) (R .lines));
       held = record { is = λ _. ap (λ (n : ℕ). take n line) (t .fill) ∙ sym (unended-feed [] bs b e); long = λ o. untrue (sym (t .over) ∙ o) };
-      some = λ o. untrue (sym (t .over) ∙ o);
     };
   }
 
@@ -142,7 +140,6 @@ module _ (z : Sheet) (line fl : List ℕ) (b : ℕ) where
               ap (λ (m : ℕ). take m (set line (z .fill) b)) g ∙ take-suc-set line (z .fill) b l ∙ ap (λ (w : List ℕ). w ++ (b ∷ [])) (R .held .is (sym o ∙ h)) ∙ sym (unended-other [] bs b other);
           long = λ h. omega (arith, longer bs, R .held .long (sym o ∙ h));
         };
-        some = λ _. omega (arith, f);
       };
     }
 
@@ -154,7 +151,6 @@ module _ (z : Sheet) (line fl : List ℕ) (b : ℕ) where
       read = λ bs R. record {
         lines = lines-stay bs R;
         held = record { is = λ h. untrue (sym h ∙ o); long = λ _. omega (arith, longer bs, enough bs R) };
-        some = λ _. omega (arith, f, l, k);
       };
     }
       where
@@ -186,31 +182,6 @@ piece-more piece i {z} {line} {fl} {y} {line′} {fl′} {x} {line″} {fl″} l
 pub piece-whole : (piece : List ℕ) (i : ℕ) {z : Sheet} {line fl : List ℕ} {y : Sheet} {line′ fl′ : List ℕ} → length piece ≤ i → BytesTaken (take i piece) z line fl y line′ fl′ → BytesTaken piece z line fl y line′ fl′
 piece-whole piece i {z} {line} {fl} {y} {line′} {fl′} l a = subst (λ (cs : List ℕ). BytesTaken cs z line fl y line′ fl′) (take-all i piece l) a
 
--- ---- the end of the file
-
-last-one : (l : List ℕ) → 1 ≤ length l → l ∷ [] ≡ lastLine l
-last-one [] h = absurd (let f : 1 ≤ 0 = h in omega (arith, f))
-last-one (b ∷ l) h = refl
-
-module _ (z : Sheet) (line fl : List ℕ) (bs : List ℕ) (R : BytesRead bs z line fl) where
-  -- no byte is behind the last line feed
-  pub none-left : z .fill ≡ 0 → LinesRead (fileLines bs) z fl
-  none-left e = go (z .over) (R .held) (R .some)
-    where
-      go : (t : Bool) → LineHeld t (take (z .fill) line) (unended bs) → (t ≡ true → 1 ≤ z .fill) → LinesRead (fileLines bs) z fl
-      go true h s = absurd (omega (arith, e, s refl))
-      go false h s =
-          let n : [] ≡ unended bs = ap (λ (k : ℕ). take k line) (sym e) ∙ h .is refl in
-          subst (λ (ls : List (List ℕ)). LinesRead ls z fl) (sym (append-nil (ended bs)) ∙ ap (λ (l : List ℕ). ended bs ++ lastLine l) n) (R .lines)
-
-  -- some are
-  pub some-left : (z′ : Sheet) (fl′ : List ℕ) → 1 ≤ z .fill → z .fill ≤ length line → LineTaken z (take (z .fill) line) fl z′ fl′ → LinesRead (fileLines bs) z′ fl′
-  some-left z′ fl′ f k t = subst (λ (ls : List (List ℕ)). LinesRead (ended bs ++ ls) z′ fl′) (last-one (unended bs) (long (z .over) (R .held))) (t .read (ended bs) (unended bs) (R .held) (R .lines))
-    where
-      long : (t : Bool) → LineHeld t (take (z .fill) line) (unended bs) → 1 ≤ length (unended bs)
-      long false h = omega (arith, ap (λ (w : List ℕ). length w) (h .is refl), length-take-le (z .fill) line k, f)
-      long true h = omega (arith, h .long refl)
-
 -- ---- before the first byte
 
 pub nothing-read : (z : Sheet) → z .wrong ≡ 0 → z .rows ≡ 0 → z .bad ≡ 0 → z .low ≡ 0 → z .number ≡ 0 → z .fill ≡ 0 → z .over ≡ false → (line : List ℕ) → BytesRead [] z line blankSheet
@@ -230,9 +201,4 @@ nothing-read z w r b o n f v line = record {
     };
   };
   held = record { is = λ _. ap (λ (k : ℕ). take k line) f; long = λ e. untrue (sym v ∙ e) };
-  some = λ e. untrue (sym v ∙ e);
 }
-
--- nothing is read of a file without a byte
-pub empty-read : (z z′ : Sheet) (fl : List ℕ) → NoneRead z → SameSheet z z′ → z′ .number ≡ z .number → fl ≡ blankSheet → LinesRead (fileLines []) z′ fl
-empty-read z z′ fl n e m f = subst (LinesRead (fileLines []) z′) (sym f) (same-read (fileLines []) z z′ blankSheet e m (none-left z [] blankSheet [] (n .read []) (n .fill)))

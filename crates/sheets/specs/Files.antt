@@ -1,7 +1,7 @@
 -- What a sheet's file says: its lines, the rows among them, the first line of another form and the first row that breaks a rule. Assumes nothing.
 use Prim.Native.Nat.{ℕ, zero, suc, _+_, _≤_, _<_}
 use mathlib.Core.Path.{_≡_}
-use mathlib.Core.List.{List, [], _∷_, _++_}
+use mathlib.Core.List.{List, [], _∷_}
 use lib.IntN.{ℤ, negℤ}
 use lib.Signed.{_≤ℤ_}
 use lib.ListN.{length, getD}
@@ -11,18 +11,8 @@ use Rattle.commands.specs.SheetLines.{PassedOver, RowLine, FitsRow, LineSays}
 use Rattle.page.specs.declared.Place.{Place}
 use Rattle.report.specs.declared.SheetRow.{SheetRow}
 use Rattle.report.specs.Report.{placeIn, limit, highest, sheetRow, RowPlace, Precedes}
-use Rattle.text_lines.specs.Ends.{ended, unended}
 
 -- ---- lines
-
--- a last line that no line feed ends; none where there is no byte
-abbrev pub lastLine : List ℕ → List (List ℕ)
-lastLine [] = []
-lastLine (b ∷ l) = (b ∷ l) ∷ []
-
--- the lines of a file
-abbrev pub fileLines : List ℕ → List (List ℕ)
-fileLines file = ended file ++ lastLine (unended file)
 
 -- what a line is: passed over, a row, or of another form, as one over 4,096 bytes is
 abbrev pub LineIs : List ℕ → SheetLine → Type 0

@@ -12,7 +12,7 @@ use Rattle.report.specs.Numbers.{outside, rank, spreadFrom}
 use Rattle.report.specs.Report.{limit, placeIn}
 use Rattle.text_lines.specs.Ends.{ended, unended}
 use Rattle.sheets.specs.declared.Sheet.{Sheet}
-use Rattle.sheets.specs.Files.{fileLines, LineIs, LinesSay, sheetRows, otherLine, BadLine}
+use Rattle.sheets.specs.Files.{LinesSay, sheetRows, otherLine, BadLine}
 
 -- no row laid out yet
 unfoldable pub blankSheet : List ℕ
@@ -88,7 +88,6 @@ pub record LineRoom (z : Sheet) (held fl : List ℕ) : Type 0 where
 pub record BytesRead (bs : List ℕ) (z : Sheet) (line fl : List ℕ) : Type 0 where
   pub lines : LinesRead (ended bs) z fl
   pub held : LineHeld (z .over) (take (z .fill) line) (unended bs)
-  pub some : z .over ≡ true → 1 ≤ z .fill
 
 -- room for a line and for the numbers of n lines more
 pub record SheetRoom (z : Sheet) (line fl : List ℕ) (n : ℕ) : Type 0 where

@@ -1,6 +1,6 @@
 // A line of a sheet laid out: its row, or that it is of another form.
 ghost use mathlib.Core.Path.{_≡_};
-ghost use Prim.Native.Nat.{_*_, _<_, _≤_};
+ghost use Prim.Native.Nat.{_*_};
 ghost use lib.ListN.{length};
 ghost use Rattle.commands.specs.SheetLines.{FitsRow};
 ghost use Rattle.commands.specs.declared.SheetLine.the-variants.{Amount, Other};

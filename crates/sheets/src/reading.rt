@@ -2,7 +2,7 @@
 ghost use mathlib.Core.List.{List, [], _∷_};
 ghost use Prim.Native.Nat.{ℕ};
 ghost use lib.ListN.{length};
-ghost use Rattle.sheets.specs.Files.{fileLines};
+ghost use Rattle.text_lines.specs.Ends.{inputLines};
 ghost use Rattle.sheets.specs.Laying.{HeldSays, LineRoom, LineTaken, LinesRead, BytesRead, SheetRoom, BytesTaken, NoneRead};
 use super::laying::add_line;
 use crate::Sheet;
@@ -82,14 +82,11 @@ pub fn take_piece(flat: &mut [u64], z: Sheet, line: &mut [u8], piece: &[u8]) -> 
     y
 }
 
-// The end of the file: its last line may lack the line feed.
+// The end of the file: what stands behind the last line feed is a line too.
 pub fn last_line(flat: &mut [u64], z: Sheet, line: &[u8]) -> Sheet
     requires { ⌜ SheetRoom z (now line) (now flat) 1 ⌝ }
-    ensures { λ r. ⌜ ((bs : List ℕ) → BytesRead bs z (now (line .entry)) (now (flat .entry)) → LinesRead (fileLines bs) r (now (flat .exit))) ⌝ }
+    ensures { λ r. ⌜ ((bs : List ℕ) → BytesRead bs z (now (line .entry)) (now (flat .entry)) → LinesRead (inputLines bs) r (now (flat .exit))) ⌝ }
 {
     let fill = z.fill;
-    if fill == 0 {
-        return z;
-    }
     take_line(flat, z, &line[0..fill])
 }

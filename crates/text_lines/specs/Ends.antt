@@ -31,6 +31,10 @@ ended l = endedAfter [] l
 abbrev pub unended : List ℕ → List ℕ
 unended l = unendedAfter [] l
 
+-- the lines of an input: what stands behind the last line feed is one too
+abbrev pub inputLines : List ℕ → List (List ℕ)
+inputLines l = ended l ++ (unended l ∷ [])
+
 -- lines with a line feed behind each, and then r
 unfoldable pub withFeeds : List (List ℕ) → List ℕ → List ℕ
 withFeeds [] r = r

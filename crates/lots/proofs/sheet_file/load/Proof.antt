@@ -1,8 +1,6 @@
 -- `lots::sheet_file::load` meets its contract. Assumes nothing.
-use mathlib.Core.Path.{refl}
-use mathlib.Core.List.{[]}
-use denote.Ref.{now}
-use Rattle.sheets.proofs.Read.{empty-read}
+use mathlib.Core.Path.{sym}
+use Rattle.ground.proofs.Tests.{untrue}
 use borrow.Author.Needs.{needs}
 use Rattle.lots.proofs.sheet_file.load.Statement.{statement}
 use Rattle.lots.proofs.sheet_file.load.Tie as tie
@@ -14,9 +12,7 @@ fresh-requires : tie.Need-fresh-requires
 fresh-requires c κs = search needs
 
 returns : tie.Need-returns
-returns c =
-    let s = c .before .before .before .before .before in
-    record { file = []; read = empty-read (c .fresh .result) _ (now (s .args .flat)) (c .fresh .ensures) (record { wrong = refl; rows = refl; bad = refl; low = refl }) refl (s .pre) }
+returns c = λ e. untrue (sym e)
 
 read-open-requires : tie.Need-read-open-requires
 read-open-requires c κs = search needs
@@ -28,7 +24,7 @@ same-length : tie.Need-same-length
 same-length c = search needs
 
 returns-2 : tie.Need-returns-2
-returns-2 c = search needs
+returns-2 c = λ _. c .before .before .before .read-open .ensures
 
 pub load-spec : {M : Type 1} → statement M
 load-spec =
