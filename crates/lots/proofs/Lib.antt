@@ -4,4 +4,5 @@ pub mod Leaving
 pub mod OneCommand
 pub mod Lines
 pub mod Reporting
+pub mod OneReport
 pub mod Running

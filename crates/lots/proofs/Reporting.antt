@@ -1,6 +1,6 @@
--- What a report is given to tell, from its answer and the marks. Assumes nothing.
-use Prim.Native.Nat.{ℕ, _*_, _≤_}
-use mathlib.Core.Path.{_≡_, refl, sym, ap, subst, _∙_}
+-- What a report is given to tell, from its answer, the marks and the file that was read. Assumes nothing.
+use Prim.Native.Nat.{ℕ}
+use mathlib.Core.Path.{_≡_, sym, ap, subst, _∙_}
 use mathlib.Core.List.{List, [], map}
 use mathlib.Core.Logic.{inl, inr}
 use native.Mathlib.Omega.{arith}

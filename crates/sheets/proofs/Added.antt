@@ -1,7 +1,7 @@
 -- A line laid out behind lines. Assumes nothing.
 use Prim.Native.Nat.{ℕ, zero, suc, _+_, _*_, _≤_, _<_}
 use mathlib.Core.Path.{_≡_, refl, sym, ap, subst, _∙_}
-use mathlib.Core.Bool.{Bool, true, false, cond, _&&_}
+use mathlib.Core.Bool.{Bool, cond, _&&_}
 use mathlib.Core.List.{List, [], _∷_, _++_, append-nil}
 use mathlib.Core.Logic.{_⊎_, ⊎-elim}
 use native.Mathlib.Omega.{arith}
@@ -18,7 +18,7 @@ use Rattle.report.specs.Numbers.{rank, raise, laid, spreadFrom}
 use Rattle.report.specs.Report.{placeIn, limit}
 use Rattle.report.proofs.Ranks.{lt-no}
 use Rattle.sheets.specs.declared.Sheet.{Sheet}
-use Rattle.sheets.specs.Files.{amountRow, sheetRows, rowLines, otherLine, RowKeeps, AllKeep, FirstBreak, BadLine}
+use Rattle.sheets.specs.Files.{amountRow, sheetRows, rowLines, otherLine, RowKeeps, AllKeep, BadLine}
 use Rattle.sheets.specs.Laying.{blankSheet, lowAfter, LowSays, LaidOut}
 use Rattle.sheets.proofs.Behind.{rows-behind, row-lines-behind, row-lines-long, other-stays, other-behind, spread-behind, low-behind}
 use Rattle.sheets.proofs.Breaks.{keeps-behind, break-stays, bad-stays, low-breaks, low-keeps}

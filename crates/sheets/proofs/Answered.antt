@@ -1,16 +1,16 @@
 -- The report over the numbers of a sheet that was read is the report over the rows of its file. Assumes nothing.
-use Prim.Native.Nat.{ℕ, zero, suc, _+_, _*_, _≤_, _<_}
-use mathlib.Core.Path.{_≡_, refl, sym, ap, subst, _∙_}
+use Prim.Native.Nat.{ℕ, zero, suc, _≤_, _<_}
+use mathlib.Core.Path.{_≡_, subst}
 use mathlib.Core.List.{List}
 use mathlib.Core.Logic.{_⊎_, inl, inr, ⊎-elim}
 use native.Mathlib.Omega.{arith}
-use lib.ListN.{length, replicate}
+use lib.ListN.{length}
 use Rattle.ground.specs.Ladder.{Answers}
 use Rattle.ground.proofs.Sides.{side}
 use Rattle.commands.specs.declared.SheetLine.{SheetLine}
 use Rattle.partition.specs.declared.Shape.{Shape}
 use Rattle.report.specs.declared.SheetRow.{SheetRow}
-use Rattle.report.specs.Numbers.{outside, spreadFrom, numbersTable}
+use Rattle.report.specs.Numbers.{numbersTable}
 use Rattle.report.specs.Report.{limit, GoodSheet, Reported, other, missing, summed, reportTable}
 use Rattle.report.proofs.Refines.{refines}
 use Rattle.store.specs.Tables.{refused}

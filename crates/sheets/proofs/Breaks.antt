@@ -7,7 +7,7 @@ use native.Mathlib.Omega.{arith}
 use lib.IntN.{negℤ}
 use lib.Signed.{_≤ℤ_}
 use lib.ListN.{length, getD, length-append, length-replicate, List·getD-append}
-use lib.Seq.{getD-append-seam, getD-at}
+use lib.Seq.{getD-append-seam}
 use Rattle.ground.proofs.Sides.{side}
 use Rattle.commands.specs.declared.SheetLine.{SheetLine}
 use Rattle.report.specs.declared.SheetRow.{SheetRow}

@@ -18,7 +18,7 @@ use Rattle.text_lines.specs.Ends.{behindLast, endedAfter, ended, unended}
 use Rattle.text_lines.proofs.Ending.{ended-feed, ended-other, unended-feed, unended-other}
 use Rattle.sheets.specs.declared.Sheet.{Sheet}
 use Rattle.sheets.specs.Files.{LineIs, LinesSay, sheetRows, otherLine, BadLine}
-use Rattle.sheets.specs.Laying.{blankSheet, lowAfter, LaidOut, LaidBehind, FitsFields, LinesRead, LineHeld, HeldSays, LineTaken, BytesRead, BytesTaken}
+use Rattle.sheets.specs.Laying.{blankSheet, LaidOut, LaidBehind, FitsFields, LinesRead, LineHeld, HeldSays, LineTaken, BytesRead, BytesTaken}
 
 -- ---- what a line is
 

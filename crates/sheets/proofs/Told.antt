@@ -1,11 +1,9 @@
 -- A row that is told by its mark is the file's row, as the listing names it. Assumes nothing.
 use Prim.Native.Nat.{ℕ, _+_, _*_, _≤_, _<_}
-use mathlib.Core.Path.{_≡_, refl, sym, ap, subst, _∙_}
+use mathlib.Core.Path.{_≡_, sym, ap, subst, _∙_}
 use mathlib.Core.List.{List, map}
 use native.Mathlib.Omega.{arith}
-use lib.IntN.{ℤ}
 use lib.ListN.{length, getD, replicate, length-replicate}
-use Rattle.page.specs.declared.Place.{Place}
 use Rattle.partition.specs.Partition.{Row}
 use Rattle.report.specs.declared.NamedRow.{NamedRow}
 use Rattle.report.specs.declared.NamedRow.the-variants.{Hidden, Once, Doubled}
