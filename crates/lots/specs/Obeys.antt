@@ -3,10 +3,12 @@ use Prim.Native.Nat.{ℕ, _≤_, _<_}
 use mathlib.Core.Path.{_≡_}
 use mathlib.Core.Bool.{true, false}
 use mathlib.Core.List.{List}
+use mathlib.Core.Logic.{_⊎_}
 use mathlib.Core.Option.{some}
 use lib.ListN.{length, take, getElem?}
 use Rattle.commands.specs.declared.Command.{Command}
 use Rattle.commands.specs.declared.Command.the-variants.{Nothing, Unknown, Format, Put, Lookup, Remove, Count, Row, Listing, Check, Counts, Inspect, Report}
+use Rattle.commands.specs.declared.SheetLine.{SheetLine}
 use Rattle.commands.specs.Lines.{Means, WithinLimits}
 use Rattle.ground.specs.Ladder.{Answers}
 use Rattle.hash.specs.Fnv.{fnv}
@@ -16,11 +18,11 @@ use Rattle.partition.specs.Sizes.{size, shapeFor, shapeOf}
 use Rattle.store.specs.Demands.{Call, check, count, lookup, put, remove, rowAt, Made, ok}
 use Rattle.store.specs.Pages.{pages, page, read, rowsOn, rowsHeld}
 use Rattle.store.specs.Tables.{Out, refusedAt, meaning, giving, PageKeeps, inspectTable}
-use Rattle.report.specs.declared.Sums.{Sums}
-use Rattle.report.specs.Report.{summed}
+use Rattle.report.specs.Report.{Reported, other, missing, summed, reportTable}
+use Rattle.sheets.specs.Files.{LinesSay, sheetRows, otherLine}
 use Rattle.filling.specs.Filling.{fillTable}
+use Rattle.text_lines.specs.Ends.{inputLines}
 use Rattle.lots.specs.declared.Outcome.{Outcome}
-use Rattle.lots.specs.Reports.{Reports}
 use Rattle.lots.specs.declared.Outcome.the-variants.{Silent, Unknown as NotKnown, Told, Changed, Listed, Format as Formats, Stopped}
 
 -- a line that only reads
@@ -126,10 +128,24 @@ pub record InspectAsked (p : ℕ) (s : List ℕ) (o : Outcome) : Type 0 where
   pub there : HasPage s p → PageAsked (page (shapeOf s) s p) o
   pub absent : (HasPage s p → ⊥) → Passes o
 
--- a report: where n rows are told, they were laid out and summed over the store's listing
+-- a report over n rows that answers x: the sums come with the number of rows, any other answer is a refusal
+abbrev pub ReportTold : ℕ → Reported → Outcome → Type 0
+ReportTold n (summed x) o = Numbers n o
+ReportTold n (missing p) o = Passes o
+ReportTold n (other a) o = Passes o
+
+-- a report on some file: unless one of its lines is of another form, it is the report over the rows of its lines
+pub record FileReported (s : List ℕ) (o : Outcome) : Type 0 where
+  pub file : List ℕ
+  pub said : List SheetLine
+  pub says : LinesSay (inputLines file) said
+  pub unformed : 1 ≤ otherLine 1 said → Passes o
+  pub formed : otherLine 1 said ≡ 0 → (x : Reported) × (Answers (reportTable (shapeOf s) fnv s (sheetRows said)) x × ReportTold (length (sheetRows said)) x o)
+
+-- a report: no file could be read, or one was
 pub record ReportAsked (s : List ℕ) (o : Outcome) : Type 0 where
   pub reads : Untouched o
-  pub rows : (n : ℕ) → o ≡ Listed n → (fl : List ℕ) × ((x : Sums) × Reports s fl n (summed x))
+  pub asked : Passes o ⊎ FileReported s o
 
 -- the counts of the store s are filled in, and the answer is told
 pub record CountsAsked (s : List ℕ) (o : Outcome) (t : List ℕ) : Type 0 where

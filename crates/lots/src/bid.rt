@@ -1,18 +1,19 @@
 // The line `report SHEET`: the sheet read, the report asked, and its rows and sums told.
 ghost use mathlib.Core.Path.{_≡_};
-ghost use Prim.Native.Nat.{_+_, _*_, _≤_, _<_};
+ghost use Prim.Native.Nat.{_+_, _≤_, _<_};
 ghost use lib.ListN.{length, replicate};
 ghost use Rattle.partition.specs.Sizes.{shapeOf};
-ghost use Rattle.report.specs.Report.{limit, missing, summed};
+ghost use Rattle.report.specs.Report.{missing, summed};
 ghost use Rattle.lots.specs.Obeys.{Passes, ReportAsked};
-ghost use Rattle.lots.specs.Reports.{MarkedRows, Reports, RowGiven, Summable};
-use super::sheets;
+ghost use Rattle.lots.specs.Reports.{FileFormed, MarkedRows, OtherForm, Reports, RowGiven, RowRefused, Summable};
+use super::sheet_file;
 use crate::Outcome;
 use page::Place;
 use partition::Shape;
 use report::LIMIT;
 use report::NamedRow;
 use report::Sums;
+use sheets::Sheet;
 use store::Answer;
 use telling::say;
 
@@ -49,7 +50,9 @@ fn tell_many(word: &[u8], n: usize) -> bool
     say::text(&text[0..k])
 }
 
-fn tell_bad_row(l: usize) -> bool {
+fn tell_bad_row(s: &[u8], flat: &[u64], l: usize) -> bool
+    requires { ⌜ RowRefused (now s) (now flat) l ⌝ }
+{
     let mut text = [0u8; 100];
     let k = commands::bad_row_line(l, &mut text);
     say::text(&text[0..k])
@@ -69,7 +72,9 @@ fn tell_unread(number: usize) -> bool {
     say::text(&text[0..k])
 }
 
-fn tell_no_row(number: usize, l: usize) -> bool {
+fn tell_no_row(flat: &[u64], number: usize, l: usize) -> bool
+    requires { ⌜ OtherForm (now flat) l ⌝ }
+{
     let mut text = [0u8; 120];
     let k = commands::no_row_line(number, l, &mut text);
     say::text(&text[0..k])
@@ -159,14 +164,15 @@ fn passed(written: bool) -> Outcome
     Outcome::Unknown
 }
 
-// The report's answer on the sheet's numbers; `bad` is the line of the first row that breaks a rule.
-fn tell(s: &[u8], flat: &[u64], n: usize, bad: usize, number: usize) -> Outcome
-    requires { ⌜ length (now flat) ≡ 2 * limit ⌝ }
+// The report's answer on the rows of a file.
+fn tell(s: &[u8], flat: &[u64], z: Sheet, number: usize) -> Outcome
+    requires { ⌜ FileFormed z (now flat) ⌝ }
     ensures { λ r. ⌜ ReportAsked (now (s .entry)) r ⌝ }
 {
+    let n = z.rows;
     match report::judge(s, flat, n) {
         report::Outcome::Refused(r) => passed(say::answer(Answer::Refused(r), b"", number)),
-        report::Outcome::BadSheet => passed(tell_bad_row(bad)),
+        report::Outcome::BadSheet => passed(tell_bad_row(s, flat, z.bad)),
         report::Outcome::NotInSheet(p) => passed(tell_not_there(s, flat, n, p, number)),
         report::Outcome::Summed(x) => {
             if !tell_named(s, flat, n) {
@@ -184,13 +190,13 @@ fn tell(s: &[u8], flat: &[u64], n: usize, bad: usize, number: usize) -> Outcome
 pub fn ask(s: &[u8], name: &[u8], number: usize) -> Outcome
     ensures { λ r. ⌜ ReportAsked (now (s .entry)) r ⌝ }
 {
-    let mut flat = [0u64; 2 * LIMIT];
-    let z = sheets::load(name, &mut flat);
+    let mut flat = [9223372036854775808u64; 2 * LIMIT];
+    let z = sheet_file::load(name, &mut flat);
     if z.unread {
         return passed(tell_unread(number));
     }
     if z.wrong > 0 {
-        return passed(tell_no_row(number, z.wrong));
+        return passed(tell_no_row(&flat, number, z.wrong));
     }
-    tell(s, &flat, z.rows, z.bad, number)
+    tell(s, &flat, z, number)
 }

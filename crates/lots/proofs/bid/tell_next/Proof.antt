@@ -1,10 +1,15 @@
--- `lots::bid::tell_next` meets its contract: the row told is row i by its mark. Assumes nothing.
+-- `lots::bid::tell_next` meets its contract: the row told is row i of the file, as the listing names it. Assumes nothing.
 use mathlib.Core.List.{List}
 use mathlib.Core.Path.{sym, subst}
 use Prim.Native.Nat.{ℕ}
 use native.Mathlib.Omega.{arith}
 use denote.Ref.{now}
+use Rattle.hash.specs.Fnv.{fnv}
+use Rattle.partition.specs.Listing.{listing}
 use Rattle.report.specs.Named.{LaidSheet, TellsMark}
+use Rattle.sheets.specs.Files.{sheetRows}
+use Rattle.sheets.proofs.Told.{file-row-told}
+use Rattle.store.specs.Pages.{rowsHeld}
 use borrow.Author.Needs.{needs}
 use Rattle.lots.proofs.bid.tell_next.Statement.{statement}
 use Rattle.lots.proofs.bid.tell_next.Tie as tie
@@ -17,10 +22,13 @@ named-row-requires c κs =
 tell-row-requires : tie.Need-tell-row-requires
 tell-row-requires c κs =
     let s = c .before .before .before .before in
+    let o = s .pre .0 .over in
+    let S = s .args .z in
     record {
-      over = s .pre .0 .over;
+      over = o .over;
       below = s .pre .1;
-      tells = subst (λ (cs : List ℕ). TellsMark (now (s .args .flat)) cs (s .args .i) (c .named-row .result)) (s .pre .0 .are) (c .named-row .ensures);
+      tells = file-row-told (sheetRows (o .over .sheet .said)) (listing S fnv (rowsHeld S (now (s .args .s)))) (s .args .i) (o .sums) (c .named-row .result) (now (s .args .flat)) (s .args .n) (o .over .sheet .laid) (o .over .rows)
+          (s .pre .1) (o .markable .laid) (o .summed) (subst (λ (cs : List ℕ). TellsMark (now (s .args .flat)) cs (s .args .i) (c .named-row .result)) (s .pre .0 .are) (c .named-row .ensures));
     }
 
 add-result : tie.Need-add-result

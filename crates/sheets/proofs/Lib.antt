@@ -1,0 +1,6 @@
+pub mod Behind
+pub mod Breaks
+pub mod Added
+pub mod Read
+pub mod Answered
+pub mod Told
