@@ -197,7 +197,8 @@ fn next_lead(page: &[u8], f: usize, k: usize, lead: usize, w: usize) -> usize
     compared(page, k, w)
 }
 
-// The slots with their records, in one pass, each at k; lead tells of the code before. Each length is entered at its record's start: two that start at one byte have one entry, so that the walk meets too few.
+// The slots with their records, in one pass, each at k; lead tells of the code before.
+// Each length is entered at its record's start: two that start at one byte have one entry, so that the walk meets too few.
 fn slots_ok(page: &[u8], tab: &mut [u8], n: usize, f: usize) -> bool
     requires { ⌜ HeadKnown (now page) (now tab) n f ⌝ }
     ensures says { λ r. ⌜ Says r (SlotsOk (now (page .entry))) ⌝ }

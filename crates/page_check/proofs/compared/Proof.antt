@@ -1,11 +1,11 @@
 -- `page_check::compared` meets its contract. Assumes nothing.
 use Prim.Native.Nat.{ℕ, _+_, _-_, _/_, _%_, _≤_, _<_}
-use mathlib.Core.Path.{_≡_, refl}
+use mathlib.Core.Path.{_≡_}
 use native.Mathlib.Omega.{arith}
 use borrow.Author.Tests.{not-true, not-false}
 use borrow.Author.Needs.{needs}
 use Rattle.ground.proofs.Tests.{says-true, says-false}
-use Rattle.page_check.specs.Rules.{offOf, lenOf}
+use Rattle.page_check.specs.Rules.{lenOf}
 use Rattle.page_check.proofs.Sweep.{told-none}
 use Rattle.page_check.proofs.compared.Statement.{statement}
 use Rattle.page_check.proofs.compared.Tie as tie

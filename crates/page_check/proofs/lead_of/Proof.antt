@@ -1,5 +1,4 @@
 -- `page_check::lead_of` meets its contract. Assumes nothing.
-use mathlib.Core.Path.{refl, sym}
 use native.Mathlib.Omega.{arith}
 use borrow.Author.Needs.{needs}
 use Rattle.page_check.proofs.Firsts.{led-of, led-top}

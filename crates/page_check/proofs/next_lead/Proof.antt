@@ -1,13 +1,10 @@
 -- `page_check::next_lead` meets its contract. Assumes nothing.
-use Prim.Native.Nat.{ℕ, _+_, _-_, _/_, _%_, _≤_, _<_}
-use mathlib.Core.Path.{_≡_, subst}
-use mathlib.Core.List.{List}
+use Prim.Native.Nat.{_+_, _-_}
+use mathlib.Core.Path.{_≡_}
 use native.Mathlib.Omega.{arith}
 use borrow.Author.Needs.{needs}
 use lib.ListN.{length}
-use Rattle.ground.specs.Lists.{part}
-use Rattle.words.specs.Codes.{Before}
-use Rattle.page_check.specs.Rules.{WordOk, offOf, lenOf, prior, slotOf}
+use Rattle.page_check.specs.Rules.{WordOk, offOf, lenOf, slotOf}
 use Rattle.page_check.specs.Big.{Stretch}
 use Rattle.page_check.specs.Table.{NextOk, LeadOver}
 use Rattle.page_check.proofs.Sweep.{told-none}

@@ -1,16 +1,15 @@
 -- `page_check::no_sign` meets its contract. Assumes nothing.
 use native.Mathlib.Omega.{arith}
-use borrow.Author.Needs.{needs}
 use Rattle.ground.proofs.Tests.{says-eqb}
 use Rattle.page_check.specs.Rules.{NoSign}
 use Rattle.page_check.proofs.no_sign.Statement.{statement}
 use Rattle.page_check.proofs.no_sign.Tie as tie
 
 returns : tie.Need-returns
-returns c = search needs
+returns c = λ n. omega (arith, c .if1 .taken, n .page)
 
 returns-2 : tie.Need-returns-2
-returns-2 c = search needs
+returns-2 c = λ n. omega (arith, c .if2 .taken, n .slot)
 
 returns-3 : tie.Need-returns-3
 returns-3 c =
