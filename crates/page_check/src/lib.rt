@@ -390,7 +390,7 @@ pub fn hash_slot(page: &[u8], i: usize) -> u32
     hash::hash(page::code_at(page, i))
 }
 
-// The same where the code lies, by no call from the check's loop over the slots.
+// The same where the code lies: in the check's loop over the slots, its one caller, it becomes a part of the loop.
 pub fn hash_in_place(page: &[u8], i: usize) -> u32
     requires { ⌜ BucketPage (now page) × (i < count (now page)) ⌝ }
     ensures { λ r. ⌜ r ≡ fnv (code (now (page .entry)) i) ⌝ }
@@ -464,13 +464,12 @@ fn near_by_twos(page: &[u8], first: u32, m: u64) -> usize
     i
 }
 
-// The same where it pays: where the records, which begin at 8 and end at the frontier, have 32 bytes or more on the whole, and so the codes 24. Else slot 1, which is
-// as far as nothing was looked at.
+// The same where it pays: where the records, which lie before the frontier, have 48 bytes or more on the whole, and so the codes 40. Else 1: no slot is looked at.
 pub fn near_where_long(page: &[u8], first: u32, m: u64) -> usize
     requires { ⌜ BucketPage (now page) ⌝ }
     ensures { λ r. ⌜ NearUpTo (now (page .entry)) first m r ⌝ }
 {
-    if words::get16(page, 4) < 32 * words::get16(page, 2) {
+    if words::get16(page, 4) < 48 * words::get16(page, 2) {
         return 1;
     }
     near_by_twos(page, first, m)
