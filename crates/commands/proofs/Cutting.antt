@@ -15,7 +15,7 @@ use Rattle.ground.specs.Lists.{byte}
 use Rattle.ground.proofs.Sides.{side}
 use Rattle.page.specs.declared.Place.{Place}
 use Rattle.commands.specs.Numbers.{Integer}
-use Rattle.commands.specs.SheetLines.{kind, wordThen, cutFrom, wordsOf, Run, PassedOver, Writes, FitsRow, FourSay, LineSays}
+use Rattle.commands.specs.SheetLines.{kind, wordThen, cutFrom, wordsOf, KindRun, PassedOver, Writes, FitsRow, FourSay, LineSays}
 use Rattle.commands.specs.declared.SheetLine.{SheetLine}
 use Rattle.commands.specs.declared.SheetLine.the-variants.{Passed, Amount, Other}
 use Rattle.commands.proofs.Unread.{marked-long}
@@ -90,12 +90,12 @@ module _ (l : List ℕ) where
       (side r (length l))
 
   -- what one run of blanks and one of other bytes are
-  passed : (i a : ℕ) → Run 1 l i a → cutFrom [] (drop i l) ≡ cutFrom [] (drop a l)
+  passed : (i a : ℕ) → KindRun 1 l i a → cutFrom [] (drop i l) ≡ cutFrom [] (drop a l)
   passed i a r =
       let m : i + (a - i) ≡ a = omega (arith, r .from) in
       gap (a - i) i (omega (arith, m, r .within)) (λ j x y. r .each j x (omega (arith, y, m))) ∙ ap (λ (k : ℕ). cutFrom [] (drop k l)) m
 
-  pub next-word : (i a b : ℕ) → Run 1 l i a → Run 0 l a b → cutFrom [] (drop i l) ≡ wordThen (take (b - a) (drop a l)) (cutFrom [] (drop b l))
+  pub next-word : (i a b : ℕ) → KindRun 1 l i a → KindRun 0 l a b → cutFrom [] (drop i l) ≡ wordThen (take (b - a) (drop a l)) (cutFrom [] (drop b l))
   next-word i a b r s =
       let m : a + (b - a) ≡ b = omega (arith, s .from) in
       passed i a r
@@ -104,7 +104,7 @@ module _ (l : List ℕ) where
       ∙ stop b (take (b - a) (drop a l)) (s .within) (λ h. kind-one (byte l b) (s .stops h))
 
   -- a word that ends before the line does is not empty
-  pub filled : (i a b : ℕ) → Run 1 l i a → Run 0 l a b → b < length l → 1 ≤ length (take (b - a) (drop a l))
+  pub filled : (i a b : ℕ) → KindRun 1 l i a → KindRun 0 l a b → b < length l → 1 ≤ length (take (b - a) (drop a l))
   filled i a b r s h =
       let k : a < b = ⊎-elim (λ (x : a < b). x)
       (λ (x : b ≤ a).
@@ -134,7 +134,7 @@ zero-when false true z n = absurd (n refl)
 zero-when false false true n = absurd (n refl)
 zero-when false false false n = refl
 
-pub opening : (l : List ℕ) (i a : ℕ) → Run 1 l i a → a < length l → Opens (byte l a) (cutFrom [] (drop i l))
+pub opening : (l : List ℕ) (i a : ℕ) → KindRun 1 l i a → a < length l → Opens (byte l a) (cutFrom [] (drop i l))
 opening l i a r h = subst (Opens (byte l a)) (sym e) (opens (byte l a) [] (drop (suc a) l))
   where
     e : cutFrom [] (drop i l) ≡ cutFrom (byte l a ∷ []) (drop (suc a) l)
@@ -160,7 +160,7 @@ integer-some z w i = omega (arith, ap length (i .text), marked-long (i .minus) (
 
 -- ---- the line
 
-module _ (l : List ℕ) (a : ℕ) (ra : Run 1 l 0 a) where
+module _ (l : List ℕ) (a : ℕ) (ra : KindRun 1 l 0 a) where
   pub nothing-said : length l ≤ a → LineSays l Passed
   nothing-said h =
       let m : a ≡ length l = omega (arith, ra .within) in
@@ -174,7 +174,7 @@ module _ (l : List ℕ) (a : ℕ) (ra : Run 1 l 0 a) where
     spoken (inl e) = let o = opening l 0 a ra h in let f : 0 ≡ suc (length (o .1 .0)) = ap (λ (v : List (List ℕ)). length v) (sym e ∙ o .1 .1) in omega arith
     spoken (inr r) = let o = opening l 0 a ra h in let f : (byte l a ∷ o .0) ∷ o .1 .0 ≡ r .word ∷ r .rest = sym (o .1 .1) ∙ r .words in let g : byte l a ∷ o .0 ≡ r .word = cc in n (ap (λ (v : List ℕ). byte v 0) g ∙ r .opens)
 
-    module _ (b c d e f g k j : ℕ) (rb : Run 0 l a b) (rc : Run 1 l b c) (rd : Run 0 l c d) (re : Run 1 l d e) (rf : Run 0 l e f) (rg : Run 1 l f g) (rk : Run 0 l g k) (rj : Run 1 l k j) where
+    module _ (b c d e f g k j : ℕ) (rb : KindRun 0 l a b) (rc : KindRun 1 l b c) (rd : KindRun 0 l c d) (re : KindRun 1 l d e) (rf : KindRun 0 l e f) (rg : KindRun 1 l f g) (rk : KindRun 0 l g k) (rj : KindRun 1 l k j) where
       abbrev w1 : List ℕ
       w1 = take (b - a) (drop a l)
 

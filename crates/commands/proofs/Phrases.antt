@@ -6,10 +6,10 @@ use native.Mathlib.Numerals.{add-one}
 use native.Mathlib.Omega.{arith}
 use lib.ListN.{length, take, drop, length-drop}
 use lib.Seq.{split-at, take-all}
-use Rattle.commands.specs.Lines.{FirstSpace, After, Means}
+use Rattle.commands.specs.Lines.{FirstSpace, BehindWord, Means}
 use Rattle.commands.specs.declared.Command.{Command}
 
-pub after-word : (P : List ℕ → Type 0) (v word rest : List ℕ) → v ≡ word → P rest → After (v ++ (32 ∷ rest)) word P
+pub after-word : (P : List ℕ → Type 0) (v word rest : List ℕ) → v ≡ word → P rest → BehindWord (v ++ (32 ∷ rest)) word P
 after-word P v word rest e p = record { rest = rest; line = ap (λ (x : List ℕ). x ++ (32 ∷ rest)) e; says = p }
 
 -- the parts before and after a space

@@ -19,7 +19,7 @@ use Rattle.commands.specs.declared.Command.{Command}
 use Rattle.commands.specs.declared.Command.the-variants.{Nothing, Unknown, Format, Put, Lookup, Remove, Count, Row, Listing, Check, Counts, Inspect, Report}
 use Rattle.commands.specs.Numbers.{Decimal, Integer, ReadsNumber}
 use Rattle.commands.specs.Codes.{Spells, Coded}
-use Rattle.commands.specs.Lines.{Spaceless, After, Placed, Places, Putting, PagesOf, Paged, Asks, WithinLimits, AsksNothing, Spoken, Uncoded, formatWord, putWord, addWord, moveWord, PutBy, lookupWord, removeWord, countWord, rowWord, listWord, checkWord, countsWord, inspectWord, reportWord}
+use Rattle.commands.specs.Lines.{Spaceless, BehindWord, Placed, Places, Putting, PagesOf, Paged, Asks, WithinLimits, AsksNothing, Spoken, Uncoded, formatWord, putWord, addWord, moveWord, PutBy, lookupWord, removeWord, countWord, rowWord, listWord, checkWord, countsWord, inspectWord, reportWord}
 use Rattle.commands.proofs.Unread.{split-one, no-space, digits-spaceless, integer-spaceless, spells-spaceless}
 
 -- ---- places
@@ -118,7 +118,7 @@ On w r j Report = (w ≡ reportWord) × Unit {0}
 On w r j Unknown = ⊥
 
 module _ (w r : List ℕ) (f : Spaceless w) (s : Spoken (w ++ (32 ∷ r))) where
-  word-is : (v : List ℕ) (P : List ℕ → Type 0) → clear v ≡ true → After (w ++ (32 ∷ r)) v P → (w ≡ v) × P r
+  word-is : (v : List ℕ) (P : List ℕ → Type 0) → clear v ≡ true → BehindWord (w ++ (32 ∷ r)) v P → (w ≡ v) × P r
   word-is v P c a = let e = split-one w v r (a .rest) f (of-clear v c) (a .line) in (e .0, subst P (sym (e .1)) (a .says))
 
   on : (j : List ℕ) (c : Command) → Asks (w ++ (32 ∷ r)) j c → On w r j c

@@ -26,7 +26,7 @@ abbrev pub Spaceless : List ℕ → Type 0
 Spaceless w = (k : ℕ) → k < length w → byte w k ≡ 32 → ⊥
 
 -- l is a word, a space, and a rest of which P holds
-pub record After (l word : List ℕ) (P : List ℕ → Type 0) : Type 0 where
+pub record BehindWord (l word : List ℕ) (P : List ℕ → Type 0) : Type 0 where
   pub rest : List ℕ
   pub line : l ≡ word ++ (32 ∷ rest)
   pub says : P rest
@@ -49,14 +49,14 @@ Places w Nowhere = (p : Place) → InRange p → Placed Integer p w → ⊥
 -- w is a code, the first n bytes of k, and a place
 pub record Putting (k : List ℕ) (n : ℕ) (p : Place) (w : List ℕ) : Type 0 where
   pub code : List ℕ
-  pub after : After w code (Placed Integer p)
+  pub after : BehindWord w code (Placed Integer p)
   pub coded : Coded code k n
 
 -- w is a number of pages and their size
 pub record PagesOf (n size : ℕ) (w : List ℕ) : Type 0 where
   pub pages : List ℕ
   pub are : Decimal n pages
-  pub after : After w pages (Decimal size)
+  pub after : BehindWord w pages (Decimal size)
 
 -- w is a number of pages, which are of 1,024 bytes where it has no size
 abbrev pub Paged : ℕ → ℕ → List ℕ → Type 0
@@ -86,7 +86,7 @@ PutBy w m = ((m ≡ 0) × (w ≡ putWord)) ⊎ (((m ≡ 1) × (w ≡ addWord)) �
 pub record PutLine (k : List ℕ) (n : ℕ) (p : Place) (m : ℕ) (l : List ℕ) : Type 0 where
   pub word : List ℕ
   pub by : PutBy word m
-  pub line : After l word (Putting k n p)
+  pub line : BehindWord l word (Putting k n p)
 
 -- "lookup"
 abbrev pub lookupWord : List ℕ
@@ -127,17 +127,17 @@ reportWord = 114 ∷ 101 ∷ 112 ∷ 111 ∷ 114 ∷ 116 ∷ []
 -- the line l asks the command; k begins with its code
 abbrev pub Asks : List ℕ → List ℕ → Command → Type 0
 Asks l k Nothing = (length l ≡ 0) ⊎ (byte l 0 ≡ 35)
-Asks l k (Format n size) = After l formatWord (Paged n size)
+Asks l k (Format n size) = BehindWord l formatWord (Paged n size)
 Asks l k (Put n p m) = PutLine k n p m l
-Asks l k (Lookup n) = After l lookupWord (λ w. Coded w k n)
-Asks l k (Remove n) = After l removeWord (λ w. Coded w k n)
+Asks l k (Lookup n) = BehindWord l lookupWord (λ w. Coded w k n)
+Asks l k (Remove n) = BehindWord l removeWord (λ w. Coded w k n)
 Asks l k Count = l ≡ countWord
-Asks l k (Row n) = After l rowWord (Decimal n)
+Asks l k (Row n) = BehindWord l rowWord (Decimal n)
 Asks l k Listing = l ≡ listWord
 Asks l k Check = l ≡ checkWord
 Asks l k Counts = l ≡ countsWord
-Asks l k (Inspect n) = After l inspectWord (Decimal n)
-Asks l k Report = After l reportWord (λ w. Unit {0})
+Asks l k (Inspect n) = BehindWord l inspectWord (Decimal n)
+Asks l k Report = BehindWord l reportWord (λ w. Unit {0})
 Asks l k Unknown = ⊥
 
 -- no number is too large for its field

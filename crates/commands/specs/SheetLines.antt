@@ -34,7 +34,7 @@ abbrev pub wordsOf : List ℕ → List (List ℕ)
 wordsOf l = cutFrom [] l
 
 -- the bytes from i up to r are of the kind k, and the one at r, if there is one, is not
-pub record Run (k : ℕ) (l : List ℕ) (i r : ℕ) : Type 0 where
+pub record KindRun (k : ℕ) (l : List ℕ) (i r : ℕ) : Type 0 where
   pub from : i ≤ r
   pub within : r ≤ length l
   pub each : (j : ℕ) → i ≤ j → j < r → kind (byte l j) ≡ k

@@ -2,7 +2,7 @@
 ghost use mathlib.Core.Path.{_≡_};
 ghost use Prim.Native.Nat.{_≤_};
 ghost use lib.ListN.{length};
-ghost use Rattle.commands.specs.SheetLines.{kind, Run, FourSay, LineSays};
+ghost use Rattle.commands.specs.SheetLines.{kind, KindRun, FourSay, LineSays};
 use super::lines::narrow16;
 use super::lines::narrow32;
 use super::numbers::read_signed;
@@ -29,7 +29,7 @@ fn kind_of(b: u8) -> u8
 // Where the bytes of one kind end that begin at i.
 fn run_end(line: &[u8], i: usize, want: u8) -> usize
     requires { ⌜ i ≤ length (now line) ⌝ }
-    ensures { λ r. ⌜ Run want (now (line .entry)) i r ⌝ }
+    ensures { λ r. ⌜ KindRun want (now (line .entry)) i r ⌝ }
 {
     let mut j = i;
     while j < line.len() {

@@ -25,7 +25,7 @@ use Rattle.store.specs.Pages.{Page, free, read, asRow, rowsOn, rowsIn}
 use Rattle.store.specs.Moves.{pick, within, record-at, frontierOf, atFrontier}
 use Rattle.store.proofs.Accepted.Unique.{read-used}
 use Rattle.store.proofs.Paging.PageTies.{rows-tab, page-needs, page-order, page-frontier, inserted-rows, found-at}
-use Rattle.joining.specs.Join.{Housed, Tight, Taking, Gathered, Storable, rowOf, rowsAt, othersIn}
+use Rattle.joining.specs.Join.{Housed, Tight, Taking, Gathered, Storable, rowWith, rowsAt, othersIn}
 
 -- ---- rows left out of lists
 
@@ -112,9 +112,9 @@ front-insert r (q ∷ l) = go (order (r .code) (q .code)) (front-insert r l)
     go Ordering·eq e = refl
     go Ordering·gt e = omega (arith, e)
 
-module _ (p c pl : List ℕ) (K : Storable c pl) (T : Taking p (rowOf c pl ∷ [])) where
+module _ (p c pl : List ℕ) (K : Storable c pl) (T : Taking p (rowWith c pl ∷ [])) where
   abbrev r : Row
-  r = rowOf c pl
+  r = rowWith c pl
 
   P : Slotted p
   P = T .tight .page
@@ -171,7 +171,7 @@ module _ (p c pl : List ℕ) (K : Storable c pl) (T : Taking p (rowOf c pl ∷ [
 
 -- the row of slot i, which may be stored
 abbrev pub rowIn : List ℕ → ℕ → Row
-rowIn g i = rowOf (code g i) (place g i)
+rowIn g i = rowWith (code g i) (place g i)
 
 pub slot-storable : (g : List ℕ) (i : ℕ) → Slotted g → i < count g → Storable (code g i) (place g i)
 slot-storable g i P l = record {

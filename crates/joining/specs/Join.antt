@@ -50,8 +50,8 @@ pub record Storable (c pl : List ℕ) : Type 0 where
   pub good : GoodCode c
   pub natural : Natural pl
 
-abbrev pub rowOf : List ℕ → List ℕ → Row
-rowOf c pl = record { code = c; place = pl }
+abbrev pub rowWith : List ℕ → List ℕ → Row
+rowWith c pl = record { code = c; place = pl }
 
 -- ---- rows of another code than c
 
@@ -61,7 +61,7 @@ others c rs = without (λ q. q .code) c rs
 
 -- slot i's row, if it is one
 abbrev pub otherAt : List ℕ → List ℕ → ℕ → List Row
-otherAt c g i = others c (rowOf (code g i) (place g i) ∷ [])
+otherAt c g i = others c (rowWith (code g i) (place g i) ∷ [])
 
 -- slot i of g, and room on p for its row if it is one
 pub record SlotTaking (p g : List ℕ) (i : ℕ) (c : List ℕ) : Type 0 where

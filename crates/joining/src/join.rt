@@ -9,7 +9,7 @@ ghost use Rattle.page.specs.Page.{Slotted, count, code};
 ghost use Rattle.partition.specs.Bits.{top};
 ghost use Rattle.store.specs.Pages.{size as sizeOf, page as pageOf, contents, setPage};
 ghost use Rattle.store.specs.Moves.{find, within};
-ghost use Rattle.joining.specs.Join.{Taking, Gathered, Storable, rowOf, rowsAt, others, otherAt, SlotTaking, PageTaking, othersIn};
+ghost use Rattle.joining.specs.Join.{Taking, Gathered, Storable, rowWith, rowsAt, others, otherAt, SlotTaking, PageTaking, othersIn};
 ghost use Rattle.joining.specs.Join.{Used, Emptied, JoinCounted, Rejoined};
 ghost use Rattle.counts.specs.Tallies.{BucketsCounted};
 use page::Found;
@@ -18,8 +18,8 @@ use words::Order;
 
 // A new row goes to a page at the frontier, its slot in code order.
 fn gather_row(to: &mut [u8], key: &[u8], place: &[u8])
-    requires { ⌜ Storable (now key) (now place) × Taking (now to) (rowOf (now key) (now place) ∷ []) ⌝ }
-    ensures { λ _. ⌜ Gathered (now (to .entry)) (rowOf (now (key .entry)) (now (place .entry)) ∷ []) (now (to .exit)) ⌝ }
+    requires { ⌜ Storable (now key) (now place) × Taking (now to) (rowWith (now key) (now place) ∷ []) ⌝ }
+    ensures { λ _. ⌜ Gathered (now (to .entry)) (rowWith (now (key .entry)) (now (place .entry)) ∷ []) (now (to .exit)) ⌝ }
 {
     match page::find_code(to, key) {
         Found::At(_) => {}

@@ -12,7 +12,7 @@ use Rattle.ground.specs.Lists.{byte}
 use Rattle.page.specs.declared.Place.{Place}
 use Rattle.commands.specs.Numbers.{Decimal, Integer, marked, signed}
 use Rattle.commands.specs.Codes.{Hex, Spells, none, plain, escaped, Coded}
-use Rattle.commands.specs.Lines.{After, Placed, PutBy, PutLine, Putting}
+use Rattle.commands.specs.Lines.{BehindWord, Placed, PutBy, PutLine, Putting}
 use Rattle.commands.proofs.Unread.{split-one, integer-spaceless, spells-spaceless}
 use Rattle.commands.specs.declared.Command.the-variants.{Put}
 use Rattle.lots.proofs.OneCommand.{asks-one}
@@ -85,11 +85,11 @@ rest-one [] r t e = cc
 rest-one (x ∷ w) r t e = let f : w ++ (32 ∷ r) ≡ w ++ (32 ∷ t) = cc in rest-one w r t f
 
 -- row and inspect: one number
-pub number-one : (l w : List ℕ) (n m : ℕ) → After l w (Decimal n) → After l w (Decimal m) → n ≡ m
+pub number-one : (l w : List ℕ) (n m : ℕ) → BehindWord l w (Decimal n) → BehindWord l w (Decimal m) → n ≡ m
 number-one l w n m a b = let e = rest-one w (a .rest) (b .rest) (sym (a .line) ∙ b .line) in decimal-one n m (b .rest) (subst (Decimal n) e (a .says)) (b .says)
 
 -- lookup and remove: one code
-pub code-one : (l w k j : List ℕ) (n m : ℕ) → After l w (λ v. Coded v k n) → After l w (λ v. Coded v j m) → SameCode k n j m
+pub code-one : (l w k j : List ℕ) (n m : ℕ) → BehindWord l w (λ v. Coded v k n) → BehindWord l w (λ v. Coded v j m) → SameCode k n j m
 code-one l w k j n m a b =
     let e = rest-one w (a .rest) (b .rest) (sym (a .line) ∙ b .line) in
     coded-one (b .rest) k j n m (subst (λ v. Coded v k n) e (a .says)) (b .says)

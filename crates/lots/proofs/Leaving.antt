@@ -40,7 +40,7 @@ use Rattle.lots.specs.declared.Session.{Session}
 use Rattle.lots.specs.Known.{Known}
 use Rattle.filling.specs.Filling.{fillTable}
 use Rattle.filling.proofs.Laws.{fill-laws, fill-done}
-use Rattle.lots.specs.Obeys.{Outcomes, Passes, TellsOnly, Numbers, Untouched, ListAsked, PageAsked, InspectAsked, Does, Obeys}
+use Rattle.lots.specs.Obeys.{Outcomes, Passes, TellsOnly, TellsNumber, Untouched, ListAsked, PageAsked, InspectAsked, Does, Obeys}
 use Rattle.store.proofs.Demands.Unchecked.{check-says}
 use Rattle.lots.specs.Sessions.{Leaves, After, Alike, AsRead, Changes, Learnt, SessionHolds, Kept}
 
@@ -192,7 +192,7 @@ reads-untouched a (Listed n) p = tt
 reads-untouched a (Changed x) p = p
 reads-untouched a (Formats n size) p = p
 
-numbers-untouched : (n : ℕ) (o : Outcome) → Numbers n o → Untouched o
+numbers-untouched : (n : ℕ) (o : Outcome) → TellsNumber n o → Untouched o
 numbers-untouched n NotKnown p = tt
 numbers-untouched n Stopped p = tt
 numbers-untouched n Silent p = tt

@@ -18,7 +18,7 @@ use Rattle.sheets.proofs.Read.{says-one}
 use Rattle.text_lines.specs.Ends.{inputLines}
 use Rattle.lots.specs.declared.Outcome.{Outcome}
 use Rattle.lots.specs.declared.Outcome.the-variants.{Silent, Unknown as NotKnown, Told, Changed, Listed, Format as Formats, Stopped}
-use Rattle.lots.specs.Obeys.{Passes, Numbers, ReportTold, FileReported}
+use Rattle.lots.specs.Obeys.{Passes, TellsNumber, ReportTold, FileReported}
 
 -- the same, unless an answer could not be written
 abbrev AsTold : Outcome → Outcome → Type 0
@@ -39,7 +39,7 @@ passes-one (Listed m) p a b = absurd a
 passes-one (Changed x) p a b = absurd a
 passes-one (Formats m size) p a b = absurd a
 
-numbers-one : (n : ℕ) (o p : Outcome) → Numbers n o → Numbers n p → AsTold o p
+numbers-one : (n : ℕ) (o p : Outcome) → TellsNumber n o → TellsNumber n p → AsTold o p
 numbers-one n Stopped p a b = inl refl
 numbers-one n (Listed m) Stopped a b = inr (inl refl)
 numbers-one n (Listed m) (Listed k) a b = inr (inr (ap Listed (a ∙ sym b)))

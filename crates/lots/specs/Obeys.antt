@@ -66,14 +66,14 @@ Outcomes a (Listed n) = ⊥
 Outcomes a (Formats n size) = ⊥
 
 -- n rows, and their number
-abbrev pub Numbers : ℕ → Outcome → Type 0
-Numbers n (Listed m) = m ≡ n
-Numbers n Stopped = Unit {0}
-Numbers n Silent = ⊥
-Numbers n NotKnown = ⊥
-Numbers n (Told x) = ⊥
-Numbers n (Changed x) = ⊥
-Numbers n (Formats m size) = ⊥
+abbrev pub TellsNumber : ℕ → Outcome → Type 0
+TellsNumber n (Listed m) = m ≡ n
+TellsNumber n Stopped = Unit {0}
+TellsNumber n Silent = ⊥
+TellsNumber n NotKnown = ⊥
+TellsNumber n (Told x) = ⊥
+TellsNumber n (Changed x) = ⊥
+TellsNumber n (Formats m size) = ⊥
 
 -- the call c made t of the store s, and its answer is told
 pub record Written (c : Call) (s : List ℕ) (o : Outcome) (t : List ℕ) : Type 0 where
@@ -98,7 +98,7 @@ pub record ListAsked (s : List ℕ) (o : Outcome) : Type 0 where
   pub answer : Out
   pub made : Made (shapeOf s) fnv check s answer s
   pub refused : ok answer ≡ false → TellsOnly answer o
-  pub rows : ok answer ≡ true → Numbers (length (listing (shapeOf s) fnv (rowsHeld (shapeOf s) s))) o
+  pub rows : ok answer ≡ true → TellsNumber (length (listing (shapeOf s) fnv (rowsHeld (shapeOf s) s))) o
 
 -- r is the length of the store's pages, as it says itself; one too short to say it has no page
 pub record PageLength (s : List ℕ) (r : ℕ) : Type 0 where
@@ -116,7 +116,7 @@ pub record SlotAsked (g : List ℕ) (n : ℕ) (a : Out) : Type 0 where
 -- the page g is refused as inspection refuses it, or it has so many rows
 pub record PageAsked (g : List ℕ) (o : Outcome) : Type 0 where
   pub refused : (PageKeeps (shapeFor (length g)) fnv g → ⊥) → TellsOnly (refusedAt 2 0) o
-  pub rows : PageKeeps (shapeFor (length g)) fnv g → Numbers (length (rowsOn (read g))) o
+  pub rows : PageKeeps (shapeFor (length g)) fnv g → TellsNumber (length (rowsOn (read g))) o
 
 -- the store has a page p, at the size that it says
 pub record HasPage (s : List ℕ) (p : ℕ) : Type 0 where
@@ -130,7 +130,7 @@ pub record InspectAsked (p : ℕ) (s : List ℕ) (o : Outcome) : Type 0 where
 
 -- a report over n rows that answers x: the sums come with the number of rows, any other answer is a refusal
 abbrev pub ReportTold : ℕ → Reported → Outcome → Type 0
-ReportTold n (summed x) o = Numbers n o
+ReportTold n (summed x) o = TellsNumber n o
 ReportTold n (missing p) o = Passes o
 ReportTold n (other a) o = Passes o
 

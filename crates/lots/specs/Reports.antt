@@ -11,7 +11,7 @@ use Rattle.partition.specs.Listing.{listing}
 use Rattle.partition.specs.Sizes.{shapeOf}
 use Rattle.report.specs.declared.NamedRow.{NamedRow}
 use Rattle.report.specs.declared.Sums.{Sums}
-use Rattle.report.specs.Named.{Markable, TellsRow}
+use Rattle.report.specs.Named.{Markable, TellsSheetRow}
 use Rattle.report.specs.Numbers.{ranksOf, raisedOf, spreadFrom, SumsOf}
 use Rattle.report.specs.Report.{limit, sheetRow, Reported, other, reportTable}
 use Rattle.sheets.specs.declared.Sheet.{Sheet}
@@ -102,4 +102,4 @@ pub record MarkedRows (S : Shape) (s fl : List ℕ) (n : ℕ) (cs : List ℕ) : 
 pub record RowGiven (S : Shape) (s fl : List ℕ) (n i : ℕ) (r : NamedRow) : Type 0 where
   pub over : FileRows fl n
   pub below : i < n
-  pub tells : TellsRow (listing S fnv (rowsHeld S s)) (sheetRow (sheetRows (over .sheet .said)) i) r
+  pub tells : TellsSheetRow (listing S fnv (rowsHeld S s)) (sheetRow (sheetRows (over .sheet .said)) i) r

@@ -7,7 +7,7 @@ ghost use Rattle.partition.specs.Sizes.{size, shapeFor};
 ghost use Rattle.store.specs.Tables.{meaning};
 ghost use Rattle.lots.specs.Known.{Known};
 ghost use Rattle.telling.specs.Told.{AllTold};
-ghost use Rattle.lots.specs.Obeys.{InspectAsked, ListAsked, Numbers, Obeys, Outcomes, PageAsked, PageLength, Passes, RowAsked, SlotAsked, TellsOnly, Untouched};
+ghost use Rattle.lots.specs.Obeys.{InspectAsked, ListAsked, TellsNumber, Obeys, Outcomes, PageAsked, PageLength, Passes, RowAsked, SlotAsked, TellsOnly, Untouched};
 use super::bid;
 use super::faults;
 use super::known::check_known;
@@ -53,7 +53,7 @@ pub fn unknown(f: Fault, number: usize) -> Outcome
 
 // The number of rows, after they are told.
 fn listed(t: ToldRows) -> Outcome
-    ensures { λ r. ⌜ ((n : ℕ) → AllTold n t → Numbers n r) ⌝ }
+    ensures { λ r. ⌜ ((n : ℕ) → AllTold n t → TellsNumber n r) ⌝ }
 {
     match t {
         ToldRows::All(n) => {

@@ -13,9 +13,9 @@ use Rattle.words.proofs.Zeros.{or-zero, zero-or}
 use Rattle.partition.specs.Bits.{top}
 use Rattle.partition.proofs.Bits.{top-is, xor-zero}
 use Rattle.page.specs.Page.{depth}
-use Rattle.page_check.specs.Shared.{Alike, Share}
+use Rattle.page_check.specs.Shared.{AllShare, Share}
 
-pub share-all : (h : List ℕ → ℕ) (p : List ℕ) → Alike h p (depth p) → Share h p
+pub share-all : (h : List ℕ → ℕ) (p : List ℕ) → AllShare h p (depth p) → Share h p
 share-all h p e i j l m = sym (e i l) ∙ e j m
 
 -- the differences to x of f 0 to f (n - 1), or-ed, have no bit in the prefix of k bits just where all have that of x

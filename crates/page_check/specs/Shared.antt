@@ -11,8 +11,8 @@ use Rattle.partition.specs.Bits.{top}
 use Rattle.page.specs.Page.{BucketPage, depth, count, code}
 
 -- the hashes share their first k bits with the first
-abbrev pub Alike : (List ℕ → ℕ) → List ℕ → ℕ → Type 0
-Alike h p k = (i : ℕ) → i < count p → top k (h (code p 0)) ≡ top k (h (code p i))
+abbrev pub AllShare : (List ℕ → ℕ) → List ℕ → ℕ → Type 0
+AllShare h p k = (i : ℕ) → i < count p → top k (h (code p 0)) ≡ top k (h (code p i))
 
 -- the hashes share the first local-depth bits
 abbrev pub Share : (List ℕ → ℕ) → List ℕ → Type 0

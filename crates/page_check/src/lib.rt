@@ -16,7 +16,7 @@ ghost use Rattle.page_check.specs.Rules.{HeadOk, NaturalAt, NoSign, Slot
 ghost use Rattle.page_check.specs.Table.{Table, HeadKnown, Tabled, Inside, Laid, Pair, Turn, LeadOver, NextTold};
 ghost use Rattle.page_check.specs.Marks.{Marked, NoCapital, Halves};
 ghost use Rattle.page_check.specs.Big.{Bytes4, Bytes8, big, Stretch, Led};
-ghost use Rattle.page_check.specs.Shared.{PageOk, FirstHash, LentTable, Alike, Share, Keeps, NearUpTo};
+ghost use Rattle.page_check.specs.Shared.{PageOk, FirstHash, LentTable, AllShare, Share, Keeps, NearUpTo};
 use hash::Hashes;
 use words::Order;
 
@@ -478,7 +478,7 @@ pub fn near_where_long(page: &[u8], first: u32, m: u64) -> usize
 // Whether the hashes of a bucket page, the first of them given, share their first k bits: their differences or-ed have none there.
 fn alike(page: &[u8], first: u32, k: u8) -> bool
     requires { ⌜ FirstHash (now page) first k ⌝ }
-    ensures { λ r. ⌜ Says r (Alike fnv (now (page .entry)) k) ⌝ }
+    ensures { λ r. ⌜ Says r (AllShare fnv (now (page .entry)) k) ⌝ }
 {
     let n = words::get16(page, 2);
     let mut acc: u32 = 0;

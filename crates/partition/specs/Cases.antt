@@ -13,9 +13,9 @@ use Rattle.partition.specs.Partition.{Row, S1024, Prefix, needs, buckets
 use Rattle.partition.specs.Listing.{Once}
 
 -- n rows that need k bytes each: their codes begin with the bytes b, b + 1, .. , so no code is there twice
-abbrev pub rows : ℕ → ℕ → ℕ → List Row
-rows zero k b = []
-rows (suc n) k b = record { code = b ∷ replicate (k - 13) 0; place = replicate 8 0 } ∷ rows n k (suc b)
+abbrev pub rowsNeeding : ℕ → ℕ → ℕ → List Row
+rowsNeeding zero k b = []
+rowsNeeding (suc n) k b = record { code = b ∷ replicate (k - 13) 0; place = replicate 8 0 } ∷ rowsNeeding n k (suc b)
 
 -- the hash chosen: a code that begins with the byte 80 + i has bit i, counted from the top, and no other; one that begins with a byte below 80 has none
 abbrev pub chosen : List ℕ → ℕ
@@ -62,22 +62,22 @@ c = 99 ∷ []
 
 -- rows at 000000, whose codes begin with the bytes from 0 on, and rows whose hash has one bit: at 1, 01, 001, ..
 abbrev pub thirteen : List Row
-thirteen = rows 13 76 0
+thirteen = rowsNeeding 13 76 0
 
 abbrev pub at-1 : List Row
-at-1 = rows 1 76 80
+at-1 = rowsNeeding 1 76 80
 
 abbrev pub at-01 : List Row
-at-01 = rows 1 76 81
+at-01 = rowsNeeding 1 76 81
 
 abbrev pub ladder : List Row
-ladder = rows 6 13 80 ++ rows 72 13 0
+ladder = rowsNeeding 6 13 80 ++ rowsNeeding 72 13 0
 
 abbrev pub large : Row
 large = record { code = 72 ∷ replicate 63 0; place = replicate 8 0 }
 
-abbrev pub named : ℕ → ℕ → ℕ → List (Option Prefix)
-named n k v = replicate n (some (pre k v))
+abbrev pub entriesNaming : ℕ → ℕ → ℕ → List (Option Prefix)
+entriesNaming n k v = replicate n (some (pre k v))
 
 abbrev pub table : List Case
 table =
@@ -91,39 +91,39 @@ table =
     ∷ sharing a b 6
     ∷ sharing b c 7
     -- 4
-    ∷ needing (rows 13 76 0) 988 true
-    ∷ needing (rows 14 76 0) 1064 false
-    ∷ needing (rows 78 13 0) 1014 true
-    ∷ needing (rows 79 13 0) 1027 false
+    ∷ needing (rowsNeeding 13 76 0) 988 true
+    ∷ needing (rowsNeeding 14 76 0) 1064 false
+    ∷ needing (rowsNeeding 78 13 0) 1014 true
+    ∷ needing (rowsNeeding 79 13 0) 1027 false
     -- 5
-    ∷ parting (thirteen ++ at-01) (pre 2 0b00 ∷ pre 2 0b01 ∷ []) 2 (named 1 2 0b00 ++ named 1 2 0b01 ++ (none ∷ none ∷ []))
+    ∷ parting (thirteen ++ at-01) (pre 2 0b00 ∷ pre 2 0b01 ∷ []) 2 (entriesNaming 1 2 0b00 ++ entriesNaming 1 2 0b01 ++ (none ∷ none ∷ []))
     -- 6
-    ∷ parting (thirteen ++ at-01 ++ at-1) (pre 2 0b00 ∷ pre 2 0b01 ∷ pre 1 0b1 ∷ []) 2 (named 1 2 0b00 ++ named 1 2 0b01 ++ named 2 1 0b1)
+    ∷ parting (thirteen ++ at-01 ++ at-1) (pre 2 0b00 ∷ pre 2 0b01 ∷ pre 1 0b1 ∷ []) 2 (entriesNaming 1 2 0b00 ++ entriesNaming 1 2 0b01 ++ entriesNaming 2 1 0b1)
     -- 7
-    ∷ parting (thirteen ++ at-1) (pre 1 0b0 ∷ pre 1 0b1 ∷ []) 1 (named 1 1 0b0 ++ named 1 1 0b1)
+    ∷ parting (thirteen ++ at-1) (pre 1 0b0 ∷ pre 1 0b1 ∷ []) 1 (entriesNaming 1 1 0b0 ++ entriesNaming 1 1 0b1)
     -- 8
-    ∷ parting thirteen (pre 0 0 ∷ []) 0 (named 1 0 0)
+    ∷ parting thirteen (pre 0 0 ∷ []) 0 (entriesNaming 1 0 0)
     -- 9
-    ∷ parting ladder (pre 0 0 ∷ []) 0 (named 1 0 0)
+    ∷ parting ladder (pre 0 0 ∷ []) 0 (entriesNaming 1 0 0)
     ∷ parting (large ∷ ladder) (pre 6 0 ∷ pre 6 1 ∷ pre 5 1 ∷ pre 4 1 ∷ pre 3 1 ∷ pre 2 1 ∷ pre 1 1 ∷ []) 6
-    (named 1 6 0 ++ named 1 6 1 ++ named 2 5 1 ++ named 4 4 1 ++ named 8 3 1 ++ named 16 2 1 ++ named 32 1 1)
+    (entriesNaming 1 6 0 ++ entriesNaming 1 6 1 ++ entriesNaming 2 5 1 ++ entriesNaming 4 4 1 ++ entriesNaming 8 3 1 ++ entriesNaming 16 2 1 ++ entriesNaming 32 1 1)
     ∷ growing large ladder 1 6
     ∷ []
 
 -- The edges that these leave open: rows that need just 1,016 are a bucket and of 1,017 none; the eighth bit parts rows that do not fit, into buckets of
 -- depth 8; where rows that share 8 bits do not fit there is no bucket, though the ninth bit would part them.
 abbrev pub just : List Row
-just = rows 12 76 0 ++ rows 8 13 20
+just = rowsNeeding 12 76 0 ++ rowsNeeding 8 13 20
 
 abbrev pub beyond : List Row
-beyond = rows 12 76 0 ++ rows 7 13 20 ++ rows 1 14 30
+beyond = rowsNeeding 12 76 0 ++ rowsNeeding 7 13 20 ++ rowsNeeding 1 14 30
 
 abbrev pub edges : List Case
 edges =
     needing just 1016 true
     ∷ needing beyond 1017 false
-    ∷ parting just (pre 0 0 ∷ []) 0 (named 1 0 0)
+    ∷ parting just (pre 0 0 ∷ []) 0 (entriesNaming 1 0 0)
     ∷ parting beyond [] 0 (none ∷ [])
-    ∷ parting (thirteen ++ rows 1 76 87) (pre 8 0 ∷ pre 8 1 ∷ []) 8 (named 1 8 0 ++ named 1 8 1 ++ replicate 254 none)
-    ∷ parting (thirteen ++ rows 1 76 88) [] 0 (none ∷ [])
+    ∷ parting (thirteen ++ rowsNeeding 1 76 87) (pre 8 0 ∷ pre 8 1 ∷ []) 8 (entriesNaming 1 8 0 ++ entriesNaming 1 8 1 ++ replicate 254 none)
+    ∷ parting (thirteen ++ rowsNeeding 1 76 88) [] 0 (none ∷ [])
     ∷ []

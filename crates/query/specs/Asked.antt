@@ -9,7 +9,7 @@ use Rattle.store.specs.Accepted.{Accepted}
 use Rattle.store.specs.Demands.{Sized}
 
 -- c is a code of 1 to 64 bytes, s an accepted store
-pub record Asked (S : Shape) (h : List ℕ → ℕ) (s c : List ℕ) : Type 0 where
+pub record GivenAsked (S : Shape) (h : List ℕ → ℕ) (s c : List ℕ) : Type 0 where
   pub sized : Sized S
   pub accepted : Accepted S h s
   pub good : GoodCode c

@@ -12,7 +12,7 @@ ghost use Rattle.store.specs.Pages.{page, asRow, rowsHeld};
 ghost use Rattle.store.specs.Accepted.{Accepted};
 ghost use Rattle.store.specs.Demands.{Sized};
 ghost use Rattle.store.specs.Tables.{checkTable, countTable, lookedUp, lookupTable, rowOf, rowTable, giving, meaning};
-ghost use Rattle.query.specs.Asked.{Asked, RowSought};
+ghost use Rattle.query.specs.Asked.{GivenAsked, RowSought};
 ghost use Rattle.query.specs.Spots.{OnPage};
 use partition::Shape;
 use store::Answer;
@@ -92,7 +92,7 @@ pub fn place_of(s: &[u8], z: Shape, key: &[u8]) -> Answer
 
 // The place of a given code, on an accepted store.
 pub fn place_given(s: &[u8], z: Shape, key: &[u8]) -> Answer
-    requires { ⌜ Asked z fnv (now s) (now key) ⌝ }
+    requires { ⌜ GivenAsked z fnv (now s) (now key) ⌝ }
     ensures { λ r. ⌜ Answers (lookedUp z (now (s .entry)) (fold (now (key .entry)))) (meaning r) ⌝ }
 {
     let n = key.len();

@@ -9,7 +9,7 @@ ghost use Rattle.store.specs.Accepted.{Accepted};
 ghost use Rattle.store.specs.Demands.{Sized};
 ghost use Rattle.store.specs.Moves.{removed};
 ghost use Rattle.store.specs.Tables.{Becomes, removeAccepted, removeTable, meaning};
-ghost use Rattle.query.specs.Asked.{Asked};
+ghost use Rattle.query.specs.Asked.{GivenAsked};
 ghost use Rattle.removal.specs.Remove.{Leaving};
 use directory::name_prefix;
 use directory::settle_depth;
@@ -74,7 +74,7 @@ pub fn remove_row(s: &mut [u8], z: Shape, key: &[u8]) -> store::Answer
 
 // Remove of a given code on an accepted store.
 pub fn remove_given(s: &mut [u8], z: Shape, key: &[u8]) -> store::Answer
-    requires { ⌜ Asked z fnv (now s) (now key) ⌝ }
+    requires { ⌜ GivenAsked z fnv (now s) (now key) ⌝ }
     ensures { λ r. ⌜ Answers (removeAccepted z fnv (now (s .entry)) (fold (now (key .entry)))) (meaning r, now (s .exit)) ⌝ }
 {
     let n = key.len();

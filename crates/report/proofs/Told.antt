@@ -18,7 +18,7 @@ use Rattle.report.specs.declared.SheetRow.{SheetRow}
 use Rattle.report.specs.declared.Sums.{Sums}
 use Rattle.report.specs.Report.{placeIn, limit, sheetRow, RowPlace, GoodSheet, timesNamed, Reported, other, missing, summed}
 use Rattle.report.specs.Numbers.{rank, raise, ranksOf, raisedOf, spreadFrom, Lowered, SumsOf, numbersTable}
-use Rattle.report.specs.Named.{LaidSheet, placeOf, AmountAt, TellsMark, TellsRow}
+use Rattle.report.specs.Named.{LaidSheet, rankedPlace, AmountAt, TellsMark, TellsSheetRow}
 use Rattle.report.proofs.Laid.{words-are}
 use Rattle.report.proofs.Marks.{bumped}
 use Rattle.report.proofs.Orders.{parts}
@@ -80,7 +80,7 @@ many-marked (suc (suc m)) l = omega arith
 
 -- ---- places and amounts
 
-place-back : (p : Place) → RowPlace p → placeOf (rank p) ≡ p
+place-back : (p : Place) → RowPlace p → rankedPlace (rank p) ≡ p
 place-back p r =
     let q = parts p r in
     let i : q .a < 2147483648 = omega (arith, q .rank-is, q .rank-low) in
@@ -106,12 +106,12 @@ module _ (xs : List SheetRow) (g : GoodSheet xs) (rs : List Row) (i : ℕ) (l : 
       let m : 0 + i ≡ i = omega arith in
       let w : getD {A = ℕ} flat i 0 ≡ rank (placeIn x) = ap (λ (k : ℕ). getD {A = ℕ} flat k 0) (sym m) ∙ numbers .0 in
       let v : getD {A = ℕ} flat (limit + i) 0 ≡ raise (x .cents) = ap (λ (k : ℕ). getD {A = ℕ} flat (limit + k) 0) (sym m) ∙ numbers .1 in (
-        a ∙ ap placeOf w ∙ place-back (placeIn x) (g .places i l),
+        a ∙ ap rankedPlace w ∙ place-back (placeIn x) (g .places i l),
         lowered-one (raise (x .cents)) 1 z (x .cents) (subst (λ (k : ℕ). Lowered k 1 z) v b) (raise-is (x .cents) (amount-in (x .cents) (g .amounts i l .0) (g .amounts i l .1))),
       )
 
   -- EACH ROW THAT IS TOLD HIDDEN IS NAMED BY NO CODE, EACH DOUBLED BY MORE THAN ONE, AND EVERY OTHER BY ONE
-  pub row-told : (y : Sums) (t : SumsOf (ranks xs) (raised xs) rs (replicate (length xs) 0) y) (r : NamedRow) → TellsMark flat (t .marks) i r → TellsRow rs x r
+  pub row-told : (y : Sums) (t : SumsOf (ranks xs) (raised xs) rs (replicate (length xs) 0) y) (r : NamedRow) → TellsMark flat (t .marks) i r → TellsSheetRow rs x r
   row-told y t (Hidden p z) (e, a) = (none-marked (timesNamed rs x) (sym (mark-at xs g rs y t i l) ∙ e), amount-told p z a)
   row-told y t (Doubled p z) (e, a) = (many-marked (timesNamed rs x) (subst (λ (k : ℕ). 2 ≤ k) (mark-at xs g rs y t i l) e), amount-told p z a)
   row-told y t Once e = one-marked (timesNamed rs x) (sym (mark-at xs g rs y t i l) ∙ e)

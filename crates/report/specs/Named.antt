@@ -36,12 +36,12 @@ abbrev pub Marks : Shape → List ℕ → List ℕ → List ℕ → Ending → L
 Marks S s fl cs r cs′ = Ends (ranksOf fl (length cs)) (raisedOf fl (length cs)) (listing S fnv (rowsHeld S s)) cs r cs′
 
 -- the place that a rank is of
-abbrev pub placeOf : ℕ → Place
-placeOf w = record { page = pos (w / 4294967296 % 2147483648); slot = pos (w / 65536 % 32768); volume = pos (w % 32768) }
+abbrev pub rankedPlace : ℕ → Place
+rankedPlace w = record { page = pos (w / 4294967296 % 2147483648); slot = pos (w / 65536 % 32768); volume = pos (w % 32768) }
 
 -- the place and the amount of row i of a laid-out sheet
 abbrev pub AmountAt : List ℕ → ℕ → Place → ℤ → Type 0
-AmountAt fl i p z = (p ≡ placeOf (getD fl i 0)) × Lowered (getD fl (limit + i) 0) 1 z
+AmountAt fl i p z = (p ≡ rankedPlace (getD fl i 0)) × Lowered (getD fl (limit + i) 0) 1 z
 
 -- row i as its mark tells it
 abbrev pub TellsMark : List ℕ → List ℕ → ℕ → NamedRow → Type 0
@@ -50,7 +50,7 @@ TellsMark fl cs i (Doubled p z) = (2 ≤ getD {A = ℕ} cs i 0) × AmountAt fl i
 TellsMark fl cs i Once = getD {A = ℕ} cs i 0 ≡ 1
 
 -- a sheet row as it is told of a listing: hidden where no code names it, doubled where more than one does
-abbrev pub TellsRow : List Row → SheetRow → NamedRow → Type 0
-TellsRow rs x (Hidden p z) = (timesNamed rs x ≡ 0) × ((p ≡ placeIn x) × (z ≡ x .cents))
-TellsRow rs x (Doubled p z) = (2 ≤ timesNamed rs x) × ((p ≡ placeIn x) × (z ≡ x .cents))
-TellsRow rs x Once = timesNamed rs x ≡ 1
+abbrev pub TellsSheetRow : List Row → SheetRow → NamedRow → Type 0
+TellsSheetRow rs x (Hidden p z) = (timesNamed rs x ≡ 0) × ((p ≡ placeIn x) × (z ≡ x .cents))
+TellsSheetRow rs x (Doubled p z) = (2 ≤ timesNamed rs x) × ((p ≡ placeIn x) × (z ≡ x .cents))
+TellsSheetRow rs x Once = timesNamed rs x ≡ 1

@@ -3,7 +3,7 @@ ghost use mathlib.Core.Path.{_≡_};
 ghost use Prim.Native.Nat.{_<_};
 ghost use lib.IntN.{pos};
 ghost use lib.ListN.{length};
-ghost use Rattle.report.specs.Named.{LaidSheet, Markable, Marks, placeOf, TellsMark};
+ghost use Rattle.report.specs.Named.{LaidSheet, Markable, Marks, rankedPlace, TellsMark};
 use super::answer::lower;
 use super::tally::tally;
 use crate::Ending;
@@ -28,7 +28,7 @@ fn signed16(x: u64) -> i16
 
 // The place that a rank is of.
 fn place_at(w: u64) -> Place
-    ensures { λ r. ⌜ r ≡ placeOf w ⌝ }
+    ensures { λ r. ⌜ r ≡ rankedPlace w ⌝ }
 {
     let a = signed32(w / 4294967296 % 2147483648);
     let b = signed16(w / 65536 % 32768);

@@ -9,7 +9,7 @@ use Rattle.report.specs.declared.NamedRow.{NamedRow}
 use Rattle.report.specs.declared.NamedRow.the-variants.{Hidden, Once, Doubled}
 use Rattle.report.specs.declared.SheetRow.{SheetRow}
 use Rattle.report.specs.declared.Sums.{Sums}
-use Rattle.report.specs.Named.{LaidSheet, placeOf, TellsMark, TellsRow}
+use Rattle.report.specs.Named.{LaidSheet, rankedPlace, TellsMark, TellsSheetRow}
 use Rattle.report.specs.Numbers.{outside, rank, raise, rankOn, ranksOf, raisedOf, spreadFrom, tallied, unmarked, unmarkedSum, Lowered, Sound, SumsOf}
 use Rattle.report.specs.Report.{limit, placeIn, sheetRow, GoodSheet}
 use Rattle.report.proofs.Laid.{words-are, ranks-are, raised-are}
@@ -19,8 +19,8 @@ use Rattle.sheets.specs.Laying.{blankSheet}
 
 -- a mark tells of a row by its two numbers
 told-same : (fl fl′ cs : List ℕ) (i : ℕ) (r : NamedRow) → getD {A = ℕ} fl i 0 ≡ getD {A = ℕ} fl′ i 0 → getD {A = ℕ} fl (limit + i) 0 ≡ getD {A = ℕ} fl′ (limit + i) 0 → TellsMark fl cs i r → TellsMark fl′ cs i r
-told-same fl fl′ cs i (Hidden p z) e f (m, (a, b)) = (m, (a ∙ ap placeOf e, subst (λ (k : ℕ). Lowered k 1 z) f b))
-told-same fl fl′ cs i (Doubled p z) e f (m, (a, b)) = (m, (a ∙ ap placeOf e, subst (λ (k : ℕ). Lowered k 1 z) f b))
+told-same fl fl′ cs i (Hidden p z) e f (m, (a, b)) = (m, (a ∙ ap rankedPlace e, subst (λ (k : ℕ). Lowered k 1 z) f b))
+told-same fl fl′ cs i (Doubled p z) e f (m, (a, b)) = (m, (a ∙ ap rankedPlace e, subst (λ (k : ℕ). Lowered k 1 z) f b))
 told-same fl fl′ cs i Once e f m = m
 
 module _ (rs : List SheetRow) (few : length rs ≤ limit) (ls : List Row) where
@@ -58,13 +58,13 @@ module _ (rs : List SheetRow) (few : length rs ≤ limit) (ls : List Row) where
     doubled = t .doubled;
   }
 
-  told-row : (i : ℕ) → i < n → Sound (ranksOf fl n) (raisedOf fl n) → (x : Sums) (t : SumsOf (ranksOf fl n) (raisedOf fl n) ls (replicate n 0) x) (r : NamedRow) → TellsMark fl (t .marks) i r → TellsRow ls (sheetRow rs i) r
+  told-row : (i : ℕ) → i < n → Sound (ranksOf fl n) (raisedOf fl n) → (x : Sums) (t : SumsOf (ranksOf fl n) (raisedOf fl n) ls (replicate n 0) x) (r : NamedRow) → TellsMark fl (t .marks) i r → TellsSheetRow ls (sheetRow rs i) r
   unfolding over-rows
   told-row i l s x t r m = let w = same-words i l in row-told rs (good s) ls i l x (over-rows x t) r (told-same fl (filled 0) (t .marks) i r (w .0) (w .1) m)
 
 module _ (rs : List SheetRow) (ls : List Row) (i : ℕ) (x : Sums) (r : NamedRow) where
   abbrev Tells : List ℕ → ℕ → Type 0
-  Tells fl n = i < n → LaidSheet fl n → (t : SumsOf (ranksOf fl n) (raisedOf fl n) ls (replicate n 0) x) → TellsMark fl (t .marks) i r → TellsRow ls (sheetRow rs i) r
+  Tells fl n = i < n → LaidSheet fl n → (t : SumsOf (ranksOf fl n) (raisedOf fl n) ls (replicate n 0) x) → TellsMark fl (t .marks) i r → TellsSheetRow ls (sheetRow rs i) r
 
   -- A ROW TOLD BY ITS MARK IS THAT ROW OF THE FILE
   pub file-row-told : (fl : List ℕ) (n : ℕ) → fl ≡ spreadFrom 0 rs blankSheet → n ≡ length rs → Tells fl n

@@ -12,7 +12,7 @@ use Rattle.partition.specs.Sizes.{Sized}
 use Rattle.partition.specs.Partition.{first, after}
 use Rattle.partition.proofs.Tree.{pfx}
 use Rattle.partition.proofs.Directory.{holds-range}
-use Rattle.store_check.specs.Directory.{AllAre, NoneIs, Counted, Named}
+use Rattle.store_check.specs.Directory.{AllAre, NoneIs, NamesCounted, Named}
 use Rattle.store_check.proofs.Counts.{Exactly, exactly-counted, counted-exactly}
 
 -- a directory has no more entries than page 1 has room for
@@ -34,7 +34,7 @@ module _ (dir : List ℕ) (d p : ℕ) (some : 2 ≤ p) (beyond : AllAre dir (2 ^
     (λ r. n i (omega arith) .1 (record { below = l; bits = holds-range d i (pfx k v) .1 r })),
   )
 
-  module _ (n : ℕ) (counts : List ℕ) (C : Counted dir (2 ^ d) n counts) (last : p < n) (fits : 2 ^ d ≤ length dir) where
+  module _ (n : ℕ) (counts : List ℕ) (C : NamesCounted dir (2 ^ d) n counts) (last : p < n) (fits : 2 ^ d ≤ length dir) where
     -- the run all p, and its length the number of entries that are p
     module _ (k v a b : ℕ) (begins : a ≡ first d (pfx k v)) (ends : b ≡ after d (pfx k v)) (up : a ≤ b) (within : b ≤ 2 ^ d) where
       pub run-named : AllAre dir a b p → getD counts p 0 ≡ b - a → Named dir d k v p

@@ -12,7 +12,7 @@ use Rattle.partition.specs.Bits.{top}
 use Rattle.partition.specs.declared.Shape.{Shape}
 use Rattle.store.specs.Pages.{page, dirDepth, entryAt}
 use Rattle.store.specs.Accepted.{Bucket, Calls, Stands, unused, used}
-use Rattle.store_check.specs.Directory.{Counted, Named}
+use Rattle.store_check.specs.Directory.{NamesCounted, Named}
 use Rattle.words.specs.Zeros.{Zero}
 use Rattle.store_check.specs.First.{FirstBad}
 use Rattle.store_check.specs.Begun.{Begun, FreeAndUnnamed, Own}
@@ -26,7 +26,7 @@ prefixOf g = top (depth g) (fnv (code g 0))
 abbrev pub Like : List ℕ → ℕ → Type 0
 Like g i = top (depth g) (fnv (code g 0)) ≡ top (depth g) (fnv (code g i))
 
-module _ (S : Shape) (s dir counts : List ℕ) (n d p : ℕ) (B : Begun S s dir n d) (C : Counted dir (2 ^ d) (S .entries + 2) counts) (from : 2 ≤ p) (to : p < n) where
+module _ (S : Shape) (s dir counts : List ℕ) (n d p : ℕ) (B : Begun S s dir n d) (C : NamesCounted dir (2 ^ d) (S .entries + 2) counts) (from : 2 ≤ p) (to : p < n) where
   low : (i : ℕ) → i < length dir → i < S .entries
   low i l = subst (λ m. i < m) (B .entries .long) l
 

@@ -11,7 +11,7 @@ use Rattle.partition.specs.declared.Shape.{Shape}
 use Rattle.store.specs.Demands.{Sized}
 use Rattle.store.specs.Pages.{size, pages, dirDepth}
 use Rattle.store.specs.Accepted.{GoodLength, Stands}
-use Rattle.store_check.specs.Directory.{Entries, AllAre, AllBelow, Counted}
+use Rattle.store_check.specs.Directory.{Entries, AllAre, AllBelow, NamesCounted}
 
 -- a store of n pages of a size, whose directory, of depth d, has entries in dir: below n, and zero from 2^d on
 pub record Begun (S : Shape) (s dir : List ℕ) (n d : ℕ) : Type 0 where
@@ -29,7 +29,7 @@ pub record Begun (S : Shape) (s dir : List ℕ) (n d : ℕ) : Type 0 where
 -- what pass 1 starts from: the entries counted, its tables zero, pages of whole blocks of 1,024 bytes
 pub record Pass1 (S : Shape) (s dir counts : List ℕ) (n d : ℕ) (tab hashes : List ℕ) : Type 0 where
   pub begun : Begun S s dir n d
-  pub counted : Counted dir (2 ^ d) (S .entries + 2) counts
+  pub counted : NamesCounted dir (2 ^ d) (S .entries + 2) counts
   pub blocks : size S % 1024 ≡ 0
   pub tab-long : length tab ≡ size S
   pub no-tab : Zero tab

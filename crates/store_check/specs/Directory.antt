@@ -51,8 +51,8 @@ abbrev pub AllBelow : List ℕ → ℕ → ℕ → ℕ → Type 0
 AllBelow dir a b n = (i : ℕ) → a ≤ i → i < b → getD dir i 0 < n
 
 -- for each of n pages the number of the entries up to m that name it
-abbrev pub Counted : List ℕ → ℕ → ℕ → List ℕ → Type 0
-Counted dir m n counts = Heaped (λ i. getD dir i 0) (λ i. 1) m n counts
+abbrev pub NamesCounted : List ℕ → ℕ → ℕ → List ℕ → Type 0
+NamesCounted dir m n counts = Heaped (λ i. getD dir i 0) (λ i. 1) m n counts
 
 -- counts of zero for every page that the entries up to m name
 pub record Uncounted (dir counts : List ℕ) (m : ℕ) : Type 0 where
@@ -69,7 +69,7 @@ pub record NamingAsked (dir counts : List ℕ) (d k p : ℕ) : Type 0 where
   pub from : 2 ≤ p
   pub to : p < length counts
   pub beyond : AllAre dir (2 ^ d) (length dir) 0
-  pub counted : Counted dir (2 ^ d) (length counts) counts
+  pub counted : NamesCounted dir (2 ^ d) (length counts) counts
 
 -- the entries up to m are in range for n pages
 pub record EntriesInRange (dir : List ℕ) (n m : ℕ) : Type 0 where

@@ -4,7 +4,7 @@ ghost use mathlib.Core.Bool.{true};
 ghost use Prim.Native.Nat.{_≤_};
 ghost use lib.ListN.{length};
 ghost use Rattle.ground.specs.Says.{Says};
-ghost use Rattle.store_check.specs.Directory.{Roomy, PageOneAsked, Entries, EntriesTo, AllAre, NoneIs, AllBelow, EntriesInRange, Uncounted, Counted, NamingAsked, Named};
+ghost use Rattle.store_check.specs.Directory.{Roomy, PageOneAsked, Entries, EntriesTo, AllAre, NoneIs, AllBelow, EntriesInRange, Uncounted, NamesCounted, NamingAsked, Named};
 ghost use Rattle.store.specs.Accepted.{Page1};
 ghost use Rattle.partition.specs.Bits.{top};
 use partition::Shape;
@@ -97,7 +97,7 @@ pub fn page1_ok(s: &[u8], z: Shape, n: usize, m: usize, dir: &mut [u32]) -> bool
 // How many of the entries up to m name each page.
 pub fn tally(dir: &[u32], m: usize, counts: &mut [u32])
     requires { ⌜ Uncounted (now dir) (now counts) m ⌝ }
-    ensures { λ _. ⌜ Counted (now (dir .entry)) m (length (now (counts .entry))) (now (counts .exit)) ⌝ }
+    ensures { λ _. ⌜ NamesCounted (now (dir .entry)) m (length (now (counts .entry))) (now (counts .exit)) ⌝ }
 {
     let mut i = 0;
     while i < m {

@@ -14,7 +14,7 @@ use Rattle.store.specs.Demands.{ok}
 use Rattle.store.specs.Pages.{rowsHeld}
 use Rattle.store.proofs.Accepted.Rules.{opened}
 use Rattle.store.specs.Tables.{meaning}
-use Rattle.lots.specs.Obeys.{Numbers}
+use Rattle.lots.specs.Obeys.{TellsNumber}
 use Rattle.lots.proofs.Leaving.{checked-accepted, counts-room, numbered}
 use Rattle.lots.proofs.obey.list.Statement.{statement}
 use Rattle.lots.proofs.obey.list.Tie as tie
@@ -77,7 +77,7 @@ returns-2 c =
       answer = meaning (k .result);
       made = (k .ensures, refl);
       refused = λ e. absurd (true≢false (sym (good (b .before)) ∙ e));
-      rows = λ _. subst (λ S. Numbers (length (listing S fnv (rowsHeld S s))) (c .listed .result)) (b .shape-of .ensures .0) (c .listed .ensures _ (l .list-rows .ensures));
+      rows = λ _. subst (λ S. TellsNumber (length (listing S fnv (rowsHeld S s))) (c .listed .result)) (b .shape-of .ensures .0) (c .listed .ensures _ (l .list-rows .ensures));
     }
 
 pub list-spec : {M : Type 1} → statement M

@@ -16,7 +16,7 @@ use Rattle.store.specs.Accepted.{Zero}
 use Rattle.store.specs.Demands.{ok}
 use Rattle.store.specs.Tables.{meaning}
 use Rattle.store.proofs.Accepted.Reading.{count-free}
-use Rattle.lots.specs.Obeys.{TellsOnly, Numbers}
+use Rattle.lots.specs.Obeys.{TellsOnly, TellsNumber}
 use Rattle.telling.specs.Told.{Shown}
 use Rattle.lots.proofs.Inspecting.{refused-two, shown-all}
 use Rattle.lots.proofs.obey.list_page.Statement.{statement}
@@ -47,7 +47,7 @@ returns c =
     let z = says-true _ (c .before .if1 .taken) (c .before .before .all-zero .ensures) in
     record {
       refused = λ n. absurd (n (inl z));
-      rows = λ _. subst (λ m. Numbers m (c .listed .result)) (sym (count-free (now (c .before .before .before .before .args .page)) z)) (c .listed .ensures 0 refl);
+      rows = λ _. subst (λ m. TellsNumber m (c .listed .result)) (sym (count-free (now (c .before .before .before .before .args .page)) z)) (c .listed .ensures 0 refl);
     }
 
 first-slot-requires : tie.Need-first-slot-requires
@@ -87,7 +87,7 @@ returns-3 c =
     let w = shown (r .before .before) in
     record {
       refused = λ n. absurd (n (w .keeps));
-      rows = λ _. subst (λ m. Numbers m (c .listed2 .result)) (r .before .get16 .ensures .0 ∙ w .rows) (c .listed2 .ensures _ (r .page-rows .ensures));
+      rows = λ _. subst (λ m. TellsNumber m (c .listed2 .result)) (r .before .get16 .ensures .0 ∙ w .rows) (c .listed2 .ensures _ (r .page-rows .ensures));
     }
 
 pub list-page-spec : {M : Type 1} → statement M

@@ -15,7 +15,7 @@ use Rattle.store.specs.Pages.{size, pages, dirDepth}
 use Rattle.store.specs.Accepted.{GoodLength, Page0From, Page1, Stands, Parted}
 use Rattle.store.proofs.Accepted.Unique.{within}
 use Rattle.store_check.specs.Begun.{AllStand}
-use Rattle.store_check.specs.Directory.{Entries, Ranges, Counted}
+use Rattle.store_check.specs.Directory.{Entries, Ranges, NamesCounted}
 use Rattle.store_check.proofs.Heads.{of-page1, whole-long, begun, standing}
 use Rattle.store_check.proofs.Naming.{room}
 use Rattle.store_check.proofs.Parting.{hashed-all, undivided, level}
@@ -187,8 +187,8 @@ tally-requires c κs =
       none = start b .pre .tables .no-counts;
     }
 
-until : (dir counts : List ℕ) (m n a b : ℕ) → m ≡ n → a ≡ b → Counted dir m a counts → Counted dir n b counts
-until dir counts m n a b e f c = subst₂ (λ x y. Counted dir x y counts) e f c
+until : (dir counts : List ℕ) (m n a b : ℕ) → m ≡ n → a ≡ b → NamesCounted dir m a counts → NamesCounted dir n b counts
+until dir counts m n a b e f c = subst₂ (λ x y. NamesCounted dir x y counts) e f c
 
 first-unsound-requires : tie.Need-first-unsound-requires
 first-unsound-requires c κs =

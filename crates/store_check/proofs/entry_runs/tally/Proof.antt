@@ -4,13 +4,13 @@ use mathlib.Core.List.{List}
 use Prim.Native.Nat.{ℕ, _-_, _≤_, _<_}
 use native.Mathlib.Omega.{arith}
 use lib.ListN.{length, getD}
-use Rattle.store_check.specs.Directory.{Counted}
+use Rattle.store_check.specs.Directory.{NamesCounted}
 use Rattle.store_check.proofs.Heaps.{heaped-none, heaped-more, heap-most}
 use Rattle.store_check.proofs.entry_runs.tally.Statement.{statement}
 use Rattle.store_check.proofs.entry_runs.tally.Tie as tie
 
 abbrev Inv-loop : tie.InvT-loop
-Inv-loop dir m counts₀ i₀ counts i = (i ≤ m) × Counted dir i (length counts₀) counts
+Inv-loop dir m counts₀ i₀ counts i = (i ≤ m) × NamesCounted dir i (length counts₀) counts
 
 abbrev μ-loop : tie.MeasureT-loop
 μ-loop dir m counts₀ i₀ counts i = m - i
@@ -75,7 +75,7 @@ returns c =
     let l = c .before .loop in
     let a = c .before .before .args in
     let e : l .i ≡ a .m = omega (arith, l .inv .0, c .loop-test .left) in
-    subst (λ m. Counted (a .dir .now) m (length (a .counts .now)) (l .counts)) e (l .inv .1)
+    subst (λ m. NamesCounted (a .dir .now) m (length (a .counts .now)) (l .counts)) e (l .inv .1)
 
 pub tally-spec : {M : Type 1} → statement M
 tally-spec =

@@ -26,7 +26,7 @@ use Rattle.store.specs.Pages.{size, pages, page}
 use Rattle.store.proofs.Accepted.Unique.{within, page-long}
 use Rattle.store.proofs.Paging.Views.{page-lent}
 use Rattle.store_check.specs.First.{FirstFrom, FirstBad}
-use Rattle.store_check.specs.Directory.{Counted, Named}
+use Rattle.store_check.specs.Directory.{NamesCounted, Named}
 use Rattle.store_check.specs.Begun.{FreeAndUnnamed, Own}
 use Rattle.store_check.specs.Digest.{Hashed, firstOf}
 use Rattle.store_check.proofs.Naming.{room}
@@ -283,7 +283,7 @@ named-requires c κs =
       from = turn (at x) .pages .inv .2;
       to = omega (arith, in-range (at x), a .pre .counted .long);
       beyond = b .beyond;
-      counted = subst (λ m. Counted (dir-of (at x)) (2 ^ deep (at x)) m (counts-of (at x))) (sym (a .pre .counted .long)) (a .pre .counted);
+      counted = subst (λ m. NamesCounted (dir-of (at x)) (2 ^ deep (at x)) m (counts-of (at x))) (sym (a .pre .counted .long)) (a .pre .counted);
     }
 
 mul-hashes : tie.Need-mul-hashes Inv-slots μ-slots Inv-pages μ-pages
