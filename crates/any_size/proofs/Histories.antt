@@ -15,7 +15,7 @@ use Rattle.store.specs.Pages.{pages, page, bucket, read, asRow, rowsHeld}
 use Rattle.store.specs.Accepted.{Accepted}
 use Rattle.store.specs.Moves.{pick}
 use Rattle.store.specs.Tables.{Out, formatted, accepted, PageSize}
-use Rattle.store.specs.Demands.{Hash, Call, format, check, count, lookup, remove, put, rowAt, inspect, Made, ok, WholePages, after, surviving, History, begin, next, Afresh}
+use Rattle.store.specs.Demands.{Hash, Call, format, check, count, lookup, remove, put, rowAt, inspect, Made, ok, WholePages, rowsAfter, surviving, History, begin, next, Afresh}
 use Rattle.store.proofs.Accepted.OwnSize.{is-size}
 use Rattle.store.proofs.Demands.Choice.{put-chooses, remove-chooses}
 use Rattle.store.proofs.Demands.Whole.{demand-2, demand-3}
@@ -127,7 +127,7 @@ module _ (h : List ℕ → ℕ) (hash : Hash h) where
 
   refused-keeps : (c : SizedCall) (o : Out) (rs : List Row) → ok o ≡ false → survivingSized c o rs ≡ rs
   refused-keeps (formatTo n) o rs e = ap (λ b. pick b [] rs) e
-  refused-keeps (on c) o rs e = ap (λ b. pick b (after c rs) rs) e
+  refused-keeps (on c) o rs e = ap (λ b. pick b (rowsAfter c rs) rs) e
 
   pub afresh : (rs : List Row) (s : List ℕ) → SizedHistory h rs s → Afresh (shapeOf s) h rs s
   afresh rs s past = demand-3 (shapeOf s) h (sized-of s) hash .0 rs s (own-history rs s past)

@@ -15,7 +15,7 @@ use Rattle.ground.specs.Lists.{byte}
 use Rattle.ground.proofs.Sides.{side}
 use Rattle.page.specs.declared.Place.{Place}
 use Rattle.commands.specs.Numbers.{Integer}
-use Rattle.commands.specs.SheetLines.{kind, wordThen, cutFrom, wordsOf, KindRun, PassedOver, Writes, FitsRow, FourSay, LineSays}
+use Rattle.commands.specs.SheetLines.{blankKind, wordThen, cutFrom, wordsOf, KindRun, PassedOver, Writes, FitsRow, FourSay, LineSays}
 use Rattle.commands.specs.declared.SheetLine.{SheetLine}
 use Rattle.commands.specs.declared.SheetLine.the-variants.{Passed, Amount, Other}
 use Rattle.commands.proofs.Unread.{marked-long}
@@ -28,22 +28,22 @@ one-when false true z n = refl
 one-when false false true n = refl
 one-when false false false n = absurd (n refl)
 
-kind-one : (b : ℕ) → (kind b ≡ 0 → ⊥) → kind b ≡ 1
+kind-one : (b : ℕ) → (blankKind b ≡ 0 → ⊥) → blankKind b ≡ 1
 kind-one b n = one-when (eqb b 32) (eqb b 9) (eqb b 13) n
 
 -- a run that goes on
-pub one-more : (l : List ℕ) (i j k : ℕ) → ((m : ℕ) → i ≤ m → m < j → kind (byte l m) ≡ k) → kind (byte l j) ≡ k → (m : ℕ) → i ≤ m → m < j + 1 → kind (byte l m) ≡ k
-one-more l i j k f e m a b = ⊎-elim (λ (h : m < j). f m a h) (λ (h : j ≤ m). let n : j ≡ m = omega arith in subst (λ (x : ℕ). kind (byte l x) ≡ k) n e) (side m j)
+pub one-more : (l : List ℕ) (i j k : ℕ) → ((m : ℕ) → i ≤ m → m < j → blankKind (byte l m) ≡ k) → blankKind (byte l j) ≡ k → (m : ℕ) → i ≤ m → m < j + 1 → blankKind (byte l m) ≡ k
+one-more l i j k f e m a b = ⊎-elim (λ (h : m < j). f m a h) (λ (h : j ≤ m). let n : j ≡ m = omega arith in subst (λ (x : ℕ). blankKind (byte l x) ≡ k) n e) (side m j)
 
 -- ---- one byte more
 
-cut-blank : (w : List ℕ) (b : ℕ) (l : List ℕ) → kind b ≡ 1 → cutFrom w (b ∷ l) ≡ wordThen w (cutFrom [] l)
+cut-blank : (w : List ℕ) (b : ℕ) (l : List ℕ) → blankKind b ≡ 1 → cutFrom w (b ∷ l) ≡ wordThen w (cutFrom [] l)
 unfolding cutFrom
-cut-blank w b l e = ap (λ (t : Bool). cond t (wordThen w (cutFrom [] l)) (cutFrom (w ++ (b ∷ [])) l)) (eq-eqb (kind b) 1 e)
+cut-blank w b l e = ap (λ (t : Bool). cond t (wordThen w (cutFrom [] l)) (cutFrom (w ++ (b ∷ [])) l)) (eq-eqb (blankKind b) 1 e)
 
-cut-other : (w : List ℕ) (b : ℕ) (l : List ℕ) → kind b ≡ 0 → cutFrom w (b ∷ l) ≡ cutFrom (w ++ (b ∷ [])) l
+cut-other : (w : List ℕ) (b : ℕ) (l : List ℕ) → blankKind b ≡ 0 → cutFrom w (b ∷ l) ≡ cutFrom (w ++ (b ∷ [])) l
 unfolding cutFrom
-cut-other w b l e = ap (λ (t : Bool). cond t (wordThen w (cutFrom [] l)) (cutFrom (w ++ (b ∷ [])) l)) (ne-eqb (kind b) 1 (λ f. omega (arith, e, f)))
+cut-other w b l e = ap (λ (t : Bool). cond t (wordThen w (cutFrom [] l)) (cutFrom (w ++ (b ∷ [])) l)) (ne-eqb (blankKind b) 1 (λ f. omega (arith, e, f)))
 
 cut-none : (w : List ℕ) → cutFrom w [] ≡ wordThen w (cutFrom [] [])
 unfolding cutFrom
@@ -56,7 +56,7 @@ no-words = refl
 -- ---- runs
 
 module _ (l : List ℕ) where
-  gap : (n i : ℕ) → i + n ≤ length l → ((j : ℕ) → i ≤ j → j < i + n → kind (byte l j) ≡ 1) → cutFrom [] (drop i l) ≡ cutFrom [] (drop (i + n) l)
+  gap : (n i : ℕ) → i + n ≤ length l → ((j : ℕ) → i ≤ j → j < i + n → blankKind (byte l j) ≡ 1) → cutFrom [] (drop i l) ≡ cutFrom [] (drop (i + n) l)
   gap zero i h e = ap (λ (k : ℕ). cutFrom [] (drop k l)) (sym (add-zero i))
   gap (suc n) i h e =
       let m : suc i + n ≡ i + suc n = omega arith in
@@ -65,7 +65,7 @@ module _ (l : List ℕ) where
       ∙ gap n (suc i) (omega (arith, h)) (λ j a b. e j (omega (arith, a)) (omega (arith, b)))
       ∙ ap (λ (k : ℕ). cutFrom [] (drop k l)) m
 
-  grow : (n i : ℕ) (w : List ℕ) → i + n ≤ length l → ((j : ℕ) → i ≤ j → j < i + n → kind (byte l j) ≡ 0) → cutFrom w (drop i l) ≡ cutFrom (w ++ take n (drop i l)) (drop (i + n) l)
+  grow : (n i : ℕ) (w : List ℕ) → i + n ≤ length l → ((j : ℕ) → i ≤ j → j < i + n → blankKind (byte l j) ≡ 0) → cutFrom w (drop i l) ≡ cutFrom (w ++ take n (drop i l)) (drop (i + n) l)
   grow zero i w h e = ap (λ (v : List ℕ). cutFrom v (drop i l)) (sym (append-nil w)) ∙ ap (λ (k : ℕ). cutFrom (w ++ []) (drop k l)) (sym (add-zero i))
   grow (suc n) i w h e =
       let m : suc i + n ≡ i + suc n = omega arith in
@@ -77,7 +77,7 @@ module _ (l : List ℕ) where
       ∙ grow n (suc i) (w ++ (byte l i ∷ [])) (omega (arith, h)) (λ j a b. e j (omega (arith, a)) (omega (arith, b)))
       ∙ (λ k. cutFrom (v k) (drop (m k) l))
 
-  stop : (r : ℕ) (w : List ℕ) → r ≤ length l → (r < length l → kind (byte l r) ≡ 1) → cutFrom w (drop r l) ≡ wordThen w (cutFrom [] (drop r l))
+  stop : (r : ℕ) (w : List ℕ) → r ≤ length l → (r < length l → blankKind (byte l r) ≡ 1) → cutFrom w (drop r l) ≡ wordThen w (cutFrom [] (drop r l))
   stop r w h e = ⊎-elim
       (λ (k : r < length l).
       let c : drop r l ≡ byte l r ∷ drop (suc r) l = drop-cons l r 0 k in
@@ -109,7 +109,7 @@ module _ (l : List ℕ) where
       let k : a < b = ⊎-elim (λ (x : a < b). x)
       (λ (x : b ≤ a).
       let e : b ≡ a = omega (arith, s .from) in
-      absurd (r .stops (omega arith) (subst (λ (n : ℕ). kind (byte l n) ≡ 1) e (kind-one (byte l b) (s .stops h)))))
+      absurd (r .stops (omega arith) (subst (λ (n : ℕ). blankKind (byte l n) ≡ 1) e (kind-one (byte l b) (s .stops h)))))
       (side a b) in
       let n : length (take (b - a) (drop a l)) ≡ b - a = length-take-le (b - a) (drop a l) (omega (arith, length-drop a l)) in
       omega arith
@@ -126,7 +126,7 @@ opens-when false x w ws vs o = o
 opens : (x : ℕ) (w l : List ℕ) → Opens x (cutFrom (x ∷ w) l)
 unfolding cutFrom
 opens x w [] = (w, ([], refl))
-opens x w (b ∷ l) = opens-when (eqb (kind b) 1) x w (cutFrom [] l) (cutFrom (x ∷ (w ++ (b ∷ []))) l) (opens x (w ++ (b ∷ [])) l)
+opens x w (b ∷ l) = opens-when (eqb (blankKind b) 1) x w (cutFrom [] l) (cutFrom (x ∷ (w ++ (b ∷ []))) l) (opens x (w ++ (b ∷ [])) l)
 
 zero-when : (x y z : Bool) → (_≡_ {A = ℕ} (cond x 1 (cond y 1 (cond z 1 0))) 1 → ⊥) → _≡_ {A = ℕ} (cond x 1 (cond y 1 (cond z 1 0))) 0
 zero-when true y z n = absurd (n refl)

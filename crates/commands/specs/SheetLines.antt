@@ -16,8 +16,8 @@ use Rattle.commands.specs.declared.SheetLine.{SheetLine}
 use Rattle.commands.specs.declared.SheetLine.the-variants.{Passed, Amount, Other}
 
 -- 1 for a blank, which is a space, a tab or a carriage return; 0 for any other byte
-abbrev pub kind : ℕ → ℕ
-kind b = cond (eqb b 32) 1 (cond (eqb b 9) 1 (cond (eqb b 13) 1 0))
+abbrev pub blankKind : ℕ → ℕ
+blankKind b = cond (eqb b 32) 1 (cond (eqb b 9) 1 (cond (eqb b 13) 1 0))
 
 -- a word at its end, before the words ws; none where it has no byte
 abbrev pub wordThen : List ℕ → List (List ℕ) → List (List ℕ)
@@ -27,7 +27,7 @@ wordThen (b ∷ w) ws = (b ∷ w) ∷ ws
 -- the words of a text that goes on with the word w
 unfoldable pub cutFrom : List ℕ → List ℕ → List (List ℕ)
 cutFrom w [] = wordThen w []
-cutFrom w (b ∷ l) = cond (eqb (kind b) 1) (wordThen w (cutFrom [] l)) (cutFrom (w ++ (b ∷ [])) l)
+cutFrom w (b ∷ l) = cond (eqb (blankKind b) 1) (wordThen w (cutFrom [] l)) (cutFrom (w ++ (b ∷ [])) l)
 
 -- the words of a line
 abbrev pub wordsOf : List ℕ → List (List ℕ)
@@ -37,8 +37,8 @@ wordsOf l = cutFrom [] l
 pub record KindRun (k : ℕ) (l : List ℕ) (i r : ℕ) : Type 0 where
   pub from : i ≤ r
   pub within : r ≤ length l
-  pub each : (j : ℕ) → i ≤ j → j < r → kind (byte l j) ≡ k
-  pub stops : r < length l → kind (byte l r) ≡ k → ⊥
+  pub each : (j : ℕ) → i ≤ j → j < r → blankKind (byte l j) ≡ k
+  pub stops : r < length l → blankKind (byte l r) ≡ k → ⊥
 
 -- the first word begins with #
 pub record Remark (l : List ℕ) : Type 0 where

@@ -2,7 +2,7 @@
 ghost use mathlib.Core.Path.{_≡_};
 ghost use Prim.Native.Nat.{_≤_};
 ghost use lib.ListN.{length};
-ghost use Rattle.commands.specs.SheetLines.{kind, KindRun, FourSay, LineSays};
+ghost use Rattle.commands.specs.SheetLines.{blankKind, KindRun, FourSay, LineSays};
 use super::lines::narrow16;
 use super::lines::narrow32;
 use super::numbers::read_signed;
@@ -12,7 +12,7 @@ use page::Place;
 
 // 1 for a blank, 0 for any other byte.
 fn kind_of(b: u8) -> u8
-    ensures { λ r. ⌜ r ≡ kind b ⌝ }
+    ensures { λ r. ⌜ r ≡ blankKind b ⌝ }
 {
     if b == 32 {
         return 1;

@@ -22,7 +22,7 @@ use Rattle.batch.specs.Batch.{Runs, batchTable}
 use Rattle.batch.proofs.Settled.{batch-said}
 use Rattle.filling.specs.Filling.{fillTable}
 use Rattle.filling.proofs.Laws.{fill-said}
-use Rattle.lots_c.specs.Words.{plain, placeWord, refusalWord, word, lengthAfter, Tells, TellsAnd, TellsAll, TellsRow}
+use Rattle.lots_c.specs.Words.{plain, placeWord, refusalWord, answerWord, lengthAfter, Tells, TellsAnd, TellsAll, TellsRow}
 
 -- ---- what a caller reads off a word
 
@@ -53,11 +53,11 @@ numbered w n e d = rw (e, ne-eqb n 2 d) refl
 paged : (w p : ℕ) → w % 256 ≡ 2 → w / 256 % 2 ^ 32 ≡ p → refusalIn w ≡ refusedAt 2 p
 paged w p e f = rw (e, f) refl
 
-refusal-off : (value : ℕ → Out) (o : Out) {most : ℕ} → most ≤ 2 ^ 32 → RefusedBelow most o → readOff value (word o) ≡ o
+refusal-off : (value : ℕ → Out) (o : Out) {most : ℕ} → most ≤ 2 ^ 32 → RefusedBelow most o → readOff value (answerWord o) ≡ o
 refusal-off value o m (inl (n, (l, d, e))) =
-    subst (λ x. readOff value (word x) ≡ x) (sym e) (large value (refusalWord n 0) (omega arith) ∙ numbered (refusalWord n 0) n (omega arith) d)
+    subst (λ x. readOff value (answerWord x) ≡ x) (sym e) (large value (refusalWord n 0) (omega arith) ∙ numbered (refusalWord n 0) n (omega arith) d)
 refusal-off value o m (inr (p, (l, e))) =
-    subst (λ x. readOff value (word x) ≡ x) (sym e) (large value (refusalWord 2 p) (omega arith) ∙ paged (refusalWord 2 p) p (omega arith) (omega arith))
+    subst (λ x. readOff value (answerWord x) ≡ x) (sym e) (large value (refusalWord 2 p) (omega arith) ∙ paged (refusalWord 2 p) p (omega arith) (omega arith))
 
 -- three numbers and their word
 module _ (x y z : ℕ) (hx : x < 2 ^ 31) (hy : y < 2 ^ 15) (hz : z < 2 ^ 15) where
@@ -89,32 +89,32 @@ module _ (b : List ℕ) (r : InRange (place b)) where
   not-new : placeWord (place b) ≡ 2 ^ 31 → ⊥
   not-new e = omega (arith, r .page, r .slot, r .volume)
 
-place-off : (value : Place → Out) → ((p : Place) → word (value p) ≡ placeWord p) → (o : Out) → Placed value o → readOff (λ w. value (placeIn w)) (word o) ≡ o
+place-off : (value : Place → Out) → ((p : Place) → answerWord (value p) ≡ placeWord p) → (o : Out) → Placed value o → readOff (λ w. value (placeIn w)) (answerWord o) ≡ o
 place-off value is o (b, (r, e)) =
-    let w : word o ≡ placeWord (place b) = ap word e ∙ is (place b) in
+    let w : answerWord o ≡ placeWord (place b) = ap answerWord e ∙ is (place b) in
     rw w (low (λ w. value (placeIn w)) (placeWord (place b)) (small b r) ∙ ap value (back b r) ∙ sym e)
 
-put-off : (o : Out) → Kept o → readOff putIn (word o) ≡ o
-put-off o (inl e) = subst (λ x. readOff putIn (word x) ≡ x) (sym e) refl
+put-off : (o : Out) → Kept o → readOff putIn (answerWord o) ≡ o
+put-off o (inl e) = subst (λ x. readOff putIn (answerWord x) ≡ x) (sym e) refl
 put-off o (inr (b, (r, e))) =
-    let w : word o ≡ placeWord (place b) = ap word e in
+    let w : answerWord o ≡ placeWord (place b) = ap answerWord e in
     let v : putIn (placeWord (place b)) ≡ replaced (place b) = rw (ne-eqb (placeWord (place b)) (2 ^ 31) (not-new b r)) (ap replaced (back b r)) in
     rw w (low putIn (placeWord (place b)) (small b r) ∙ v ∙ sym e)
 
-count-off : (o : Out) {most : ℕ} → most < 2 ^ 63 → Counted most o → readOff counted (word o) ≡ o
-count-off o m (n, (l, e)) = subst (λ x. readOff counted (word x) ≡ x) (sym e) (low counted n (omega arith))
+count-off : (o : Out) {most : ℕ} → most < 2 ^ 63 → Counted most o → readOff counted (answerWord o) ≡ o
+count-off o m (n, (l, e)) = subst (λ x. readOff counted (answerWord x) ≡ x) (sym e) (low counted n (omega arith))
 
 -- ---- one word, one answer
 
 -- where every answer of a call is read off its word, the word tells one
-same : (value : ℕ → Out) {a b : Out} {r : ℕ} → r ≡ word a → r ≡ word b → readOff value (word a) ≡ a → readOff value (word b) ≡ b → a ≡ b
+same : (value : ℕ → Out) {a b : Out} {r : ℕ} → r ≡ answerWord a → r ≡ answerWord b → readOff value (answerWord a) ≡ a → readOff value (answerWord b) ≡ b → a ≡ b
 same value e f x y = sym x ∙ ap (readOff value) (sym e ∙ f) ∙ y
 
-module _ (value : ℕ → Out) (Values : Out → Type 0) (off : (o : Out) → Values o → readOff value (word o) ≡ o) where
-  one : {a b : Out} {r i j : ℕ} → i ≤ 2 ^ 32 → j ≤ 2 ^ 32 → r ≡ word a → r ≡ word b → Said i Values a → Said j Values b → a ≡ b
+module _ (value : ℕ → Out) (Values : Out → Type 0) (off : (o : Out) → Values o → readOff value (answerWord o) ≡ o) where
+  one : {a b : Out} {r i j : ℕ} → i ≤ 2 ^ 32 → j ≤ 2 ^ 32 → r ≡ answerWord a → r ≡ answerWord b → Said i Values a → Said j Values b → a ≡ b
   one {a} {b} k l e f s t = same value e f (read a k s) (read b l t)
     where
-      read : (o : Out) {most : ℕ} → most ≤ 2 ^ 32 → Said most Values o → readOff value (word o) ≡ o
+      read : (o : Out) {most : ℕ} → most ≤ 2 ^ 32 → Said most Values o → readOff value (answerWord o) ≡ o
       read o m s = ⊎-elim (refusal-off value o m) (off o) s
 
 -- a store of any of the sizes has fewer pages than a word has room for
@@ -134,15 +134,15 @@ module _ (s : List ℕ) where
   widely o (inr (n, (l, e))) = inr (n, (omega (arith, l, few s), e))
 
 pub format-one : (s t u v : List ℕ) (m n r : ℕ) (a : TellsAnd (formatSized m s) u r) (b : TellsAnd (formatSized n t) v r) → a .out ≡ b .out
-format-one s t u v m n r a b = one (λ _. formatted) (λ o. o ≡ formatted) (λ o e. subst (λ x. readOff (λ _. formatted) (word x) ≡ x) (sym e) refl) (omega arith) (omega arith) (a .is) (b .is)
+format-one s t u v m n r a b = one (λ _. formatted) (λ o. o ≡ formatted) (λ o e. subst (λ x. readOff (λ _. formatted) (answerWord x) ≡ x) (sym e) refl) (omega arith) (omega arith) (a .is) (b .is)
     (format-sized s m (a .out, u) (a .allowed)) (format-sized t n (b .out, v) (b .allowed))
 
 pub fill-one : (s t u v : List ℕ) (r : ℕ) (a : TellsAnd (fillTable (shapeOf s) fnv s) u r) (b : TellsAnd (fillTable (shapeOf t) fnv t) v r) → a .out ≡ b .out
-fill-one s t u v r a b = one (λ _. formatted) (λ o. o ≡ formatted) (λ o e. subst (λ x. readOff (λ _. formatted) (word x) ≡ x) (sym e) refl) (few s) (few t) (a .is) (b .is)
+fill-one s t u v r a b = one (λ _. formatted) (λ o. o ≡ formatted) (λ o e. subst (λ x. readOff (λ _. formatted) (answerWord x) ≡ x) (sym e) refl) (few s) (few t) (a .is) (b .is)
     (fill-said (shapeOf s) fnv (sized-of s) s (a .out, u) (a .allowed)) (fill-said (shapeOf t) fnv (sized-of t) t (b .out, v) (b .allowed))
 
 pub check-one : (s t : List ℕ) (r : ℕ) (a : Tells (checkTable (shapeOf s) fnv s) r) (b : Tells (checkTable (shapeOf t) fnv t) r) → a .out ≡ b .out
-check-one s t r a b = one (λ _. accepted) (λ o. o ≡ accepted) (λ o e. subst (λ x. readOff (λ _. accepted) (word x) ≡ x) (sym e) refl) (few s) (few t) (a .is) (b .is)
+check-one s t r a b = one (λ _. accepted) (λ o. o ≡ accepted) (λ o e. subst (λ x. readOff (λ _. accepted) (answerWord x) ≡ x) (sym e) refl) (few s) (few t) (a .is) (b .is)
     (check-said (shapeOf s) fnv s (a .out) (a .allowed)) (check-said (shapeOf t) fnv t (b .out) (b .allowed))
 
 pub count-one : (s t : List ℕ) (r : ℕ) (a : Tells (countTable (shapeOf s) fnv s) r) (b : Tells (countTable (shapeOf t) fnv t) r) → a .out ≡ b .out
@@ -162,14 +162,14 @@ put-one s t c d u v p q m n r a b = one putIn Kept put-off (few s) (few t) (a .i
     (put-said (shapeOf s) fnv (sized-of s) fnv-lt s c p m (a .out, u) (a .allowed)) (put-said (shapeOf t) fnv (sized-of t) fnv-lt t d q n (b .out, v) (b .allowed))
 
 pub all-one : (s t u v ns ks : List ℕ) (d e : Runs) (m n r : ℕ) (a : TellsAll (batchTable (shapeOf s) fnv s d m) u ns r) (b : TellsAll (batchTable (shapeOf t) fnv t e n) v ks r) → a .out ≡ b .out
-all-one s t u v ns ks d e m n r a b = one (λ _. accepted) (λ o. o ≡ accepted) (λ o e. subst (λ x. readOff (λ _. accepted) (word x) ≡ x) (sym e) refl) (few s) (few t) (a .is) (b .is)
+all-one s t u v ns ks d e m n r a b = one (λ _. accepted) (λ o. o ≡ accepted) (λ o e. subst (λ x. readOff (λ _. accepted) (answerWord x) ≡ x) (sym e) refl) (few s) (few t) (a .is) (b .is)
     (batch-said (shapeOf s) fnv s d m (a .out, (u, ns)) (a .allowed)) (batch-said (shapeOf t) fnv t e n (b .out, (v, ks)) (b .allowed))
 
 -- a row, with the code's length
 abbrev Sized : ℕ → Out → Type 0
 Sized len o = (old : ℕ) × ((len ≡ lengthAfter o old) × Rowed o)
 
-row-off : (len : ℕ) (o : Out) → Sized len o → readOff (λ w. row len (placeIn w)) (word o) ≡ o
+row-off : (len : ℕ) (o : Out) → Sized len o → readOff (λ w. row len (placeIn w)) (answerWord o) ≡ o
 row-off len o (old, (z, (l, (h, (b, (r, e)))))) =
     let n : len ≡ l = z ∙ ap (λ x. lengthAfter x old) e ∙ omega arith in
     place-off (row len) (λ p. refl) o (b, (r, e ∙ ap (λ k. row k (place b)) (sym n)))

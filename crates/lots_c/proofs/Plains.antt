@@ -11,7 +11,7 @@ use mir.Val.{Fits, SFits, toZ, ofZ, bits, hbits}
 use Rattle.ground.proofs.Tests.{says-true, says-false}
 use Rattle.page.proofs.Signs.{says-negative, positive, cast-asks, cast-gives}
 use Rattle.store.specs.Tables.{Out, Numbered}
-use Rattle.lots_c.specs.Words.{plain, refusalWord, word}
+use Rattle.lots_c.specs.Words.{plain, refusalWord, answerWord}
 
 below-zero : (x : ℤ) → x <ℤ pos 0 → 0 ≡ plain x
 below-zero (pos n) h = absurd (positive n h)
@@ -30,6 +30,6 @@ module _ (w : Width) (x : ℤ) (f : SFits w x) (e : ltZ (toZ w (ofZ w x)) (pos 0
   pub plain-gives : (natAbs (toZ w (ofZ w x)) ≡ plain x) × (natAbs (toZ w (ofZ w x)) < 2 ^ hbits w)
   plain-gives = let g = cast-gives w x f natural in (sym (ap plain (g .0)), g .1)
 
-pub numbered-word : (n p : ℕ) (o : Out) → Numbered n p o → refusalWord n p ≡ word o
-numbered-word n p o (inl h) = ap (refusalWord n) (h .1) ∙ sym (ap word (h .2))
-numbered-word n p o (inr h) = sym (ap word (h .1))
+pub numbered-word : (n p : ℕ) (o : Out) → Numbered n p o → refusalWord n p ≡ answerWord o
+numbered-word n p o (inl h) = ap (refusalWord n) (h .1) ∙ sym (ap answerWord (h .2))
+numbered-word n p o (inr h) = sym (ap answerWord (h .1))

@@ -23,16 +23,16 @@ abbrev pub refusalWord : ℕ → ℕ → ℕ
 refusalWord n p = 2 ^ 63 + n + 256 * (p % 2 ^ 32)
 
 -- the word of an answer
-abbrev pub word : Out → ℕ
-word (refused n) = refusalWord n 0
-word (refusedAt n p) = refusalWord n p
-word formatted = 0
-word accepted = 0
-word new = 2 ^ 31
-word (replaced p) = placeWord p
-word (found p) = placeWord p
-word (counted n) = n
-word (row l p) = placeWord p
+abbrev pub answerWord : Out → ℕ
+answerWord (refused n) = refusalWord n 0
+answerWord (refusedAt n p) = refusalWord n p
+answerWord formatted = 0
+answerWord accepted = 0
+answerWord new = 2 ^ 31
+answerWord (replaced p) = placeWord p
+answerWord (found p) = placeWord p
+answerWord (counted n) = n
+answerWord (row l p) = placeWord p
 
 -- the length of the code that was given, in 32 bits, or what stood there
 abbrev pub lengthAfter : Out → ℕ → ℕ
@@ -50,25 +50,25 @@ lengthAfter (row l p) old = l % 2 ^ 32
 pub record Tells (T : Ladder Out) (r : ℕ) : Type 0 where
   pub out : Out
   pub allowed : Answers T out
-  pub is : r ≡ word out
+  pub is : r ≡ answerWord out
 
 -- the same of a call that writes: t is what it leaves
 pub record TellsAnd (T : Ladder (Out × List ℕ)) (t : List ℕ) (r : ℕ) : Type 0 where
   pub out : Out
   pub allowed : Answers T (out, t)
-  pub is : r ≡ word out
+  pub is : r ≡ answerWord out
 
 -- the same of a batch: ns is what its run of answers holds then
 pub record TellsAll (T : Ladder (Out × (List ℕ × List ℕ))) (t ns : List ℕ) (r : ℕ) : Type 0 where
   pub out : Out
   pub allowed : Answers T (out, (t, ns))
-  pub is : r ≡ word out
+  pub is : r ≡ answerWord out
 
 -- the same of a call that gives a row: the code's length too
 pub record TellsRow (T : Ladder (Out × List ℕ)) (t : List ℕ) (old len r : ℕ) : Type 0 where
   pub out : Out
   pub allowed : Answers T (out, t)
-  pub is : r ≡ word out
+  pub is : r ≡ answerWord out
   pub size : len ≡ lengthAfter out old
 
 -- ---- the bid report
@@ -78,7 +78,7 @@ abbrev pub noSums : ℕ → ℕ → ReportAnswer
 noSums a p = record { answer = a; place = p; total = pos 0; hidden = 0; cents = pos 0; doubled = 0 }
 
 abbrev pub reportWords : Reported → ReportAnswer
-reportWords (other o) = noSums (word o) 0
+reportWords (other o) = noSums (answerWord o) 0
 reportWords (missing p) = noSums (refusalWord 11 0) (placeWord p)
 reportWords (summed x) = record { answer = 0; place = 0; total = x .total; hidden = x .hidden; cents = x .cents; doubled = x .doubled }
 

@@ -9,7 +9,7 @@ ghost use Rattle.store.specs.Tables.{formatSized, checkTable, countTable, looku
 ghost use Rattle.batch.specs.Batch.{runs, batchTable};
 ghost use Rattle.filling.specs.Filling.{fillTable};
 ghost use Rattle.report.specs.Report.{reported, reportTable};
-ghost use Rattle.lots_c.specs.Words.{plain, placeWord, refusalWord, word, lengthAfter, Tells, TellsAnd, TellsAll, TellsRow, noSums, reportWords, TellsReport};
+ghost use Rattle.lots_c.specs.Words.{plain, placeWord, refusalWord, answerWord, lengthAfter, Tells, TellsAnd, TellsAll, TellsRow, noSums, reportWords, TellsReport};
 use page::Place;
 use report::Outcome;
 use report::SheetRow;
@@ -49,7 +49,7 @@ fn refusal_word(n: Numbers) -> u64
 
 // The word of an answer.
 fn word_of(a: Answer) -> u64
-    ensures { λ r. ⌜ r ≡ word (meaning a) ⌝ }
+    ensures { λ r. ⌜ r ≡ answerWord (meaning a) ⌝ }
 {
     match a {
         Answer::Refused(r) => refusal_word(store::numbers_of(r)),

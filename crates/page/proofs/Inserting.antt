@@ -10,7 +10,7 @@ use Rattle.ground.specs.Lists.{byte, tab, total, insertAt}
 use Rattle.ground.proofs.Sides.{side}
 use Rattle.ground.proofs.Parts.{part-same}
 use Rattle.words.specs.Codes.{Before}
-use Rattle.page.specs.Page.{Natural, In, Record, rows, rowAt, need, word, off, len, kind, place, code, count, frontier}
+use Rattle.page.specs.Page.{Natural, In, Record, rows, rowAt, slotNeed, word, off, len, kind, place, code, count, frontier}
 use Rattle.page.specs.Steps.{Insertable, Inserted}
 use Rattle.ground.proofs.Tables.{tab-insert, total-insert}
 use Rattle.page.proofs.Slots.{Lies, lies}
@@ -178,10 +178,10 @@ module _ (p : List ℕ) (s : ℕ) (c pl q : List ℕ) (I : Insertable p s c pl) 
   count-suc : count q ≡ suc (count p)
   count-suc = omega (arith, P .counted)
 
-  needs-sum : total (need q) (count q) ≡ 12 + length c + total (need p) (count p)
+  needs-sum : total (slotNeed q) (count q) ≡ 12 + length c + total (slotNeed p) (count p)
   needs-sum =
-      let t : total (need q) (suc (count p)) ≡ need q s + total (need p) (count p) =
-      total-insert (need p) (need q) (count p) s (I .belongs .within)
+      let t : total (slotNeed q) (suc (count p)) ≡ slotNeed q s + total (slotNeed p) (count p) =
+      total-insert (slotNeed p) (slotNeed q) (count p) s (I .belongs .within)
       (λ i h. omega (arith, lower i h .len-is))
       (λ i h m. let e : i + 1 ≡ suc i = add-one i in omega (arith, rw e at (upper i h m .len-is))) in
       rw count-suc (omega (arith, t, new-len))

@@ -11,7 +11,7 @@ use Rattle.ground.proofs.Parts.{part-same}
 use Rattle.ground.proofs.Tables.{tab-set, total-same}
 use Rattle.words.specs.Moves.{Frame, Copied}
 use Rattle.words.proofs.Bytes.{le16-below, le32-above, copied-part}
-use Rattle.page.specs.Page.{Natural, In, Record, rows, rowAt, need, word, off, len, kind, place, code, count, frontier, free, slotAt}
+use Rattle.page.specs.Page.{Natural, In, Record, rows, rowAt, slotNeed, word, off, len, kind, place, code, count, frontier, free, slotAt}
 use Rattle.page.specs.Steps.{Overwritable, Overwritten}
 use Rattle.page.proofs.Slots.{Lies, lies}
 use Rattle.page.proofs.Painted.{word-at}
@@ -87,8 +87,8 @@ module _ (p : List ℕ) (s : ℕ) (pl q : List ℕ) (O : Overwritable p s pl) (C
       kept k (λ f t. out s (omega (arith, counted, O .within)) (in-q s k (O .within) (record { from = f; to = omega (arith, here) })))
       ∙ O .page .clear k h (omega (arith, counted, old .len)) (λ i n a. out i (omega (arith, counted)) (in-q i k n a))
 
-  needs-sum : total (need q) (count p) ≡ total (need p) (count p)
-  needs-sum = total-same (need q) (need p) (count p) (λ i h. omega (arith, lens i h))
+  needs-sum : total (slotNeed q) (count p) ≡ total (slotNeed p) (count p)
+  needs-sum = total-same (slotNeed q) (slotNeed p) (count p) (λ i h. omega (arith, lens i h))
 
   rows-are : rows q ≡ set (rows p) s (record { start = off p s; place = pl; code = code p s })
   rows-are =

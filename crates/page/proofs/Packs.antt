@@ -10,7 +10,7 @@ use Rattle.ground.specs.Lists.{byte, tab, insertAt, total}
 use Rattle.words.specs.Moves.{Cleared}
 use Rattle.ground.proofs.Sides.{side}
 use Rattle.words.proofs.Bytes.{byte-set, byte-other}
-use Rattle.page.specs.Page.{Slotted, Record, rowAt, count, frontier, free, off, len, code, place, need}
+use Rattle.page.specs.Page.{Slotted, Record, rowAt, count, frontier, free, off, len, code, place, slotNeed}
 use Rattle.page.specs.Steps.{Headed, Insertable, Inserted}
 use Rattle.page.proofs.Slots.{Lies, lies}
 use Rattle.ground.proofs.Tables.{total-same}
@@ -50,7 +50,7 @@ fresh {p} {q₁} {q} {d} lo hi a b bytes =
         places = λ i h. absurd (omega (arith, b .counted));
         apart = λ i j k h. absurd (omega (arith, b .counted));
         ascending = λ i j h m. absurd (omega (arith, b .counted));
-        unused = rw (b .counted) (omega (arith, b .freed, total-none (need q)));
+        unused = rw (b .counted) (omega (arith, b .freed, total-none (slotNeed q)));
         clear = λ k h m out. zero-at k h (omega arith);
       };
       long = l;
@@ -59,8 +59,8 @@ fresh {p} {q₁} {q} {d} lo hi a b bytes =
     }
 
 -- a page's total need is within it
-needs-fit : (p : List ℕ) (i : ℕ) → Slotted p → i < count p → total (need p) i + 4 + len p i ≤ length p - 8
-needs-fit p i b h = omega (arith, total-more (need p) i, total-le (need p) (i + 1) (count p) (omega arith), b .unused)
+needs-fit : (p : List ℕ) (i : ℕ) → Slotted p → i < count p → total (slotNeed p) i + 4 + len p i ≤ length p - 8
+needs-fit p i b h = omega (arith, total-more (slotNeed p) i, total-le (slotNeed p) (i + 1) (count p) (omega arith), b .unused)
 
 module _ (p : List ℕ) (i : ℕ) (q : List ℕ) (K : PackedTo p i q) where
   pub frontier-is : frontier q ≡ 8 + total (len p) i
@@ -85,8 +85,8 @@ module _ (p : List ℕ) (i : ℕ) (q : List ℕ) (K : PackedTo p i q) where
       ))
       (side i 1)
 
-  needs-are : total (need q) (count q) ≡ total (need p) i
-  needs-are = rw (K .counted) (total-same (need q) (need p) i (λ j m. omega (arith, K .each j m .sized)))
+  needs-are : total (slotNeed q) (count q) ≡ total (slotNeed p) i
+  needs-are = rw (K .counted) (total-same (slotNeed q) (slotNeed p) i (λ j m. omega (arith, K .each j m .sized)))
 
 module _ (p : List ℕ) (i : ℕ) (q : List ℕ) (P : Slotted p) (K : PackedTo p i q) (h : i < count p) where
   pub insertable : Insertable q i (code p i) (place p i)
@@ -158,7 +158,7 @@ first {p} {c} {pl} {q} {d} S F = record {
   belongs = record { within = omega arith; left = λ i h. absurd (omega arith); right = λ i h m. absurd (omega (arith, F .none)) };
   natural = S .natural;
   good = S .good;
-  fits = let u : free q + total (need q) 0 ≡ length q - 8 = rw (F .none) at (F .page .unused) in omega (arith, u, total-none (need q), F .long, S .room);
+  fits = let u : free q + total (slotNeed q) 0 ≡ length q - 8 = rw (F .none) at (F .page .unused) in omega (arith, u, total-none (slotNeed q), F .long, S .room);
   room = omega (arith, F .page .empty (F .none), F .none, F .long, S .room);
 }
 

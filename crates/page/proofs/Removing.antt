@@ -11,7 +11,7 @@ use Rattle.words.specs.Moves.{Frame, Cleared}
 use Rattle.ground.proofs.Sides.{side}
 use Rattle.words.proofs.Bytes.{span-frame, le32-above}
 use Rattle.words.specs.Codes.{Before}
-use Rattle.page.specs.Page.{In, rows, rowAt, need, word, off, len, kind, place, code, count, frontier, free, slotAt}
+use Rattle.page.specs.Page.{In, rows, rowAt, slotNeed, word, off, len, kind, place, code, count, frontier, free, slotAt}
 use Rattle.page.specs.Steps.{Removable, Removed, Closed, Headed, Top}
 use Rattle.ground.proofs.Tables.{tab-remove, total-insert}
 use Rattle.page.proofs.Slots.{Lies, lies}
@@ -150,8 +150,8 @@ module _ (p : List ℕ) (s : ℕ) (q : List ℕ) (I : Removable p s) (E : Erased
   count-suc : count p ≡ suc (count q)
   count-suc = omega (arith, E .counted)
 
-  needs-sum : total (need p) (count p) ≡ need p s + total (need q) (count q)
-  needs-sum = rw count-suc (total-insert (need q) (need p) (count q) s (omega (arith, E .counted, I .within))
+  needs-sum : total (slotNeed p) (count p) ≡ slotNeed p s + total (slotNeed q) (count q)
+  needs-sum = rw count-suc (total-insert (slotNeed q) (slotNeed p) (count q) s (omega (arith, E .counted, I .within))
       (λ i h. omega (arith, lower i h .len-is))
       (λ i h m. let e : i + 1 ≡ suc i = add-one i in omega (arith, rw e at (upper i h m .len-is))))
 

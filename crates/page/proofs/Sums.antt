@@ -9,7 +9,7 @@ use lib.Seq.{getD-take, getD-append-seam, length-take-le}
 use Rattle.ground.specs.Lists.{part, total, insertAt}
 use Rattle.ground.proofs.Parts.{length-part}
 use Rattle.words.specs.Codes.{GoodCode}
-use Rattle.page.specs.Page.{Slotted, BucketPage, Record, rows, rowAt, count, frontier, off, len, code, place, need}
+use Rattle.page.specs.Page.{Slotted, BucketPage, Record, rows, rowAt, count, frontier, off, len, code, place, slotNeed}
 use Rattle.page.specs.Steps.{Inserted}
 use Rattle.page.proofs.Slots.{Lies, lies}
 use Rattle.ground.proofs.Tables.{length-tab, getD-tab}
@@ -36,9 +36,9 @@ total-up f m (suc d) =
 pub total-le : (f : ℕ → ℕ) (m n : ℕ) → m ≤ n → total f m ≤ total f n
 total-le f m n h = let e : m + (n - m) ≡ n = omega arith in rw e at (total-up f m (n - m))
 
-pub total-need : (p : List ℕ) (n : ℕ) → total (need p) n ≡ 4 * n + total (len p) n
-total-need p zero = omega (arith, total-none (need p), total-none (len p))
-total-need p (suc n) = let ih : total (need p) n ≡ 4 * n + total (len p) n = total-need p n in omega (arith, total-suc (need p) n, total-suc (len p) n)
+pub total-need : (p : List ℕ) (n : ℕ) → total (slotNeed p) n ≡ 4 * n + total (len p) n
+total-need p zero = omega (arith, total-none (slotNeed p), total-none (len p))
+total-need p (suc n) = let ih : total (slotNeed p) n ≡ 4 * n + total (len p) n = total-need p n in omega (arith, total-suc (slotNeed p) n, total-suc (len p) n)
 
 total-least : (f : ℕ → ℕ) (n : ℕ) → ((i : ℕ) → i < n → 13 ≤ f i) → 13 * n ≤ total f n
 total-least f zero e = omega arith
@@ -46,7 +46,7 @@ total-least f (suc n) e = omega (arith, total-suc f n, e n (omega arith), total-
 
 -- a row needs at least 13 bytes, so a page has at most (its size less 8) / 13 rows
 pub row-room : (p : List ℕ) → Slotted p → 13 * count p + 8 ≤ length p
-row-room p b = omega (arith, b .unused, b .least, total-least (need p) (count p) (λ i l. omega (arith, b .short i l)))
+row-room p b = omega (arith, b .unused, b .least, total-least (slotNeed p) (count p) (λ i l. omega (arith, b .short i l)))
 
 pub most-rows : (p : List ℕ) → Slotted p → count p ≤ (length p - 8) / 13
 most-rows p b = omega (arith, row-room p b)

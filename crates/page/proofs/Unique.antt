@@ -11,7 +11,7 @@ use Rattle.words.specs.Le.{le32}
 use Rattle.ground.proofs.Sides.{side}
 use Rattle.ground.proofs.Parts.{byte-part, length-part}
 use Rattle.words.proofs.Bytes.{le16-bytes, le32-byte}
-use Rattle.page.specs.Page.{Slotted, In, rows, rowAt, need, word, off, len, kind, place, code, count, frontier, free, depth, slotAt}
+use Rattle.page.specs.Page.{Slotted, In, rows, rowAt, slotNeed, word, off, len, kind, place, code, count, frontier, free, depth, slotAt}
 use Rattle.ground.proofs.Tables.{length-tab, getD-tab, total-same}
 use Rattle.page.proofs.Slots.{Lies, lies}
 
@@ -66,8 +66,8 @@ module _ (p q : List ℕ) (P : Slotted p) (Q : Slotted q) (l : length p ≡ leng
 
   frees : free p ≡ free q
   frees =
-      let t : total (need p) (count p) ≡ total (need q) (count p) = total-same (need p) (need q) (count p) (λ i h. omega (arith, lens i h)) in
-      let u : total (need p) (count p) ≡ total (need q) (count q) = t ∙ ap (λ n. total (need q) n) counts in
+      let t : total (slotNeed p) (count p) ≡ total (slotNeed q) (count p) = total-same (slotNeed p) (slotNeed q) (count p) (λ i h. omega (arith, lens i h)) in
+      let u : total (slotNeed p) (count p) ≡ total (slotNeed q) (count q) = t ∙ ap (λ n. total (slotNeed q) n) counts in
       omega (arith, P .unused, Q .unused, l, u)
 
   -- a byte of record i

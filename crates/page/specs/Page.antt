@@ -55,8 +55,8 @@ abbrev pub rows : List ℕ → List Record
 rows p = tab (rowAt p) (count p)
 
 -- a row's need: 4 of slot and its record
-abbrev pub need : List ℕ → ℕ → ℕ
-need p i = 4 + len p i
+abbrev pub slotNeed : List ℕ → ℕ → ℕ
+slotNeed p i = 4 + len p i
 
 -- byte k is of record i
 pub record In (p : List ℕ) (i k : ℕ) : Type 0 where
@@ -88,7 +88,7 @@ pub record Slotted (p : List ℕ) : Type 0 where
   pub places : (i : ℕ) → i < count p → Natural (place p i)
   pub apart : (i j k : ℕ) → i < count p → j < count p → In p i k → In p j k → i ≡ j
   pub ascending : (i j : ℕ) → i < j → j < count p → Before (code p i) (code p j)
-  pub unused : free p + total (need p) (count p) ≡ length p - 8
+  pub unused : free p + total (slotNeed p) (count p) ≡ length p - 8
   pub clear : (k : ℕ) → 8 ≤ k → k + 4 * count p < length p → ((i : ℕ) → i < count p → In p i k → ⊥) → byte p k ≡ 0
 
 -- a bucket page has a row

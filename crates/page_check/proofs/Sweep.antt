@@ -12,7 +12,7 @@ use Rattle.words.specs.Codes.{Before, order}
 use Rattle.words.specs.Le.{le32}
 use Rattle.words.specs.Zeros.{Zero}
 use Rattle.page.proofs.Sums.{total-more}
-use Rattle.page.specs.Page.{off, len, word, code, count, frontier, free, need, slotAt}
+use Rattle.page.specs.Page.{off, len, word, code, count, frontier, free, slotNeed, slotAt}
 use Rattle.page_check.specs.Rules.{WordOk, SlotsOk, Preceded, Codes, prior, offOf, lenOf, slotOf}
 use Rattle.page_check.specs.Big.{Led}
 use Rattle.page_check.specs.Table.{Table, NextOk, NextTold}
@@ -101,9 +101,9 @@ before-some p k w s h e =
     }
 
 -- the needs of one slot more
-pub needs-more : (p : List ℕ) (j w : ℕ) → w ≡ word p j → total (need p) (j + 1) ≡ total (need p) j + 4 + lenOf w
+pub needs-more : (p : List ℕ) (j w : ℕ) → w ≡ word p j → total (slotNeed p) (j + 1) ≡ total (slotNeed p) j + 4 + lenOf w
 unfolding len
-needs-more p j w e = rw e (omega (arith, total-more (need p) j))
+needs-more p j w e = rw e (omega (arith, total-more (slotNeed p) j))
 
-pub slots-all : (p t : List ℕ) (f : ℕ) → f ≡ frontier p → Swept p (count p) f t → free p + total (need p) (count p) ≡ length p - 8 → SlotsOk p
+pub slots-all : (p t : List ℕ) (f : ℕ) → f ≡ frontier p → Swept p (count p) f t → free p + total (slotNeed p) (count p) ≡ length p - 8 → SlotsOk p
 slots-all p t f e s u = record { words = rw e at (s .words); ascending = s .ascending; unused = u }

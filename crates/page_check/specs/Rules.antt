@@ -5,7 +5,7 @@ use mathlib.Core.List.{List, []}
 use lib.ListN.{length}
 use Rattle.ground.specs.Lists.{byte, part, total}
 use Rattle.words.specs.Codes.{Before}
-use Rattle.page.specs.Page.{off, len, count, frontier, free, code, word, need}
+use Rattle.page.specs.Page.{off, len, count, frontier, free, code, word, slotNeed}
 
 -- the header: the page's size, byte 0, the row count, and a frontier past the first record and not past the slots
 pub record HeadOk (p : List ℕ) : Type 0 where
@@ -68,4 +68,4 @@ pub record Codes (p : List ℕ) (w : ℕ) (c : List ℕ) : Type 0 where
 pub record SlotsOk (p : List ℕ) : Type 0 where
   pub words : (i : ℕ) → i < count p → WordOk (frontier p) (word p i)
   pub ascending : (i : ℕ) → i < count p → Before (prior p i) (code p i)
-  pub unused : free p + total (need p) (count p) ≡ length p - 8
+  pub unused : free p + total (slotNeed p) (count p) ≡ length p - 8

@@ -20,7 +20,7 @@ use Rattle.store.specs.Pages.{S1024}
 use Rattle.store.specs.Accepted.{Accepted}
 use Rattle.store.specs.Moves.{pick}
 use Rattle.store.specs.Tables.{Out, refused, new, replaced, putAccepted, putByMode, putTable}
-use Rattle.store.specs.Demands.{put, Made, ok, GoodCode, Mode, WholePages, faults, ExactlyWhen, putAnswer, Refuses, after, sized-1024}
+use Rattle.store.specs.Demands.{put, Made, ok, GoodCode, Mode, WholePages, faults, ExactlyWhen, putAnswer, Refuses, rowsAfter, sized-1024}
 use Rattle.store.proofs.Accepted.Rules.{accepted-whole}
 use Rattle.store.proofs.Demands.Settled.{row-settled, inspect-settled, put-settled}
 use Rattle.store.proofs.Demands.Meaning.{meaning-one}
@@ -155,7 +155,7 @@ module _ (S : Shape) (sized : Sized S) where
       let d = demand-3 S fnv sized fnv-lt in
       record {
         since-format = λ rs. refl;
-        refused-keeps = λ c o rs e. ap (λ b. pick b (after c rs) rs) e;
+        refused-keeps = λ c o rs e. ap (λ b. pick b (rowsAfter c rs) rs) e;
         afresh = d .0;
         same-refusals = d .1;
         kept-pages = d .2;

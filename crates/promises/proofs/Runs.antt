@@ -30,7 +30,7 @@ use Rattle.store.specs.Pages.{S1024, pages, rowsHeld}
 use Rattle.store.specs.Accepted.{GoodLength, Accepted}
 use Rattle.store.specs.Moves.{pick}
 use Rattle.store.specs.Tables.{Out, formatted, new, blank, formatTable, formatSized, lookupTable, putTable, removeTable, rowTable}
-use Rattle.store.specs.Demands.{Hash, format, put, Made, ok, GoodCode, map-of, putAnswer, Refuses, History, begin, next, after, sized-1024}
+use Rattle.store.specs.Demands.{Hash, format, put, Made, ok, GoodCode, map-of, putAnswer, Refuses, History, begin, next, rowsAfter, sized-1024}
 use Rattle.store.proofs.Accepted.OwnSize.{size-is-said}
 use Rattle.store.proofs.Demands.Kept.{unrefused}
 use Rattle.store.proofs.Demands.Modes.{put-each}
@@ -182,7 +182,7 @@ module _ (h : List ℕ → ℕ) (hash : Hash h) (P : Program) (meets : Meets h P
 
     pub at-next : At (rowOf c p ∷ rs) then
     at-next = record {
-      past = subst (λ (q : List Row). History S1024 h q then) (ap (λ (b : Bool). pick b (after (put c p 0) rs) rs) (ap ok says-new) ∙ ap (λ x. rowOf x p ∷ without (λ q. q .code) x rs) low ∙ ap (λ q. rowOf c p ∷ q) (cut-none c rs fresh)) (next (put c p 0) o (w .past) made);
+      past = subst (λ (q : List Row). History S1024 h q then) (ap (λ (b : Bool). pick b (rowsAfter (put c p 0) rs) rs) (ap ok says-new) ∙ ap (λ x. rowOf x p ∷ without (λ q. q .code) x rs) low ∙ ap (λ q. rowOf c p ∷ q) (cut-none c rs fresh)) (next (put c p 0) o (w .past) made);
       long = demand-2 S1024 h sized-1024 hash .10 (put c p 0) t o then (accepted-at w) made .1 ∙ w .long;
       small = put-bytes h t c p 0 (w .small) (o, then) made;
     }

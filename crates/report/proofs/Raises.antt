@@ -7,7 +7,7 @@ use lib.Dec.{leb, ltb, leb→le, le→leb, ltb→lt}
 use lib.IntN.{ℤ, pos, negsuc, negℤ, _+ℤ_, +ℤ-assoc, +ℤ-comm}
 use lib.Signed.{_≤ℤ_, leZ-yes, pos-natAbs}
 use Rattle.report.specs.Report.{highest}
-use Rattle.report.specs.Numbers.{outside, raise}
+use Rattle.report.specs.Numbers.{outside, raiseCents}
 use Rattle.report.proofs.Ranks.{holds, lt-yes, le-yes, Raised, raised}
 
 in-pos : (n : ℕ) (t : Bool) → leb n 1000000000000 ≡ t → cond t (n + 1000000000000) outside ≤ 2000000000000 → n ≤ 1000000000000
@@ -18,24 +18,24 @@ in-neg : (n : ℕ) (t : Bool) → ltb n 1000000000000 ≡ t → cond t (10000000
 in-neg n true e l = ltb→lt n 1000000000000 (holds e)
 in-neg n false e l = absurd (omega (arith, l))
 
-raised-in : (c : ℤ) → raise c ≤ 2000000000000 → Raised c
+raised-in : (c : ℤ) → raiseCents c ≤ 2000000000000 → Raised c
 raised-in (pos n) l = raised (pos n) refl (le-yes n 1000000000000 (in-pos n (leb n 1000000000000) refl l))
 raised-in (negsuc n) l = let h : n < 1000000000000 = in-neg n (ltb n 1000000000000) refl l in raised (negsuc n) (le-yes n 999999999999 (omega arith)) refl
 
-pub raise-is : (c : ℤ) → raise c ≤ 2000000000000 → pos (raise c) ≡ c +ℤ pos 1000000000000
+pub raise-is : (c : ℤ) → raiseCents c ≤ 2000000000000 → pos (raiseCents c) ≡ c +ℤ pos 1000000000000
 raise-is c l = let r = raised-in c l in ap pos (sym (r .is)) ∙ pos-natAbs (c +ℤ pos 1000000000000) (r .ok)
 
-pub amount-in : (c : ℤ) → negℤ highest ≤ℤ c → c ≤ℤ highest → raise c ≤ 2000000000000
+pub amount-in : (c : ℤ) → negℤ highest ≤ℤ c → c ≤ℤ highest → raiseCents c ≤ 2000000000000
 amount-in (pos n) l h =
     let m : n ≤ 1000000000000 = leb→le n 1000000000000 (h .le) in
-    let d : raise (pos n) ≡ n + 1000000000000 = ap (λ (t : Bool). cond t (n + 1000000000000) outside) (le-yes n 1000000000000 m) in
+    let d : raiseCents (pos n) ≡ n + 1000000000000 = ap (λ (t : Bool). cond t (n + 1000000000000) outside) (le-yes n 1000000000000 m) in
     omega (arith, d, m)
 amount-in (negsuc n) l h =
     let m : n ≤ 999999999999 = leb→le n 999999999999 (l .le) in
-    let d : raise (negsuc n) ≡ 1000000000000 - suc n = ap (λ (t : Bool). cond t (1000000000000 - suc n) outside) (lt-yes n 1000000000000 (omega (arith, m))) in
+    let d : raiseCents (negsuc n) ≡ 1000000000000 - suc n = ap (λ (t : Bool). cond t (1000000000000 - suc n) outside) (lt-yes n 1000000000000 (omega (arith, m))) in
     omega (arith, d)
 
-pub amount-out : (c : ℤ) → raise c ≤ 2000000000000 → (negℤ highest ≤ℤ c) × (c ≤ℤ highest)
+pub amount-out : (c : ℤ) → raiseCents c ≤ 2000000000000 → (negℤ highest ≤ℤ c) × (c ≤ℤ highest)
 amount-out (pos n) l = (leZ-yes tt, leZ-yes (le→leb n 1000000000000 (in-pos n (leb n 1000000000000) refl l)))
 amount-out (negsuc n) l = let m : n < 1000000000000 = in-neg n (ltb n 1000000000000) refl l in (leZ-yes (le→leb n 999999999999 (omega (arith, m))), leZ-yes tt)
 

@@ -11,7 +11,7 @@ use lib.IntN.{ℤ, pos, negsuc, natAbs, _+ℤ_}
 use lib.Signed.{mag, ltZ, leZ, nonNeg}
 use Rattle.report.specs.declared.SheetRow.{SheetRow}
 use Rattle.report.specs.Report.{placeIn, limit}
-use Rattle.report.specs.Numbers.{outside, natPart, ranked, rank, raise, laid}
+use Rattle.report.specs.Numbers.{outside, natPart, ranked, rank, raiseCents, laid}
 
 pub is-true : (b : Bool) → T b → b ≡ true
 is-true true t = refl
@@ -70,19 +70,19 @@ pack-c a b c h l k = sym (pack-when a b c false h l (lt-no c 32768 k))
 pub pack-in : (a b c : ℕ) → a < 2147483648 → b < 32768 → c < 32768 → a * 4294967296 + b * 65536 + c ≡ ranked a b c
 pack-in a b c h l k = sym (pack-when a b c true h l (lt-yes c 32768 k))
 
-pub raise-low : (c : ℤ) → leZ (negsuc 999999999999) c ≡ false → outside ≡ raise c
+pub raise-low : (c : ℤ) → leZ (negsuc 999999999999) c ≡ false → outside ≡ raiseCents c
 raise-low (pos n) e = absurd (fails e)
 raise-low (negsuc n) e = let l : 999999999999 < n = nleb→lt n 999999999999 (fails e) in sym (ap (λ (t : Bool). cond t (1000000000000 - suc n) outside) (lt-no n 1000000000000 (omega arith)))
 
-pub raise-high : (c : ℤ) → leZ c (pos 1000000000000) ≡ false → outside ≡ raise c
+pub raise-high : (c : ℤ) → leZ c (pos 1000000000000) ≡ false → outside ≡ raiseCents c
 raise-high (pos n) e = sym (ap (λ (t : Bool). cond t (n + 1000000000000) outside) e)
 raise-high (negsuc n) e = absurd (fails e)
 
 -- an amount in range, and 10^12 more
 pub record Raised (c : ℤ) : Type 0 where
   pub ok : T (nonNeg (c +ℤ pos 1000000000000))
-  pub is : natAbs (c +ℤ pos 1000000000000) ≡ raise c
-  pub small : raise c ≤ 2000000000000
+  pub is : natAbs (c +ℤ pos 1000000000000) ≡ raiseCents c
+  pub small : raiseCents c ≤ 2000000000000
   pub mag-small : mag (c +ℤ pos 1000000000000) ≤ 2000000000000
 
 raised-neg : (n : ℕ) (t : Bool) → ltb 1000000000000 (suc n) ≡ t → t ≡ false → n < 1000000000000
@@ -93,12 +93,12 @@ raised-neg n false e f l = (tt, refl, omega arith)
 pub raised : (c : ℤ) → leZ (negsuc 999999999999) c ≡ true → leZ c (pos 1000000000000) ≡ true → Raised c
 raised (pos n) e f =
     let l : n ≤ 1000000000000 = leb→le n 1000000000000 (holds f) in
-    let d : raise (pos n) ≡ n + 1000000000000 = ap (λ (t : Bool). cond t (n + 1000000000000) outside) (le-yes n 1000000000000 l) in
+    let d : raiseCents (pos n) ≡ n + 1000000000000 = ap (λ (t : Bool). cond t (n + 1000000000000) outside) (le-yes n 1000000000000 l) in
     record { ok = tt; is = sym d; small = omega (arith, d, l); mag-small = omega arith }
 raised (negsuc n) e f =
     let l : n ≤ 999999999999 = leb→le n 999999999999 (holds e) in
     let h : n < 1000000000000 = omega arith in
-    let d : raise (negsuc n) ≡ 1000000000000 - suc n = ap (λ (t : Bool). cond t (1000000000000 - suc n) outside) (lt-yes n 1000000000000 h) in
+    let d : raiseCents (negsuc n) ≡ 1000000000000 - suc n = ap (λ (t : Bool). cond t (1000000000000 - suc n) outside) (lt-yes n 1000000000000 h) in
     let a = raised-neg n (ltb 1000000000000 (suc n)) refl (lt-no 1000000000000 (suc n) (omega arith)) h in
     record { ok = a .0; is = a .1 ∙ sym d; small = omega (arith, d); mag-small = a .2 }
 
@@ -109,7 +109,7 @@ and-no false = refl
 
 module _ (fl : List ℕ) (i : ℕ) (r : SheetRow) where
   abbrev by-test : Bool → List ℕ
-  by-test t = cond t (set (set fl i (rank (placeIn r))) (limit + i) (raise (r .cents))) fl
+  by-test t = cond t (set (set fl i (rank (placeIn r))) (limit + i) (raiseCents (r .cents))) fl
 
   pub laid-far : limit ≤ i → fl ≡ laid fl i r
   laid-far l = sym (ap (λ (t : Bool). by-test (t && eqb (length fl) (2 * limit))) (lt-no i limit l))
@@ -117,5 +117,5 @@ module _ (fl : List ℕ) (i : ℕ) (r : SheetRow) where
   pub laid-odd : eqb (length fl) (2 * limit) ≡ false → fl ≡ laid fl i r
   laid-odd e = sym (ap (λ (t : Bool). by-test (ltb i limit && t)) e ∙ ap by-test (and-no (ltb i limit)))
 
-  pub laid-in : i < limit → eqb (length fl) (2 * limit) ≡ true → set (set fl i (rank (placeIn r))) (limit + i) (raise (r .cents)) ≡ laid fl i r
+  pub laid-in : i < limit → eqb (length fl) (2 * limit) ≡ true → set (set fl i (rank (placeIn r))) (limit + i) (raiseCents (r .cents)) ≡ laid fl i r
   laid-in l e = sym (ap (λ (t : Bool). by-test (t && eqb (length fl) (2 * limit))) (lt-yes i limit l) ∙ ap by-test e)

@@ -16,7 +16,7 @@ use Rattle.store.specs.Pages.{rowsHeld}
 use Rattle.report.specs.declared.SheetRow.{SheetRow}
 use Rattle.report.specs.declared.Sums.{Sums}
 use Rattle.report.specs.Report.{placeIn, limit, sheetRow, RowPlace, GoodSheet, totalOf, hiddenOf, hiddenCents, doubledOf, reportOf, PlaceAt, FirstMissing, Reported, other, missing, summed, reportTable}
-use Rattle.report.specs.Numbers.{outside, rank, raise, rankOn, ranksOf, raisedOf, spreadFrom, Sound, indexOf, tallied, unmarked, unmarkedSum, remarked, Lowered, SumsOf, ToldBy, numbersTable}
+use Rattle.report.specs.Numbers.{outside, rank, raiseCents, rankOn, ranksOf, raisedOf, spreadFrom, Sound, indexOf, tallied, unmarked, unmarkedSum, remarked, Lowered, SumsOf, ToldBy, numbersTable}
 use Rattle.report.proofs.Runs.{listed-below, listed-rank}
 use Rattle.report.proofs.Laid.{map-at, ranks-are, raised-are}
 use Rattle.report.proofs.Raises.{amount-in}
@@ -26,7 +26,7 @@ use Rattle.report.proofs.Marks.{AllFound, bumped, times, marks-are}
 use Rattle.report.proofs.Found.{before, stopped, all-found, marks-long}
 use Rattle.report.proofs.Totals.{InPlace, lowered-one, total-is, times-is, markOf, hidden-is, doubled-is, cents-is}
 
-in-place : (xs : List SheetRow) → ((i : ℕ) → i < length xs → RowPlace (placeIn (sheetRow xs i))) → ((i : ℕ) → i < length xs → raise (sheetRow xs i .cents) ≤ 2000000000000) → InPlace xs
+in-place : (xs : List SheetRow) → ((i : ℕ) → i < length xs → RowPlace (placeIn (sheetRow xs i))) → ((i : ℕ) → i < length xs → raiseCents (sheetRow xs i .cents) ≤ 2000000000000) → InPlace xs
 in-place [] p a = tt
 in-place (x ∷ xs) p a = ((p 0 (omega arith), a 0 (omega arith)), in-place xs (λ i l. p (suc i) (omega (arith, l))) (λ i l. a (suc i) (omega (arith, l))))
 

@@ -8,7 +8,7 @@ use native.Mathlib.Omega.{arith}
 use lib.ListN.{length, getD, length-map}
 use Rattle.report.specs.declared.SheetRow.{SheetRow}
 use Rattle.report.specs.Report.{placeIn, limit, sheetRow, RowPlace, GoodSheet}
-use Rattle.report.specs.Numbers.{rank, raise, RisingNumbers, AtMost, Sound}
+use Rattle.report.specs.Numbers.{rank, raiseCents, RisingNumbers, AtMost, Sound}
 use Rattle.report.proofs.Laid.{map-at}
 use Rattle.report.proofs.Orders.{parts, low-place, precedes-rank, rank-precedes}
 use Rattle.report.proofs.Raises.{amount-in, amount-out}
@@ -26,19 +26,19 @@ module _ (xs : List SheetRow) where
   ranks = map (λ (x : SheetRow). rank (placeIn x)) xs
 
   abbrev pub raised : List ℕ
-  raised = map (λ (x : SheetRow). raise (x .cents)) xs
+  raised = map (λ (x : SheetRow). raiseCents (x .cents)) xs
 
   pub ranks-long : length ranks ≡ length xs
   ranks-long = length-map xs (λ (x : SheetRow). rank (placeIn x))
 
   pub raised-long : length raised ≡ length xs
-  raised-long = length-map xs (λ (x : SheetRow). raise (x .cents))
+  raised-long = length-map xs (λ (x : SheetRow). raiseCents (x .cents))
 
   pub rank-at : (i : ℕ) → i < length xs → getD {A = ℕ} ranks i 0 ≡ rank (placeIn (sheetRow xs i))
   rank-at i l = map-at (λ (x : SheetRow). rank (placeIn x)) xs i l
 
-  raised-at : (i : ℕ) → i < length xs → getD {A = ℕ} raised i 0 ≡ raise (sheetRow xs i .cents)
-  raised-at i l = map-at (λ (x : SheetRow). raise (x .cents)) xs i l
+  raised-at : (i : ℕ) → i < length xs → getD {A = ℕ} raised i 0 ≡ raiseCents (sheetRow xs i .cents)
+  raised-at i l = map-at (λ (x : SheetRow). raiseCents (x .cents)) xs i l
 
   module _ (g : GoodSheet xs) where
     next : (k : ℕ) → k + 1 < length xs → rank (placeIn (sheetRow xs k)) < rank (placeIn (sheetRow xs (k + 1)))

@@ -17,7 +17,7 @@ use Rattle.report.specs.declared.NamedRow.the-variants.{Hidden, Once, Do
 use Rattle.report.specs.declared.SheetRow.{SheetRow}
 use Rattle.report.specs.declared.Sums.{Sums}
 use Rattle.report.specs.Report.{placeIn, limit, sheetRow, RowPlace, GoodSheet, timesNamed, Reported, other, missing, summed}
-use Rattle.report.specs.Numbers.{rank, raise, ranksOf, raisedOf, spreadFrom, Lowered, SumsOf, numbersTable}
+use Rattle.report.specs.Numbers.{rank, raiseCents, ranksOf, raisedOf, spreadFrom, Lowered, SumsOf, numbersTable}
 use Rattle.report.specs.Named.{LaidSheet, rankedPlace, AmountAt, TellsMark, TellsSheetRow}
 use Rattle.report.proofs.Laid.{words-are}
 use Rattle.report.proofs.Marks.{bumped}
@@ -98,16 +98,16 @@ module _ (xs : List SheetRow) (g : GoodSheet xs) (rs : List Row) (i : ℕ) (l : 
   abbrev x : SheetRow
   x = sheetRow xs i
 
-  numbers : (getD {A = ℕ} flat (0 + i) 0 ≡ rank (placeIn x)) × (getD {A = ℕ} flat (limit + (0 + i)) 0 ≡ raise (x .cents))
+  numbers : (getD {A = ℕ} flat (0 + i) 0 ≡ rank (placeIn x)) × (getD {A = ℕ} flat (limit + (0 + i)) 0 ≡ raiseCents (x .cents))
   numbers = words-are xs 0 (replicate (2 * limit) 0) i (length-replicate {A = ℕ} (2 * limit) 0) (omega (arith, g .most)) l
 
   amount-told : (p : Place) (z : ℤ) → AmountAt flat i p z → (p ≡ placeIn x) × (z ≡ x .cents)
   amount-told p z (a, b) =
       let m : 0 + i ≡ i = omega arith in
       let w : getD {A = ℕ} flat i 0 ≡ rank (placeIn x) = ap (λ (k : ℕ). getD {A = ℕ} flat k 0) (sym m) ∙ numbers .0 in
-      let v : getD {A = ℕ} flat (limit + i) 0 ≡ raise (x .cents) = ap (λ (k : ℕ). getD {A = ℕ} flat (limit + k) 0) (sym m) ∙ numbers .1 in (
+      let v : getD {A = ℕ} flat (limit + i) 0 ≡ raiseCents (x .cents) = ap (λ (k : ℕ). getD {A = ℕ} flat (limit + k) 0) (sym m) ∙ numbers .1 in (
         a ∙ ap rankedPlace w ∙ place-back (placeIn x) (g .places i l),
-        lowered-one (raise (x .cents)) 1 z (x .cents) (subst (λ (k : ℕ). Lowered k 1 z) v b) (raise-is (x .cents) (amount-in (x .cents) (g .amounts i l .0) (g .amounts i l .1))),
+        lowered-one (raiseCents (x .cents)) 1 z (x .cents) (subst (λ (k : ℕ). Lowered k 1 z) v b) (raise-is (x .cents) (amount-in (x .cents) (g .amounts i l .0) (g .amounts i l .1))),
       )
 
   -- EACH ROW THAT IS TOLD HIDDEN IS NAMED BY NO CODE, EACH DOUBLED BY MORE THAN ONE, AND EVERY OTHER BY ONE

@@ -11,7 +11,7 @@ use lib.ListN.{length, getD}
 use Rattle.partition.specs.Partition.{Row}
 use Rattle.report.specs.declared.SheetRow.{SheetRow}
 use Rattle.report.specs.Report.{placeIn, sheetRow, RowPlace, names, timesNamed, amountOf, totalOf, hiddenOf, hiddenCents, doubledOf}
-use Rattle.report.specs.Numbers.{rank, raise, rankOn, indexOf, markAt, tallied, RisingNumbers, unmarked, unmarkedSum, remarked, Lowered}
+use Rattle.report.specs.Numbers.{rank, raiseCents, rankOn, indexOf, markAt, tallied, RisingNumbers, unmarked, unmarkedSum, remarked, Lowered}
 use Rattle.report.proofs.Ranks.{lt-yes, le-yes, ne-false}
 use Rattle.report.proofs.Marks.{AllFound, bump, bumped, times}
 use Rattle.report.proofs.Names.{names-is, index-names}
@@ -24,11 +24,11 @@ lowered-one s k x y e f = sym (+ℤ-negℤ-cancel x (pos (k * 1000000000000))) �
 
 abbrev pub InPlace : List SheetRow → Type 0
 InPlace [] = Unit {0}
-InPlace (x ∷ xs) = (RowPlace (placeIn x) × (raise (x .cents) ≤ 2000000000000)) × InPlace xs
+InPlace (x ∷ xs) = (RowPlace (placeIn x) × (raiseCents (x .cents) ≤ 2000000000000)) × InPlace xs
 
 -- the amount at a code's place
-amount-when : (t : Bool) (x : SheetRow) (ls : List ℕ) (k m : ℕ) (y : ℤ) → raise (x .cents) ≤ 2000000000000 → (k < m → pos (getD {A = ℕ} ls k 0) ≡ y +ℤ pos 1000000000000)
-    → cond t 0 (suc k) < suc m → pos (getD {A = ℕ} (raise (x .cents) ∷ ls) (cond t 0 (suc k)) 0) ≡ cond t (x .cents) y +ℤ pos 1000000000000
+amount-when : (t : Bool) (x : SheetRow) (ls : List ℕ) (k m : ℕ) (y : ℤ) → raiseCents (x .cents) ≤ 2000000000000 → (k < m → pos (getD {A = ℕ} ls k 0) ≡ y +ℤ pos 1000000000000)
+    → cond t 0 (suc k) < suc m → pos (getD {A = ℕ} (raiseCents (x .cents) ∷ ls) (cond t 0 (suc k)) 0) ≡ cond t (x .cents) y +ℤ pos 1000000000000
 amount-when true x ls k m y a f l = raise-is (x .cents) a
 amount-when false x ls k m y a f l = f (le-of-suc-le-suc l)
 
@@ -98,8 +98,8 @@ module _ (rs : List Row) where
   doubled-is [] = refl
   doubled-is (x ∷ xs) = λ i. cond (two-mark (timesNamed rs x) i) 1 0 + doubled-is xs i
 
-  cents-when : (t : Bool) (x : SheetRow) (u n : ℕ) (z : ℤ) → raise (x .cents) ≤ 2000000000000 → pos u ≡ z +ℤ pos (n * 1000000000000)
-      → pos (cond t (raise (x .cents)) 0 + u) ≡ (cond t (x .cents) (pos 0) +ℤ z) +ℤ pos ((cond t 1 0 + n) * 1000000000000)
+  cents-when : (t : Bool) (x : SheetRow) (u n : ℕ) (z : ℤ) → raiseCents (x .cents) ≤ 2000000000000 → pos u ≡ z +ℤ pos (n * 1000000000000)
+      → pos (cond t (raiseCents (x .cents)) 0 + u) ≡ (cond t (x .cents) (pos 0) +ℤ z) +ℤ pos ((cond t 1 0 + n) * 1000000000000)
   cents-when true x u n z a e =
       let f : 1000000000000 + n * 1000000000000 ≡ (1 + n) * 1000000000000 = omega arith in
       (λ i. raise-is (x .cents) a i +ℤ e i) ∙ swap (x .cents) (pos 1000000000000) z (pos (n * 1000000000000)) ∙ ap (λ (m : ℕ). (x .cents +ℤ z) +ℤ pos m) f

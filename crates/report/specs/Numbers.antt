@@ -45,15 +45,15 @@ abbrev pub rank : Place → ℕ
 rank p = ranked (natPart (p .page)) (natPart (p .slot)) (natPart (p .volume))
 
 -- an amount raised by 10^12
-abbrev pub raise : ℤ → ℕ
-raise (pos n) = cond (leb n 1000000000000) (n + 1000000000000) outside
-raise (negsuc n) = cond (ltb n 1000000000000) (1000000000000 - suc n) outside
+abbrev pub raiseCents : ℤ → ℕ
+raiseCents (pos n) = cond (leb n 1000000000000) (n + 1000000000000) outside
+raiseCents (negsuc n) = cond (ltb n 1000000000000) (1000000000000 - suc n) outside
 
 -- ---- the sheet laid out: ranks from 0, raised amounts from the limit on
 
 -- row i, where there is room
 abbrev pub laid : List ℕ → ℕ → SheetRow → List ℕ
-laid fl i r = cond (ltb i limit && eqb (length fl) (2 * limit)) (set (set fl i (rank (placeIn r))) (limit + i) (raise (r .cents))) fl
+laid fl i r = cond (ltb i limit && eqb (length fl) (2 * limit)) (set (set fl i (rank (placeIn r))) (limit + i) (raiseCents (r .cents))) fl
 
 -- all rows, from row i on
 abbrev pub spreadFrom : ℕ → List SheetRow → List ℕ → List ℕ

@@ -2,7 +2,7 @@
 ghost use mathlib.Core.Path.{_≡_};
 ghost use Prim.Native.Nat.{_+_, _<_, _^_};
 ghost use Rattle.report.specs.Report.{placeIn};
-ghost use Rattle.report.specs.Numbers.{natPart, ranked, rank, raise, laid};
+ghost use Rattle.report.specs.Numbers.{natPart, ranked, rank, raiseCents, laid};
 use crate::LIMIT;
 use crate::SheetRow;
 use page::Place;
@@ -40,7 +40,7 @@ fn rank_row(r: SheetRow) -> u64
 
 // An amount raised by 10^12, so that no sum is negative; 2^63 for what is out of range.
 fn raise_of(c: i64) -> u64
-    ensures { λ r. ⌜ r ≡ raise c ⌝ }
+    ensures { λ r. ⌜ r ≡ raiseCents c ⌝ }
 {
     if -1000000000000 <= c {
         if c <= 1000000000000 {

@@ -14,7 +14,7 @@ use Rattle.commands.specs.declared.SheetLine.{SheetLine}
 use Rattle.commands.specs.declared.SheetLine.the-variants.{Passed, Amount, Other}
 use Rattle.page.specs.declared.Place.{Place}
 use Rattle.report.specs.declared.SheetRow.{SheetRow}
-use Rattle.report.specs.Numbers.{rank, raise, laid, spreadFrom}
+use Rattle.report.specs.Numbers.{rank, raiseCents, laid, spreadFrom}
 use Rattle.report.specs.Report.{placeIn, limit}
 use Rattle.report.proofs.Ranks.{lt-no}
 use Rattle.sheets.specs.declared.Sheet.{Sheet}
@@ -25,7 +25,7 @@ use Rattle.sheets.proofs.Breaks.{keeps-behind, break-stays, bad-stays, 
 
 -- a row past the room is not laid out
 unlaid : (fl : List ℕ) (i : ℕ) (r : SheetRow) → limit ≤ i → laid fl i r ≡ fl
-unlaid fl i r l = ap (λ (t : Bool). cond (t && eqb (length fl) (2 * limit)) (set (set fl i (rank (placeIn r))) (limit + i) (raise (r .cents))) fl) (lt-no i limit l)
+unlaid fl i r l = ap (λ (t : Bool). cond (t && eqb (length fl) (2 * limit)) (set (set fl i (rank (placeIn r))) (limit + i) (raiseCents (r .cents))) fl) (lt-no i limit l)
 
 module _ (xs ys : List SheetLine) where
   other-same : ((k : ℕ) → otherLine k ys ≡ 0) → otherLine 1 xs ≡ otherLine 1 (xs ++ ys)

@@ -11,7 +11,7 @@ use lib.Seq.{getD-append-seam}
 use Rattle.ground.proofs.Sides.{side}
 use Rattle.commands.specs.declared.SheetLine.{SheetLine}
 use Rattle.report.specs.declared.SheetRow.{SheetRow}
-use Rattle.report.specs.Numbers.{outside, rank, raise, spreadFrom}
+use Rattle.report.specs.Numbers.{outside, rank, raiseCents, spreadFrom}
 use Rattle.report.specs.Report.{placeIn, limit, highest, zeroRow, sheetRow, RowPlace, Precedes, GoodSheet}
 use Rattle.report.proofs.Laid.{words-are}
 use Rattle.report.proofs.Orders.{parts, low-place, precedes-rank, rank-precedes}
@@ -134,14 +134,14 @@ module _ (qs : List SheetRow) (r : SheetRow) (all : AllKeep qs) where
   row-before j l = List·getD-append qs (r ∷ []) zeroRow j l
 
   module _ (most : n < limit) where
-    words : (getD {A = ℕ} fl (0 + n) 0 ≡ rank (placeIn (sheetRow rs n))) × (getD {A = ℕ} fl (limit + (0 + n)) 0 ≡ raise (sheetRow rs n .cents))
+    words : (getD {A = ℕ} fl (0 + n) 0 ≡ rank (placeIn (sheetRow rs n))) × (getD {A = ℕ} fl (limit + (0 + n)) 0 ≡ raiseCents (sheetRow rs n .cents))
     words = words-are rs 0 blankSheet n blank-long (omega (arith, rs-long, most)) (omega (arith, rs-long))
 
     rank-is : getD {A = ℕ} fl n 0 ≡ rank (placeIn r)
     rank-is = let e : n ≡ 0 + n = omega arith in ap (λ (k : ℕ). getD {A = ℕ} fl k 0) e ∙ words .0 ∙ ap (λ (x : SheetRow). rank (placeIn x)) row-is
 
-    raise-is : getD {A = ℕ} fl (limit + n) 0 ≡ raise (r .cents)
-    raise-is = let e : n ≡ 0 + n = omega arith in ap (λ (k : ℕ). getD {A = ℕ} fl (limit + k) 0) e ∙ words .1 ∙ ap (λ (x : SheetRow). raise (x .cents)) row-is
+    raise-is : getD {A = ℕ} fl (limit + n) 0 ≡ raiseCents (r .cents)
+    raise-is = let e : n ≡ 0 + n = omega arith in ap (λ (k : ℕ). getD {A = ℕ} fl (limit + k) 0) e ∙ words .1 ∙ ap (λ (x : SheetRow). raiseCents (x .cents)) row-is
 
   keeps-numbers : RowKeeps rs n → NumbersKeep fl n (lowAfter 0 qs)
   keeps-numbers k =

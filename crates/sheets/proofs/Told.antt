@@ -10,7 +10,7 @@ use Rattle.report.specs.declared.NamedRow.the-variants.{Hidden, Once, Doubled}
 use Rattle.report.specs.declared.SheetRow.{SheetRow}
 use Rattle.report.specs.declared.Sums.{Sums}
 use Rattle.report.specs.Named.{LaidSheet, rankedPlace, TellsMark, TellsSheetRow}
-use Rattle.report.specs.Numbers.{outside, rank, raise, rankOn, ranksOf, raisedOf, spreadFrom, tallied, unmarked, unmarkedSum, Lowered, Sound, SumsOf}
+use Rattle.report.specs.Numbers.{outside, rank, raiseCents, rankOn, ranksOf, raisedOf, spreadFrom, tallied, unmarked, unmarkedSum, Lowered, Sound, SumsOf}
 use Rattle.report.specs.Report.{limit, placeIn, sheetRow, GoodSheet}
 use Rattle.report.proofs.Laid.{words-are, ranks-are, raised-are}
 use Rattle.report.proofs.Sheets.{ranks, raised, sound-good}
@@ -33,7 +33,7 @@ module _ (rs : List SheetRow) (few : length rs ≤ limit) (ls : List Row) where
   abbrev n : ℕ
   n = length rs
 
-  words : (v i : ℕ) → i < n → (getD {A = ℕ} (filled v) (0 + i) 0 ≡ rank (placeIn (sheetRow rs i))) × (getD {A = ℕ} (filled v) (limit + (0 + i)) 0 ≡ raise (sheetRow rs i .cents))
+  words : (v i : ℕ) → i < n → (getD {A = ℕ} (filled v) (0 + i) 0 ≡ rank (placeIn (sheetRow rs i))) × (getD {A = ℕ} (filled v) (limit + (0 + i)) 0 ≡ raiseCents (sheetRow rs i .cents))
   words v i l = words-are rs 0 (replicate (2 * limit) v) i (length-replicate {A = ℕ} (2 * limit) v) (omega (arith, few)) l
 
   -- whatever stood there before

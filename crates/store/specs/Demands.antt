@@ -261,19 +261,19 @@ module _ (S : Shape) (h : List ℕ → ℕ) where
 -- ---- demand 3: format a store, then make any calls, refused ones among them
 
 -- the rows that a call leaves, if it is not refused
-abbrev pub after : Call → List Row → List Row
-after format rs = []
-after check rs = rs
-after count rs = rs
-after (lookup c) rs = rs
-after (remove c) rs = without (λ q. q .code) (fold c) rs
-after (put c p m) rs = record { code = fold c; place = stored p } ∷ without (λ q. q .code) (fold c) rs
-after (rowAt n out) rs = rs
-after (inspect g n out) rs = rs
+abbrev pub rowsAfter : Call → List Row → List Row
+rowsAfter format rs = []
+rowsAfter check rs = rs
+rowsAfter count rs = rs
+rowsAfter (lookup c) rs = rs
+rowsAfter (remove c) rs = without (λ q. q .code) (fold c) rs
+rowsAfter (put c p m) rs = record { code = fold c; place = stored p } ∷ without (λ q. q .code) (fold c) rs
+rowsAfter (rowAt n out) rs = rs
+rowsAfter (inspect g n out) rs = rs
 
 -- a refused call leaves the rows as they were
 abbrev pub surviving : Call → Out → List Row → List Row
-surviving c o rs = pick (ok o) (after c rs) rs
+surviving c o rs = pick (ok o) (rowsAfter c rs) rs
 
 -- a history with its surviving rows and its store
 pub data History (S : Shape) (h : List ℕ → ℕ) : List Row → List ℕ → Type 0 where

@@ -6,11 +6,11 @@ use mathlib.Core.List.{List, [], _∷_, _++_}
 use lib.Dec.{eqb}
 use lib.ListN.{length, drop}
 use Rattle.ground.specs.Lists.{byte}
-use Rattle.commands.specs.SheetLines.{kind, wordThen, wordsOf}
+use Rattle.commands.specs.SheetLines.{blankKind, wordThen, wordsOf}
 
 -- a space, a tab or a carriage return
 abbrev pub isBlank : ℕ → Bool
-isBlank b = eqb (kind b) 1
+isBlank b = eqb (blankKind b) 1
 
 -- words, each behind a blank
 unfoldable pub behindBlanks : List (List ℕ) → List ℕ

@@ -1,7 +1,7 @@
 -- `lots_c::word_of` meets its contract, answer by answer. Assumes nothing.
 use mathlib.Core.Path.{sym, ap, _∙_}
 use Rattle.store.specs.Tables.{meaning}
-use Rattle.lots_c.specs.Words.{word}
+use Rattle.lots_c.specs.Words.{answerWord}
 use borrow.Author.Needs.{needs}
 use Rattle.lots_c.proofs.Plains.{numbered-word}
 use Rattle.lots_c.proofs.word_of.Statement.{statement}
@@ -47,7 +47,7 @@ place-word-requires-3 : tie.Need-place-word-requires-3
 place-word-requires-3 c κs = search needs
 
 returns : tie.Need-returns
-returns c = c .refusal-word .ensures ∙ numbered-word _ _ _ (c .before .numbers-of .ensures) ∙ sym (ap (λ x. word (meaning x)) (c .before .before .before .a .given .1))
+returns c = c .refusal-word .ensures ∙ numbered-word _ _ _ (c .before .numbers-of .ensures) ∙ sym (ap (λ x. answerWord (meaning x)) (c .before .before .before .a .given .1))
 
 returns-2 : tie.Need-returns-2
 returns-2 c = search needs
@@ -59,16 +59,16 @@ returns-4 : tie.Need-returns-4
 returns-4 c = search needs
 
 returns-5 : tie.Need-returns-5
-returns-5 c = c .place-word .ensures ∙ sym (ap (λ x. word (meaning x)) (c .before .before .a2 .given .1))
+returns-5 c = c .place-word .ensures ∙ sym (ap (λ x. answerWord (meaning x)) (c .before .before .a2 .given .1))
 
 returns-6 : tie.Need-returns-6
-returns-6 c = c .place-word2 .ensures ∙ sym (ap (λ x. word (meaning x)) (c .before .before .a3 .given .1))
+returns-6 c = c .place-word2 .ensures ∙ sym (ap (λ x. answerWord (meaning x)) (c .before .before .a3 .given .1))
 
 returns-7 : tie.Need-returns-7
 returns-7 c = search needs
 
 returns-8 : tie.Need-returns-8
-returns-8 c = c .place-word3 .ensures ∙ sym (ap (λ x. word (meaning x)) (c .before .before .a5 .given .1))
+returns-8 c = c .place-word3 .ensures ∙ sym (ap (λ x. answerWord (meaning x)) (c .before .before .a5 .given .1))
 
 pub word-of-spec : {M : Type 1} → statement M
 word-of-spec =

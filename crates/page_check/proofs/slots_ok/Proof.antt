@@ -8,7 +8,7 @@ use lib.ListN.{length, set, length-set}
 use Rattle.ground.proofs.Tests.{says-eqb, untrue}
 use Rattle.ground.specs.Lists.{total}
 use Rattle.words.specs.Le.{le32}
-use Rattle.page.specs.Page.{need, word, count}
+use Rattle.page.specs.Page.{slotNeed, word, count}
 use Rattle.page_check.specs.Rules.{SlotsOk, prior, slotOf, offOf, lenOf}
 use Rattle.page_check.specs.Table.{NextOk}
 use Rattle.page_check.specs.Big.{Led}
@@ -19,7 +19,7 @@ use Rattle.page_check.proofs.slots_ok.Tie as tie
 
 -- i slots were taken
 abbrev Inv-loop : tie.InvT-loop
-Inv-loop page tab₀ n f end k₀ lead₀ lens₀ tab k lead lens = (i : ℕ) × (k + 4 * i ≡ length page) × (i ≤ n) × (length tab ≡ length tab₀) × (lens + 4 * i ≡ total (need page) i + 16384 * i) × (lens ≤ 16456 * i) × Swept page i f tab × Led page (prior page i) lead
+Inv-loop page tab₀ n f end k₀ lead₀ lens₀ tab k lead lens = (i : ℕ) × (k + 4 * i ≡ length page) × (i ≤ n) × (length tab ≡ length tab₀) × (lens + 4 * i ≡ total (slotNeed page) i + 16384 * i) × (lens ≤ 16456 * i) × Swept page i f tab × Led page (prior page i) lead
 
 abbrev μ-loop : tie.MeasureT-loop
 μ-loop page tab₀ n f end k₀ lead₀ lens₀ tab k lead lens = k
@@ -194,7 +194,7 @@ returns-2 c =
     let s = begun c in
     let q = s .args .page .now in
     let l = last c .loop in
-    let u : l .lens + 4 * count q ≡ total (need q) (count q) + 16384 * count q = subst (λ i. l .lens + 4 * i ≡ total (need q) i + 16384 * i) (all c) (l .inv .4) in
+    let u : l .lens + 4 * count q ≡ total (slotNeed q) (count q) + 16384 * count q = subst (λ i. l .lens + 4 * i ≡ total (slotNeed q) i + 16384 * i) (all c) (l .inv .4) in
     let w : Swept q (count q) (s .args .f) (l .tab) = subst (λ i. Swept q i (s .args .f) (l .tab)) (all c) (l .inv .6) in (
       says-eqb {P = SlotsOk q} (c .get16 .result + 8 + l .lens) (length q + 16380 * s .args .n) (λ z. slots-all q (l .tab) (s .args .f) (s .pre .front) w (omega (arith, z, u, c .get16 .ensures .0, s .pre .rows, s .pre .head .least))) (λ h. omega (arith, h .unused, u, c .get16 .ensures .0, s .pre .rows, s .pre .head .least)),
       ((λ _. rw (s .pre .rows) (w .table)), inside-of _ _ _ _ (w .table)),

@@ -17,7 +17,7 @@ use Rattle.store.specs.Moves.{pick, overwritten, putNew, removed}
 use Rattle.page.specs.Places.{place, stored}
 use Rattle.store.specs.Tables.{Out, new, replaced, Refusal6, Refusal7, Becomes, putTable, removeTable, formatTable}
 use Rattle.partition.specs.Listing.{Once}
-use Rattle.store.specs.Demands.{Sized, Call, format, check, count, lookup, remove, put, rowAt, inspect, Made, ok, after, surviving, directory, afresh, History, begin, next, AfreshAlways, GoodCode, map-of, update, answerOf, putAnswer, PutIsMap, RemoveIsMap}
+use Rattle.store.specs.Demands.{Sized, Call, format, check, count, lookup, remove, put, rowAt, inspect, Made, ok, rowsAfter, surviving, directory, afresh, History, begin, next, AfreshAlways, GoodCode, map-of, update, answerOf, putAnswer, PutIsMap, RemoveIsMap}
 use Rattle.ground.proofs.Ladders.{each}
 use Rattle.partition.proofs.Sorted.{same-map}
 use Rattle.partition.proofs.Reorders.{same-order}
@@ -50,7 +50,7 @@ module _ (S : Shape) (h : List ℕ → ℕ) where
 
 -- ---- the rows that a call leaves
 
-after-same : (c : Call) {rs qs : List Row} → Reordered rs qs → Reordered (after c rs) (after c qs)
+after-same : (c : Call) {rs qs : List Row} → Reordered rs qs → Reordered (rowsAfter c rs) (rowsAfter c qs)
 after-same format p = empty
 after-same check p = p
 after-same count p = p
@@ -60,7 +60,7 @@ after-same (put c pl m) p = front _ (cut-same (fold c) p)
 after-same (rowAt n out) p = p
 after-same (inspect g n out) p = p
 
-picked : (b : Bool) (c : Call) {rs qs : List Row} → Reordered rs qs → Reordered (pick b (after c rs) rs) (pick b (after c qs) qs)
+picked : (b : Bool) (c : Call) {rs qs : List Row} → Reordered rs qs → Reordered (pick b (rowsAfter c rs) rs) (pick b (rowsAfter c qs) qs)
 picked true c p = after-same c p
 picked false c p = p
 
@@ -76,14 +76,14 @@ module _ (S : Shape) (h : List ℕ → ℕ) where
 
   kept : (c : Call) (s : List ℕ) (x : Out × List ℕ) (o : Out) → x ≡ (o, s) → ok o ≡ false → Left c s x
   unfolding Left
-  kept c s x o e f = subst (λ (y : Out × List ℕ). Left c s y) (sym e) (subst (λ b. Reordered (rowsHeld S s) (pick b (after c (rowsHeld S s)) (rowsHeld S s))) (sym f) (same-order (rowsHeld S s)))
+  kept c s x o e f = subst (λ (y : Out × List ℕ). Left c s y) (sym e) (subst (λ b. Reordered (rowsHeld S s) (pick b (rowsAfter c (rowsHeld S s)) (rowsHeld S s))) (sym f) (same-order (rowsHeld S s)))
 
   moved : (c : Call) (s : List ℕ) (x : Out × List ℕ) (o : Out) (gs : List Page) → x .0 ≡ o → ok o ≡ true → Becomes S h s gs (x .1)
-      → Reordered (rowsIn gs) (after c (rowsHeld S s)) → Left c s x
+      → Reordered (rowsIn gs) (rowsAfter c (rowsHeld S s)) → Left c s x
   unfolding Left
   moved c s x o gs e f b p =
-      subst (λ k. Reordered (rowsHeld S (x .1)) (pick k (after c (rowsHeld S s)) (rowsHeld S s))) (sym (ap ok e ∙ f))
-      (subst (λ l. Reordered (rowsIn l) (after c (rowsHeld S s))) (sym (b .held)) p)
+      subst (λ k. Reordered (rowsHeld S (x .1)) (pick k (rowsAfter c (rowsHeld S s)) (rowsHeld S s))) (sym (ap ok e ∙ f))
+      (subst (λ l. Reordered (rowsIn l) (rowsAfter c (rowsHeld S s))) (sym (b .held)) p)
 
   module _ (sized : Sized S) (puts : PutRows S h) (over : OverRows S h) (removes : RemoveRows S h) where
     put-left : (s c : List ℕ) (p : Place) (m : ℕ) → Accepted S h s → (x : Out × List ℕ) → Answers (putTable S h s c p m) x → Left (put c p m) s x
@@ -185,10 +185,10 @@ module _ (S : Shape) (h : List ℕ → ℕ) (sized : Sized S) (fresh : AcceptedI
   )
 
   -- the map after a call that is not refused
-  map-after : (c : Call) (s : List ℕ) (o : Out) (t : List ℕ) → Accepted S h s → Made S h c s o t → ok o ≡ true → (x : List ℕ) → map-of S t x ≡ placeOf (after c (rowsHeld S s)) x
+  map-after : (c : Call) (s : List ℕ) (o : Out) (t : List ℕ) → Accepted S h s → Made S h c s o t → ok o ≡ true → (x : List ℕ) → map-of S t x ≡ placeOf (rowsAfter c (rowsHeld S s)) x
   map-after c s o t a m f x =
       let b : Accepted S h t = accepted-always S h sized c s o t a m .0 in
-      same-map (left S h sized puts over removes c s o t a m) (fresh t b .0) .1 x ∙ ap (λ k. placeOf (pick k (after c (rowsHeld S s)) (rowsHeld S s)) x) f
+      same-map (left S h sized puts over removes c s o t a m) (fresh t b .0) .1 x ∙ ap (λ k. placeOf (pick k (rowsAfter c (rowsHeld S s)) (rowsHeld S s)) x) f
 
   pub put-is-map : PutIsMap S h
   put-is-map s c p m o t a made = (

@@ -16,7 +16,7 @@ use Rattle.partition.specs.Bits.{top}
 use Rattle.partition.specs.declared.Shape.{Shape}
 use Rattle.partition.specs.Sizes.{sizeNumber}
 use Rattle.partition.specs.Partition.{needs, rowsOf}
-use Rattle.page.specs.Page.{Slotted, Natural, In, depth, count, frontier, free, off, len, kind, need, place, code}
+use Rattle.page.specs.Page.{Slotted, Natural, In, depth, count, frontier, free, off, len, kind, slotNeed, place, code}
 use Rattle.store.specs.Pages.{size, pages, page, dirDepth, entryAt, contents, rowsHeld, deepestIn}
 use Rattle.store.specs.Accepted.{Page0From, GoodLength, Zero, Page0, Page1, Bucket, Calls, Stands, unused, used, Parted, Rule, rule, rules, upward, Every, Stops, Accepted, Broken}
 use Rattle.store.specs.Tables.{PageKeeps}
@@ -98,7 +98,7 @@ module _ (p : List ℕ) where
       (both (each (λ i. Natural (place p i)) (λ i. natural (place p i)))
       (both apart
       (both ascending
-      (both (ℕ-discrete (free p + total (need p) n) (length p - 8))
+      (both (ℕ-discrete (free p + total (slotNeed p) n) (length p - 8))
       clear)))))))))))))))))
 
   module _ (h : List ℕ → ℕ) where

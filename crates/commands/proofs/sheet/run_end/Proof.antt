@@ -7,13 +7,13 @@ use lib.ListN.{length}
 use borrow.Author.Needs.{needs}
 use Rattle.ground.specs.Lists.{byte}
 use Rattle.ground.proofs.Sides.{side}
-use Rattle.commands.specs.SheetLines.{kind}
+use Rattle.commands.specs.SheetLines.{blankKind}
 use Rattle.commands.proofs.Cutting.{one-more}
 use Rattle.commands.proofs.sheet.run_end.Statement.{statement}
 use Rattle.commands.proofs.sheet.run_end.Tie as tie
 
 abbrev Inv-loop : tie.InvT-loop
-Inv-loop line i want j₀ j = (i ≤ j) × (j ≤ length line) × ((m : ℕ) → i ≤ m → m < j → kind (byte line m) ≡ want)
+Inv-loop line i want j₀ j = (i ≤ j) × (j ≤ length line) × ((m : ℕ) → i ≤ m → m < j → blankKind (byte line m) ≡ want)
 
 abbrev μ-loop : tie.MeasureT-loop
 μ-loop line i want j₀ j = length line - j
