@@ -11,7 +11,7 @@ use lib.Dec.{ltb, eqb}
 use lib.IntN.{pos}
 use lib.ListN.{length}
 use Rattle.hash.specs.Fnv.{fnv, fnv-lt}
-use Rattle.page.specs.Places.{place, InRange}
+use Rattle.page.specs.Places.{placeFrom, InRange}
 use Rattle.page.specs.declared.Place.{Place}
 use Rattle.ground.specs.Ladder.{Answers}
 use Rattle.partition.specs.Sizes.{shapeFor, shapeOf}
@@ -71,35 +71,35 @@ module _ (x y z : ℕ) (hx : x < 2 ^ 31) (hy : y < 2 ^ 15) (hz : z < 2 ^ 15) whe
   volume-of = omega arith
 
 -- a place and its word
-module _ (b : List ℕ) (r : InRange (place b)) where
-  small : placeWord (place b) < 2 ^ 63
+module _ (b : List ℕ) (r : InRange (placeFrom b)) where
+  small : placeWord (placeFrom b) < 2 ^ 63
   small = omega (arith, r .page, r .slot, r .volume)
 
-  back : placeIn (placeWord (place b)) ≡ place b
+  back : placeIn (placeWord (placeFrom b)) ≡ placeFrom b
   back =
-      let x : ℕ = plain (place b .page) in
-      let y : ℕ = plain (place b .slot) in
-      let z : ℕ = plain (place b .volume) in
+      let x : ℕ = plain (placeFrom b .page) in
+      let y : ℕ = plain (placeFrom b .slot) in
+      let z : ℕ = plain (placeFrom b .volume) in
       λ i. record {
         page = pos (page-of x y z (r .page) (r .slot) (r .volume) i);
         slot = pos (slot-of x y z (r .page) (r .slot) (r .volume) i);
         volume = pos (volume-of x y z (r .page) (r .slot) (r .volume) i);
       }
 
-  not-new : placeWord (place b) ≡ 2 ^ 31 → ⊥
+  not-new : placeWord (placeFrom b) ≡ 2 ^ 31 → ⊥
   not-new e = omega (arith, r .page, r .slot, r .volume)
 
 place-off : (value : Place → Out) → ((p : Place) → answerWord (value p) ≡ placeWord p) → (o : Out) → Placed value o → readOff (λ w. value (placeIn w)) (answerWord o) ≡ o
 place-off value is o (b, (r, e)) =
-    let w : answerWord o ≡ placeWord (place b) = ap answerWord e ∙ is (place b) in
-    rw w (low (λ w. value (placeIn w)) (placeWord (place b)) (small b r) ∙ ap value (back b r) ∙ sym e)
+    let w : answerWord o ≡ placeWord (placeFrom b) = ap answerWord e ∙ is (placeFrom b) in
+    rw w (low (λ w. value (placeIn w)) (placeWord (placeFrom b)) (small b r) ∙ ap value (back b r) ∙ sym e)
 
 put-off : (o : Out) → Kept o → readOff putIn (answerWord o) ≡ o
 put-off o (inl e) = subst (λ x. readOff putIn (answerWord x) ≡ x) (sym e) refl
 put-off o (inr (b, (r, e))) =
-    let w : answerWord o ≡ placeWord (place b) = ap answerWord e in
-    let v : putIn (placeWord (place b)) ≡ replaced (place b) = rw (ne-eqb (placeWord (place b)) (2 ^ 31) (not-new b r)) (ap replaced (back b r)) in
-    rw w (low putIn (placeWord (place b)) (small b r) ∙ v ∙ sym e)
+    let w : answerWord o ≡ placeWord (placeFrom b) = ap answerWord e in
+    let v : putIn (placeWord (placeFrom b)) ≡ replaced (placeFrom b) = rw (ne-eqb (placeWord (placeFrom b)) (2 ^ 31) (not-new b r)) (ap replaced (back b r)) in
+    rw w (low putIn (placeWord (placeFrom b)) (small b r) ∙ v ∙ sym e)
 
 count-off : (o : Out) {most : ℕ} → most < 2 ^ 63 → Counted most o → readOff counted (answerWord o) ≡ o
 count-off o m (n, (l, e)) = subst (λ x. readOff counted (answerWord x) ≡ x) (sym e) (low counted n (omega arith))
@@ -172,7 +172,7 @@ Sized len o = (old : ℕ) × ((len ≡ lengthAfter o old) × Rowed o)
 row-off : (len : ℕ) (o : Out) → Sized len o → readOff (λ w. row len (placeIn w)) (answerWord o) ≡ o
 row-off len o (old, (z, (l, (h, (b, (r, e)))))) =
     let n : len ≡ l = z ∙ ap (λ x. lengthAfter x old) e ∙ omega arith in
-    place-off (row len) (λ p. refl) o (b, (r, e ∙ ap (λ k. row k (place b)) (sym n)))
+    place-off (row len) (λ p. refl) o (b, (r, e ∙ ap (λ k. row k (placeFrom b)) (sym n)))
 
 sized : (len old : ℕ) {most : ℕ} (o : Out) → len ≡ lengthAfter o old → Said most Rowed o → Said most (Sized len) o
 sized len old o z s = ⊎-elim inl (λ r. inr (old, (z, r))) s

@@ -5,7 +5,7 @@ use Prim.Native.Nat.{ℕ, _<_, _%_, _^_}
 use native.Mathlib.Omega.{arith}
 use borrow.Author.Tests.{lt-ltb}
 use lib.IntN.{pos}
-use Rattle.page.specs.Places.{place, InRange}
+use Rattle.page.specs.Places.{placeFrom, InRange}
 use Rattle.batch.specs.PlaceWords.{signedBits, wordPlace}
 use Rattle.lots_c.specs.Words.{plain, placeWord}
 use Rattle.lots_c.proofs.OneToOne.{page-of, slot-of, volume-of}
@@ -13,11 +13,11 @@ use Rattle.lots_c.proofs.OneToOne.{page-of, slot-of, volume-of}
 low : (k x : ℕ) → x < 2 ^ k → signedBits k x ≡ pos x
 low k x h = rw (lt-ltb x (2 ^ k) h) refl
 
-pub word-back : (b : List ℕ) → InRange (place b) → wordPlace (placeWord (place b)) ≡ place b
+pub word-back : (b : List ℕ) → InRange (placeFrom b) → wordPlace (placeWord (placeFrom b)) ≡ placeFrom b
 word-back b r =
-    let x : ℕ = plain (place b .page) in
-    let y : ℕ = plain (place b .slot) in
-    let z : ℕ = plain (place b .volume) in
+    let x : ℕ = plain (placeFrom b .page) in
+    let y : ℕ = plain (placeFrom b .slot) in
+    let z : ℕ = plain (placeFrom b .volume) in
     let e : z % 65536 ≡ z = omega (arith, r .volume) in
     λ i. record {
       page = (ap (signedBits 31) (page-of x y z (r .page) (r .slot) (r .volume)) ∙ low 31 x (r .page)) i;

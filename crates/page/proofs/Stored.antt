@@ -13,7 +13,7 @@ use Rattle.words.specs.Le.{le16, le32, bytes}
 use Rattle.words.specs.Moves.{Put16, Put32}
 use Rattle.words.proofs.Bytes.{le16-bytes, le32-byte, le16-below, le32-below}
 use Rattle.page.specs.Page.{Natural}
-use Rattle.page.specs.Places.{stored, place, Negative, InRange}
+use Rattle.page.specs.Places.{stored, placeFrom, Negative, InRange}
 use Rattle.page.specs.declared.Place.{Place}
 use Rattle.page.proofs.Signs.{whole, positive}
 
@@ -87,18 +87,18 @@ module _ (b : List ℕ) (n : Natural b) (hb : Bytes b) where
   natural-volume = omega (arith, n .volume, hb 6)
 
   -- bytes of no negative part are those of their place
-  pub stored-place : stored (place b) ≡ b
+  pub stored-place : stored (placeFrom b) ≡ b
   stored-place =
       let x = le32 b 0 in let y = le16 b 4 in let z = le16 b 6 in
       known (eight x y z) b (eight-long x y z) (n .long) (eight-bytes x y z) hb
       (eight-page x y z (omega (arith, natural-page))) (eight-slot x y z (omega (arith, natural-slot))) (eight-volume x y z (omega (arith, natural-volume)))
 
-  pub natural-positive : Negative (place b) → ⊥
+  pub natural-positive : Negative (placeFrom b) → ⊥
   natural-positive h = ⊎-elim (positive (le32 b 0)) (λ g. ⊎-elim (positive (le16 b 4)) (positive (le16 b 6)) g) h
 
 module _ (p : Place) (n : Negative p → ⊥) (r : InRange p) where
   -- a place with no negative part comes back from its bytes
-  pub place-stored : place (stored p) ≡ p
+  pub place-stored : placeFrom (stored p) ≡ p
   place-stored =
       let x = mag (p .page) in let y = mag (p .slot) in let z = mag (p .volume) in
       let e : le32 (stored p) 0 ≡ x = eight-page x y z (omega (arith, r .page)) in

@@ -12,8 +12,8 @@ abbrev pub stored : Place → List ℕ
 stored p = bytes 4 (mag (p .page)) ++ bytes 2 (mag (p .slot)) ++ bytes 2 (mag (p .volume))
 
 -- the place that 8 bytes hold
-abbrev pub place : List ℕ → Place
-place b = record { page = pos (le32 b 0); slot = pos (le16 b 4); volume = pos (le16 b 6) }
+abbrev pub placeFrom : List ℕ → Place
+placeFrom b = record { page = pos (le32 b 0); slot = pos (le16 b 4); volume = pos (le16 b 6) }
 
 -- a part of the place is negative
 abbrev pub Negative : Place → Type 0

@@ -72,7 +72,7 @@ pub fn store_place(out: &mut [u8], p: Place)
 // The place that 8 bytes hold.
 pub fn load_place(b: &[u8]) -> Place
     requires { ⌜ Natural (now b) ⌝ }
-    ensures { λ r. ⌜ r ≡ Places.place (now (b .entry)) ⌝ }
+    ensures { λ r. ⌜ r ≡ Places.placeFrom (now (b .entry)) ⌝ }
 {
     let page = words::get32(b, 0);
     let slot = words::get16(b, 4);
@@ -87,7 +87,7 @@ pub fn load_place(b: &[u8]) -> Place
 // The place of slot i's row.
 pub fn read_place(page: &[u8], i: usize) -> Place
     requires { ⌜ Slotted (now page) × (i < count (now page)) ⌝ }
-    ensures { λ r. ⌜ r ≡ Places.place (place (now (page .entry)) i) ⌝ }
+    ensures { λ r. ⌜ r ≡ Places.placeFrom (place (now (page .entry)) i) ⌝ }
 {
     load_place(place_at(page, i))
 }

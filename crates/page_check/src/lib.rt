@@ -424,7 +424,7 @@ pub fn shares(first: u32, x: u32, k: u8) -> bool
 }
 
 // What the difference of two hashes stays below where they share k bits.
-pub fn limit(k: u8) -> u64
+pub fn share_limit(k: u8) -> u64
     requires { ⌜ k ≤ 32 ⌝ }
     ensures { λ r. ⌜ r ≡ 2 ^ (32 - k) ⌝ }
 {

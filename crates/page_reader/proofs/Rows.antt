@@ -16,7 +16,7 @@ use Rattle.hash.specs.Fnv.{fnv}
 use Rattle.page.specs.Page.{Slotted, count, rowAt}
 use Rattle.page.specs.Page as Page
 use Rattle.page.specs.declared.Place.{Place}
-use Rattle.page.specs.Places.{place}
+use Rattle.page.specs.Places.{placeFrom}
 use Rattle.partition.specs.declared.Shape.{Shape}
 use Rattle.partition.specs.Sizes.{shapeFor}
 use Rattle.partition.proofs.Sizes.{sized-for}
@@ -72,7 +72,7 @@ module _ (g : List ℕ) (n : ℕ) (out : List ℕ) where
   unfolding nthTable
   nth-past s h = inr ((λ _ f. f s), (s, inr ((λ r e. none-some (row-past g (s .keeps .rules) n h) e), refl)))
 
-  pub nth-row : SoundBucket g → n < count g → (c : List ℕ) → c ≡ Page.code g n → (p : Place) → p ≡ place (Page.place g n) → (out′ : List ℕ) → out′ ≡ c ++ drop (length c) out
+  pub nth-row : SoundBucket g → n < count g → (c : List ℕ) → c ≡ Page.code g n → (p : Place) → p ≡ placeFrom (Page.place g n) → (out′ : List ℕ) → out′ ≡ c ++ drop (length c) out
       → Answers (nthTable g n out) (row (length c) p, out′)
   unfolding nthTable
   nth-row s h c ec p ep out′ eo = inr (
@@ -129,7 +129,7 @@ module _ (g : List ℕ) (n : ℕ) (out : List ℕ) where
   inspect-fits m p out′ (inr (_, inr (_, inl x))) = absurd (unanswered′ (ap (λ r. r .0) (x .1 .1)))
   inspect-fits m p out′ (inr (_, inr (_, inr (_, (_, inr x))))) = absurd (unanswered (ap (λ r. r .0) (x .1)))
   inspect-fits m p out′ (inr (_, inr (_, inr (_, (_, inl (r, (_, e))))))) =
-      let a : row m p ≡ row (length (r .code)) (place (r .place)) = ap (λ r. r .0) e in
+      let a : row m p ≡ row (length (r .code)) (placeFrom (r .place)) = ap (λ r. r .0) e in
       let b : m ≡ length (r .code) = cc in
       let c : length out′ ≡ length (r .code) + length (drop (length (r .code)) out) = ap (λ r. length (r .1)) e ∙ length-append (r .code) (drop (length (r .code)) out) in
       omega arith

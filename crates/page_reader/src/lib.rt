@@ -51,7 +51,7 @@ pub fn code<'a>(r: Reader<'a>) -> &'a [u8]
 // The row's place.
 pub fn place<'a>(r: Reader<'a>) -> Place
     requires { ⌜ Readable (now (r .page)) × (r .slot < Page.count (now (r .page))) ⌝ }
-    ensures { λ p. ⌜ p ≡ Places.place (Page.place (now (r .entry .page)) (r .entry .slot)) ⌝ }
+    ensures { λ p. ⌜ p ≡ Places.placeFrom (Page.place (now (r .entry .page)) (r .entry .slot)) ⌝ }
 {
     slots::read_place(r.page, r.slot)
 }

@@ -94,7 +94,7 @@ pub fn code_at(page: &[u8], slot: usize) -> &[u8]
 // A slot's place.
 pub fn read_place(page: &[u8], slot: usize) -> Place
     requires { ⌜ Readable (now page) × (slot < count (now page)) ⌝ }
-    ensures { λ p. ⌜ p ≡ Places.place (place (now (page .entry)) slot) ⌝ }
+    ensures { λ p. ⌜ p ≡ Places.placeFrom (place (now (page .entry)) slot) ⌝ }
 {
     page::read_place(page, slot)
 }

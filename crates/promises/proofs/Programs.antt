@@ -23,7 +23,7 @@ use Rattle.partition.proofs.Sizes.{sized-of}
 use Rattle.partition.proofs.Maps.{absent}
 use Rattle.partition.proofs.Reorders.{length-same}
 use Rattle.page.specs.declared.Place.{Place}
-use Rattle.page.specs.Places.{place, stored}
+use Rattle.page.specs.Places.{placeFrom, stored}
 use Rattle.store.specs.Pages.{S1024, rowsHeld}
 use Rattle.store.specs.Accepted.{Accepted}
 use Rattle.store.specs.Tables.{Out, row, new, found, rowTable}
@@ -79,7 +79,7 @@ once-index (x ∷ l) o (suc n) (suc m) r q e f g = ap suc (once-index l (o .1) n
 
 -- a row that is given is in the list
 row-there : (l : List Row) (n : ℕ) (out : List ℕ) (o : Out) (out′ : List ℕ) → Nth l n out o out′ → ok o ≡ true
-    → (r : Row) × (getElem? l n ≡ some r) × (o ≡ row (length (r .code)) (place (r .place))) × AtStart (r .code) out out′
+    → (r : Row) × (getElem? l n ≡ some r) × (o ≡ row (length (r .code)) (placeFrom (r .place))) × AtStart (r .code) out out′
 row-there l n out o out′ w t = ⊎-elim
     (λ m. let r = here l n m in let x = w .is (r .0) (r .1) in (r .0, r .1, x .0, x .1))
     (λ m. absurd (true≢false (sym t ∙ ap ok (w .past m .0))))

@@ -15,7 +15,7 @@ use Rattle.partition.specs.Partition.{buckets}
 use Rattle.partition.specs.Sizes.{Sized, size, S4096, S16384, shapeAt, shapeOf}
 use Rattle.partition.proofs.Sizes.{sized-at, sized-of}
 use Rattle.page.specs.declared.Place.{Place}
-use Rattle.page.specs.Places.{place, Negative}
+use Rattle.page.specs.Places.{placeFrom, Negative}
 use Rattle.store.specs.Pages.{S1024}
 use Rattle.store.specs.Accepted.{Accepted}
 use Rattle.store.specs.Moves.{pick}
@@ -93,7 +93,7 @@ module _ (S : Shape) (sized : Sized S) where
       says-thirteen : m ≡ 1 → (b : List ℕ) → held S s c ≡ some b → o ≡ refused 13
       says-thirteen e b k = past (refused 13) (is-known S fnv s m (given c p) b k e)
 
-      says-known : (m ≡ 1 → ⊥) → (b : List ℕ) → held S s c ≡ some b → o ≡ replaced (place b)
+      says-known : (m ≡ 1 → ⊥) → (b : List ℕ) → held S s c ≡ some b → o ≡ replaced (placeFrom b)
       says-known n b e = answers (unrefused S fnv s c p m (fair .coded) (fair .placed) (fair .moded) (λ x _ _. n x) (λ x. absurd (none-some x e))) ∙ ap putAnswer e
 
       says-five : m ≡ 2 → held S s c ≡ none → o ≡ refused 5

@@ -14,7 +14,7 @@ use Rattle.partition.specs.declared.Shape.{Shape}
 use Rattle.partition.specs.Partition.{Row, needs, rowsOf, buckets}
 use Rattle.partition.specs.Sizes.{size, S4096, S16384, shapeOf}
 use Rattle.page.specs.declared.Place.{Place}
-use Rattle.page.specs.Places.{place, stored, Negative}
+use Rattle.page.specs.Places.{placeFrom, stored, Negative}
 use Rattle.store.specs.declared.Answer.{Answer}
 use Rattle.store.specs.Pages.{S1024, rowsHeld}
 use Rattle.store.specs.Accepted.{GoodLength, Accepted}
@@ -70,7 +70,7 @@ pub record PutSays (S : Shape) (z k : ℕ) (s c : List ℕ) (p : Place) (m : ℕ
   pub four : GoodCode c → Negative p → o ≡ refused 4
   pub fourteen : GoodCode c → (Negative p → ⊥) → (Mode m → ⊥) → o ≡ refused 14
   pub thirteen : Fair c p m → m ≡ 1 → (b : List ℕ) → held S s c ≡ some b → o ≡ refused 13
-  pub known : Fair c p m → (m ≡ 1 → ⊥) → (b : List ℕ) → held S s c ≡ some b → o ≡ replaced (place b)
+  pub known : Fair c p m → (m ≡ 1 → ⊥) → (b : List ℕ) → held S s c ≡ some b → o ≡ replaced (placeFrom b)
   pub five : Fair c p m → m ≡ 2 → held S s c ≡ none → o ≡ refused 5
   pub six : Fair c p m → (m ≡ 2 → ⊥) → held S s c ≡ none → z - 8 < near S k s c p → o ≡ refused 6
   pub seven : Fair c p m → (m ≡ 2 → ⊥) → held S s c ≡ none → near S k s c p ≤ z - 8 → length s / z - 2 < length (buckets S fnv (joining S s c p)) → o ≡ refused 7

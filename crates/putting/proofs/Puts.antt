@@ -135,7 +135,7 @@ module _ (S : Shape) (h : List ℕ → ℕ) (sized : Sized S) (hash : Hash h) (s
             over-one S h known-row (rowsHeld S s) gs shows ∙ ap (λ j. set gs j (overwriteOn known-row (getD gs j free))) here
             ∙ ap (λ x. set gs (p - 2) (overwriteOn known-row x)) (U .holding) ∙ ap (λ l. set gs (p - 2) (bucket (depth g) l)) (sym known-rows)
 
-    pub put-known : ((k : ℕ) → byte (setPage S s p q) k < 256) → Answers (putAccepted S h s (newRow c pl)) (replaced (Places.place (place g i)), setPage S s p q)
+    pub put-known : ((k : ℕ) → byte (setPage S s p q) k < 256) → Answers (putAccepted S h s (newRow c pl)) (replaced (Places.placeFrom (place g i)), setPage S s p q)
     put-known small =
         let old : placeOf (rowsHeld S s) c ≡ some (place g i) = placed ∙ found-at g slotted c i b e in
         inl (

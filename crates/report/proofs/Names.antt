@@ -10,7 +10,7 @@ use lib.IntN.{ℤ, pos, negsuc}
 use lib.ListN.{length, getD}
 use Rattle.ground.proofs.Tests.{untrue}
 use Rattle.page.specs.declared.Place.{Place}
-use Rattle.page.specs.Places.{place}
+use Rattle.page.specs.Places.{placeFrom}
 use Rattle.partition.specs.Partition.{Row}
 use Rattle.report.specs.declared.SheetRow.{SheetRow}
 use Rattle.report.specs.Report.{placeIn, sheetRow, RowPlace, same, samePlace, names, InSheet}
@@ -55,8 +55,8 @@ rank-names p q r e = let Q = parts q r in rank-one (parts p (low-place p (omega 
 
 pub names-is : (r : Row) (x : SheetRow) → RowPlace (placeIn x) → names r x ≡ eqb (rank (placeIn x)) (rankOn r)
 names-is r x h = alike (names r x) (eqb (rank (placeIn x)) (rankOn r))
-    (λ e. eq-true (rank (placeIn x)) (rankOn r) (ap rank (sym (place-yes (place (r .place)) (placeIn x) e))))
-    (λ e. subst (λ (p : Place). samePlace (place (r .place)) p ≡ true) (rank-names (place (r .place)) (placeIn x) h (eqb→eq (rank (placeIn x)) (rankOn r) (holds e))) (place-refl (place (r .place))))
+    (λ e. eq-true (rank (placeIn x)) (rankOn r) (ap rank (sym (place-yes (placeFrom (r .place)) (placeIn x) e))))
+    (λ e. subst (λ (p : Place). samePlace (placeFrom (r .place)) p ≡ true) (rank-names (placeFrom (r .place)) (placeIn x) h (eqb→eq (rank (placeIn x)) (rankOn r) (holds e))) (place-refl (placeFrom (r .place))))
 
 -- where a number stands
 hit-when : (t : Bool) (p w : ℕ) (ps : List ℕ) (k m : ℕ) → eqb p w ≡ t → (k < m → getD {A = ℕ} ps k 0 ≡ w) → cond t 0 (suc k) < suc m → getD {A = ℕ} (p ∷ ps) (cond t 0 (suc k)) 0 ≡ w

@@ -12,7 +12,7 @@ use Rattle.ground.specs.Ladder.{Answers, rung, answer}
 use Rattle.ground.proofs.Ladders.{one}
 use Rattle.ground.proofs.Sides.{side}
 use Rattle.page.specs.declared.Place.{Place}
-use Rattle.page.specs.Places.{place}
+use Rattle.page.specs.Places.{placeFrom}
 use Rattle.partition.specs.declared.Shape.{Shape}
 use Rattle.partition.specs.Partition.{Row, Reordered, empty, front, swap, chain}
 use Rattle.partition.specs.Listing.{listing}
@@ -40,7 +40,7 @@ missing-one : (xs : List SheetRow) (rs : List Row) (p q : Place) → FirstMissin
 missing-one xs rs p q a b = ⊎-elim (λ l. absurd (a .absent (b .before (a .n) p l (a .listed)))) (λ l. ⊎-elim (λ m. absurd (b .absent (a .before (b .n) q m (b .listed)))) (λ m. equal (omega (arith, l, m))) (side (b .n) (a .n))) (side (a .n) (b .n))
   where
     equal : a .n ≡ b .n → p ≡ q
-    equal e = a .listed .is ∙ ap (λ (r : Row). place (r .place)) (some-one (a .listed .row) (b .listed .row) (a .listed .there) (ap (getElem? rs) e ∙ b .listed .there)) ∙ sym (b .listed .is)
+    equal e = a .listed .is ∙ ap (λ (r : Row). placeFrom (r .place)) (some-one (a .listed .row) (b .listed .row) (a .listed .there) (ap (getElem? rs) e ∙ b .listed .there)) ∙ sym (b .listed .is)
 
 module _ (S : Shape) (h : List ℕ → ℕ) where
   -- ONE ANSWER FOR EVERY STORE AND SHEET

@@ -10,7 +10,7 @@ use lib.IntN.{ℤ, pos, negsuc, _+ℤ_}
 use Rattle.hash.specs.Fnv.{fnv}
 use Rattle.ground.specs.Ladder.{Ladder, given, ends, refuse}
 use Rattle.page.specs.declared.Place.{Place}
-use Rattle.page.specs.Places.{place}
+use Rattle.page.specs.Places.{placeFrom}
 use Rattle.partition.specs.declared.Shape.{Shape}
 use Rattle.partition.specs.Partition.{Row}
 use Rattle.partition.specs.Listing.{listing}
@@ -114,7 +114,7 @@ Follows S s n End = getElem? (listing S fnv (rowsHeld S s)) n ≡ none
 
 -- a code's place as a number
 abbrev pub rankOn : Row → ℕ
-rankOn r = rank (place (r .place))
+rankOn r = rank (placeFrom (r .place))
 
 -- ---- what a tally counts
 

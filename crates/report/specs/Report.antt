@@ -10,7 +10,7 @@ use lib.IntN.{ℤ, pos, negsuc, negℤ, _+ℤ_, _*ℤ_}
 use lib.Signed.{_≤ℤ_, _<ℤ_}
 use Rattle.ground.specs.Ladder.{Ladder, rung, given, answer, refuse}
 use Rattle.page.specs.declared.Place.{Place}
-use Rattle.page.specs.Places.{place, Negative, InRange}
+use Rattle.page.specs.Places.{placeFrom, Negative, InRange}
 use Rattle.partition.specs.declared.Shape.{Shape}
 use Rattle.partition.specs.Partition.{Row}
 use Rattle.partition.specs.Listing.{listing}
@@ -73,7 +73,7 @@ samePlace p q = same (p .page) (q .page) && (same (p .slot) (q .slot) && same (p
 
 -- a code names the sheet row that has its place
 abbrev pub names : Row → SheetRow → Bool
-names r x = samePlace (place (r .place)) (placeIn x)
+names r x = samePlace (placeFrom (r .place)) (placeIn x)
 
 -- how many codes of the listing name a sheet row
 unfoldable pub timesNamed : List Row → SheetRow → ℕ
@@ -143,7 +143,7 @@ InSheet xs p = (i : ℕ) × (i < length xs) × (placeIn (sheetRow xs i) ≡ p)
 pub record PlaceAt (rs : List Row) (n : ℕ) (p : Place) : Type 0 where
   pub row : Row
   pub there : getElem? rs n ≡ some row
-  pub is : p ≡ place (row .place)
+  pub is : p ≡ placeFrom (row .place)
 
 -- the first place in the listing that is not in the sheet
 pub record FirstMissing (xs : List SheetRow) (rs : List Row) (p : Place) : Type 0 where

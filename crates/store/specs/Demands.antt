@@ -23,7 +23,7 @@ use Rattle.store.specs.Pages.{S1024, size, pages, page, Page, free, buck
 use Rattle.store.specs.Accepted.{Zero, Bucket, Page0From, Page0, Page0Before, Page1, Stands, Parted, Deepest, Accepted}
 use Rattle.store.specs.Counts.{Counts}
 use Rattle.store.specs.Moves.{pick}
-use Rattle.page.specs.Places.{place, stored, Negative, InRange}
+use Rattle.page.specs.Places.{placeFrom, stored, Negative, InRange}
 use Rattle.store.specs.Tables.{Out, refused, refusedAt, formatted, accepted, new, replaced, found, counted, row, Refusal6, Refusal7, formatTable, checkTable, countTable, lookupTable, putTable, putBefore, removeTable, rowTable, inspectTable}
 
 -- a function from codes to 32 bits
@@ -174,18 +174,18 @@ pub record AtStart (c out out′ : List ℕ) : Type 0 where
 
 -- element n of the rows, counted from 0: its length and place, and its code in the output; 9 where n is not below their number
 pub record Nth (rs : List Row) (n : ℕ) (out : List ℕ) (o : Out) (out′ : List ℕ) : Type 0 where
-  pub is : (r : Row) → getElem? rs n ≡ some r → (o ≡ row (length (r .code)) (place (r .place))) × AtStart (r .code) out out′
+  pub is : (r : Row) → getElem? rs n ≡ some r → (o ≡ row (length (r .code)) (placeFrom (r .place))) × AtStart (r .code) out out′
   pub past : length rs ≤ n → (o ≡ refused 9) × (out′ ≡ out)
 
 -- what lookup and remove answer: the map's place, or 5
 abbrev pub answerOf : Option (List ℕ) → Out
 answerOf none = refused 5
-answerOf (some b) = found (place b)
+answerOf (some b) = found (placeFrom b)
 
 -- what put answers: new, or replaced with the old place
 abbrev pub putAnswer : Option (List ℕ) → Out
 putAnswer none = new
-putAnswer (some b) = replaced (place b)
+putAnswer (some b) = replaced (placeFrom b)
 
 module _ (S : Shape) (h : List ℕ → ℕ) where
   -- the check accepts exactly the stores that keep the rules
@@ -247,8 +247,8 @@ module _ (S : Shape) (h : List ℕ → ℕ) where
 
   -- a place comes back from its 8 bytes, and what the map holds is such bytes
   abbrev pub PlaceComesBack : Type 0
-  PlaceComesBack = ((p : Place) → InRange p → (Negative p → ⊥) → place (stored p) ≡ p)
-      × ((s c b : List ℕ) → Accepted S h s → map-of S s c ≡ some b → GoodCode c × (stored (place b) ≡ b))
+  PlaceComesBack = ((p : Place) → InRange p → (Negative p → ⊥) → placeFrom (stored p) ≡ p)
+      × ((s c b : List ℕ) → Accepted S h s → map-of S s c ≡ some b → GoodCode c × (stored (placeFrom b) ≡ b))
 
   -- the store is accepted again afterwards
   abbrev pub AcceptedAgain : Type 0

@@ -14,7 +14,7 @@ use Rattle.partition.specs.declared.Shape.{Shape}
 use Rattle.partition.specs.Partition.{Row, needs, rowsOf, buckets}
 use Rattle.partition.specs.Sizes.{sizeNumber, shapeFor}
 use Rattle.page.specs.declared.Place.{Place}
-use Rattle.page.specs.Places.{place, stored, Negative}
+use Rattle.page.specs.Places.{placeFrom, stored, Negative}
 use Rattle.store.specs.declared.Refusal.{Refusal}
 use Rattle.store.specs.declared.Refusal.the-variants.{BadLength, BadPage, BadCode, BadPlace, NoCode, PrefixFull, PagesFull, ShortOutput, NoRow, BadRuns, KnownCode, BadMode}
 use Rattle.store.specs.declared.Answer.{Answer}
@@ -143,7 +143,7 @@ countTable S h s =
 
 -- the place that the map gives; 5: code not there
 abbrev pub lookedUp : Shape → List ℕ → List ℕ → Ladder Out
-lookedUp S s c = rung (λ b. placeOf (rowsHeld S s) c ≡ some b) (λ b. answer (found (place b))) (answer (refused 5))
+lookedUp S s c = rung (λ b. placeOf (rowsHeld S s) c ≡ some b) (λ b. answer (found (placeFrom b))) (answer (refused 5))
 
 unfoldable pub lookupTable : Shape → (List ℕ → ℕ) → List ℕ → List ℕ → Ladder Out
 lookupTable S h s c =
@@ -161,7 +161,7 @@ writes S h s o gs = ends (λ r. (r .0 ≡ o) × Becomes S h s gs (r .1))
 -- put of the row r on an accepted store, whether the code is new or known
 abbrev pub putAccepted : Shape → (List ℕ → ℕ) → List ℕ → Row → Ladder (Out × List ℕ)
 putAccepted S h s r =
-    rung (λ old. placeOf (rowsHeld S s) (r .code) ≡ some old) (λ old. writes S h s (replaced (place old)) (overwritten (contents S s) r))
+    rung (λ old. placeOf (rowsHeld S s) (r .code) ≡ some old) (λ old. writes S h s (replaced (placeFrom old)) (overwritten (contents S s) r))
     (refuse (Refusal6 S h (rowsHeld S s) r) (refused 6, s)
     (refuse (Refusal7 S h s (rowsHeld S s) r) (refused 7, s)
     (writes S h s new (putNew S h (contents S s) r))))
@@ -193,7 +193,7 @@ putBefore S h s c p =
 -- remove of the code c on an accepted store
 abbrev pub removeAccepted : Shape → (List ℕ → ℕ) → List ℕ → List ℕ → Ladder (Out × List ℕ)
 removeAccepted S h s c =
-    rung (λ old. placeOf (rowsHeld S s) c ≡ some old) (λ old. writes S h s (found (place old)) (removed S h (contents S s) c))
+    rung (λ old. placeOf (rowsHeld S s) c ≡ some old) (λ old. writes S h s (found (placeFrom old)) (removed S h (contents S s) c))
     (answer (refused 5, s))
 
 unfoldable pub removeTable : Shape → (List ℕ → ℕ) → List ℕ → List ℕ → Ladder (Out × List ℕ)
@@ -207,7 +207,7 @@ removeTable S h s c =
 
 -- the code at the start of the output, the bytes after it left; length and place
 abbrev pub giving : Row → List ℕ → Out × List ℕ
-giving r out = (row (length (r .code)) (place (r .place)), r .code ++ drop (length (r .code)) out)
+giving r out = (row (length (r .code)) (placeFrom (r .place)), r .code ++ drop (length (r .code)) out)
 
 -- the row at place n of a list; 9: n not below the number of rows
 abbrev pub rowOf : List Row → ℕ → List ℕ → Ladder (Out × List ℕ)

@@ -83,7 +83,7 @@ pub fn first_unsound(
             break 'pages p;
         }
         let k = pg[1];
-        let m = page_check::limit(k);
+        let m = page_check::share_limit(k);
         let first = page_check::hash_slot(pg, 0);
         let count = words::get16(pg, 2);
         let mut i = page_check::near_where_long(pg, first, m);

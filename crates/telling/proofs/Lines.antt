@@ -54,7 +54,7 @@ slot-more P i j {p} {q} {s} {r} {u} h a b =
     as-text t (then a b)
 
 -- a row's line, from its code and its place
-pub line-is : (P : List ℕ) (j : ℕ) (k : List ℕ) (l : Place) → k ≡ code P j → l ≡ Places.place (place P j) → rowed k l ++ (10 ∷ []) ≡ lineOf (asRow (rowAt P j))
+pub line-is : (P : List ℕ) (j : ℕ) (k : List ℕ) (l : Place) → k ≡ code P j → l ≡ Places.placeFrom (place P j) → rowed k l ++ (10 ∷ []) ≡ lineOf (asRow (rowAt P j))
 line-is P j k l e f = rw (e, f)
 
 -- the slots of a page along the listing

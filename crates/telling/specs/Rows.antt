@@ -17,7 +17,7 @@ use Rattle.telling.specs.declared.Lined.{Lined}
 
 -- a row as a line
 abbrev pub lineOf : Row → List ℕ
-lineOf r = rowed (r .code) (Places.place (r .place)) ++ (10 ∷ [])
+lineOf r = rowed (r .code) (Places.placeFrom (r .place)) ++ (10 ∷ [])
 
 -- rows as lines, one after the other
 unfoldable pub linesOf : List Row → List ℕ

@@ -69,7 +69,7 @@ module _ {M : Type 1} (𝓤 : URA M) (H : Heap 𝓤) (A : Atoms 𝓤) (W : Given
 
   -- what the result is
   abbrev Found : Place → Type 0
-  Found r = r ≡ Places.place (placeOf (now (d .page)) (d .slot))
+  Found r = r ≡ Places.placeFrom (placeOf (now (d .page)) (d .slot))
 
   abbrev Post : Val → SProp 𝓤
   Post = walkOf 𝓤 H A it.ended stayed (it.clauses 𝓤 H A mem run) .post (((κ, tt), (q, tt), tt, (d, tt), (mach ∷ [], tt)), tt)

@@ -77,8 +77,8 @@ enum-told c = search needs
 
 returns : tie.Need-returns
 returns c = let b = c .before .before .before .before in
-    let e : c .read-place .result ≡ Places.place (place (page (S b) (store b) (page-no b)) (slot-no b)) =
-    c .read-place .ensures ∙ ap (λ g. Places.place (place g (slot-no b))) (page-lent (S b) (store b) (page-no b)) in
+    let e : c .read-place .result ≡ Places.placeFrom (place (page (S b) (store b) (page-no b)) (slot-no b)) =
+    c .read-place .ensures ∙ ap (λ g. Places.placeFrom (place g (slot-no b))) (page-lent (S b) (store b) (page-no b)) in
     inl (place (page (S b) (store b) (page-no b)) (slot-no b), (here b .2, ap found e))
 
 returns-2 : tie.Need-returns-2

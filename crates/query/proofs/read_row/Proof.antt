@@ -64,7 +64,7 @@ returns c =
     let g = page (b .args .z) (now (b .args .s)) (b .args .p) in
     let l = page-lent (b .args .z) (now (b .args .s)) (b .args .p) in
     let k : CodeOut g i _ (d .read-code .result) (d .read-code .last .1 .1 .0) = rw l at (d .read-code .ensures) in
-    let e : c .read-place .result ≡ Places.place (place g i) = c .read-place .ensures ∙ ap (λ q. Places.place (place q i)) l in
+    let e : c .read-place .result ≡ Places.placeFrom (place g i) = c .read-place .ensures ∙ ap (λ q. Places.placeFrom (place q i)) l in
     λ m. (row (k .size m) (e m), k .wrote m)
 
 pub read-row-spec : {M : Type 1} → statement M

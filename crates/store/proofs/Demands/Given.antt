@@ -12,7 +12,7 @@ use Rattle.ground.proofs.Tests.{none-some}
 use Rattle.ground.specs.Ladder.{Answers}
 use Rattle.ground.proofs.Ladders.{each}
 use Rattle.page.specs.Page.{Slotted, rows, code, place as bytesAt, off}
-use Rattle.page.specs.Places.{place, stored, InRange}
+use Rattle.page.specs.Places.{placeFrom, stored, InRange}
 use Rattle.page.proofs.Sums.{len-of-code}
 use Rattle.page.proofs.Stored.{stored-place, place-stored, natural-page, natural-slot, natural-volume}
 use Rattle.partition.specs.declared.Shape.{Shape}
@@ -48,7 +48,7 @@ nth : (rs : List Row) (n : ℕ) (out : List ℕ) → ((r : Row) → getElem? rs 
     → (x : Out × List ℕ) → Answers (rowOf rs n out) x → Nth rs n out (x .0) (x .1)
 nth rs n out fits = each (λ x. Nth rs n out (x .0) (x .1)) (rowOf rs n out) (
   (λ r e x q. subst (λ (y : Out × List ℕ). Nth rs n out (y .0) (y .1)) (sym q) record {
-    is = λ r′ e′. let same : r ≡ r′ = cc in subst (λ (t : Row). (row (length (r .code)) (place (r .place)) ≡ row (length (t .code)) (place (t .place))) × AtStart (t .code) out (r .code ++ drop (length (r .code)) out)) same
+    is = λ r′ e′. let same : r ≡ r′ = cc in subst (λ (t : Row). (row (length (r .code)) (placeFrom (r .place)) ≡ row (length (t .code)) (placeFrom (t .place))) × AtStart (t .code) out (r .code ++ drop (length (r .code)) out)) same
         (refl, at-start (r .code) out (fits r e));
     past = λ l. absurd (none-some (row-none rs n l) e);
   }),
@@ -65,8 +65,8 @@ member (q ∷ rs) (suc n) r e = List·Memᴰ·tail (member rs n r e)
 -- a row as document 01 has it: a code of 1 to 64 bytes, and a place in its ranges that comes back
 pub record Good (r : Row) : Type 0 where
   pub good : GoodCode (r .code)
-  pub back : stored (place (r .place)) ≡ r .place
-  pub range : InRange (place (r .place))
+  pub back : stored (placeFrom (r .place)) ≡ r .place
+  pub range : InRange (placeFrom (r .place))
 
 pub slot-good : (g : List ℕ) → Slotted g → (r : Row) → List·Memᴰ r (map asRow (rows g)) → Good r
 unfolding bytesAt

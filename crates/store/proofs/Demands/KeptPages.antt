@@ -7,7 +7,7 @@ use native.Mathlib.Omega.{arith}
 use Rattle.ground.specs.Ladder.{Answers}
 use Rattle.ground.proofs.Ladders.{each}
 use Rattle.page.specs.Page.{Record}
-use Rattle.page.specs.Places.{place, stored}
+use Rattle.page.specs.Places.{placeFrom, stored}
 use Rattle.words.specs.Folds.{fold}
 use Rattle.page.specs.declared.Place.{Place}
 use Rattle.page.proofs.Unique.{unique}
@@ -63,7 +63,7 @@ module _ (S : Shape) (h : List ℕ → ℕ) (sized : Sized S) (hash : Hash h) wh
   put-keeps : (s c : List ℕ) (p : Place) (m : ℕ) → Accepted S h s → (x : Out × List ℕ) → Answers (putTable S h s c p m) x → Keeps s x
   put-keeps s c p m a = put-each S h s (Keeps s) c p record {
     kept = λ o _. same-kept S h (rowsHeld S s) (contents S s) (shown s a);
-    over = λ old k t b. written s (replaced (place old), t) _ b (over-kept S h (rowsHeld S s) (contents S s) (shown s a) r);
+    over = λ old k t b. written s (replaced (placeFrom old), t) _ b (over-kept S h (rowsHeld S s) (contents S s) (shown s a) r);
     fresh = λ un n6 n7 t b. written s (new, t) _ b (put-kept S h hash (rowsHeld S s) r (contents S s) (shown s a) un (omega arith) (omega (arith, pages-held S s)));
   } m
     where

@@ -11,7 +11,7 @@ use Rattle.ground.proofs.Ladders.{Each, each}
 use Rattle.ground.proofs.Tests.{none-some}
 use Rattle.words.specs.Folds.{fold}
 use Rattle.page.specs.declared.Place.{Place}
-use Rattle.page.specs.Places.{place, stored}
+use Rattle.page.specs.Places.{placeFrom, stored}
 use Rattle.partition.specs.declared.Shape.{Shape}
 use Rattle.partition.specs.Partition.{Row}
 use Rattle.partition.specs.Listing.{placeOf}
@@ -55,7 +55,7 @@ mode-0 S h s r x = (back, λ a. inr ((λ _ f. omega (arith, f .0)), inr ((λ _ f
 pub record PutWays (S : Shape) (h : List ℕ → ℕ) (s : List ℕ) (r : Row) (Q : Out × List ℕ → Type 0) : Type 0 where
   pub kept : (o : Out) → ok o ≡ false → Q (o, s)
   pub over : (old : List ℕ) → placeOf (rowsHeld S s) (r .code) ≡ some old
-      → (t : List ℕ) → Becomes S h s (overwritten (contents S s) r) t → Q (replaced (place old), t)
+      → (t : List ℕ) → Becomes S h s (overwritten (contents S s) r) t → Q (replaced (placeFrom old), t)
   pub fresh : placeOf (rowsHeld S s) (r .code) ≡ none → (Refusal6 S h (rowsHeld S s) r → ⊥) → (Refusal7 S h s (rowsHeld S s) r → ⊥)
       → (t : List ℕ) → Becomes S h s (putNew S h (contents S s) r) t → Q (new, t)
 

@@ -14,7 +14,7 @@ use Rattle.partition.specs.Listing.{without, placeOf}
 use Rattle.store.specs.Pages.{Page, contents, rowsIn, rowsHeld, dirDepth}
 use Rattle.store.specs.Accepted.{Accepted}
 use Rattle.store.specs.Moves.{pick, overwritten, putNew, removed}
-use Rattle.page.specs.Places.{place, stored}
+use Rattle.page.specs.Places.{placeFrom, stored}
 use Rattle.store.specs.Tables.{Out, new, replaced, Refusal6, Refusal7, Becomes, putTable, removeTable, formatTable}
 use Rattle.partition.specs.Listing.{Once}
 use Rattle.store.specs.Demands.{Sized, Call, format, check, count, lookup, remove, put, rowAt, inspect, Made, ok, rowsAfter, surviving, directory, afresh, History, begin, next, AfreshAlways, GoodCode, map-of, update, answerOf, putAnswer, PutIsMap, RemoveIsMap}
@@ -89,7 +89,7 @@ module _ (S : Shape) (h : List ℕ → ℕ) where
     put-left : (s c : List ℕ) (p : Place) (m : ℕ) → Accepted S h s → (x : Out × List ℕ) → Answers (putTable S h s c p m) x → Left (put c p m) s x
     put-left s c p m a = put-each S h s (Left (put c p m) s) c p record {
       kept = λ o f. kept (put c p m) s (o, s) o refl f;
-      over = λ old k t b. moved (put c p m) s (replaced (place old), t) _ _ refl refl b (over s r old a k);
+      over = λ old k t b. moved (put c p m) s (replaced (placeFrom old), t) _ _ refl refl b (over s r old a k);
       fresh = λ un n6 n7 t b. moved (put c p m) s (new, t) _ _ refl refl b (to-cut (fold c) (rowsHeld S s) _ _ un (puts s r a un n6 n7));
     } m
       where

@@ -13,7 +13,7 @@ use Rattle.ground.proofs.Ladders.{each}
 use Rattle.ground.proofs.Sides.{side}
 use Rattle.ground.proofs.Tables.{length-tab}
 use Rattle.page.specs.Page.{Record, rows, rowAt, count}
-use Rattle.page.specs.Places.{place, InRange}
+use Rattle.page.specs.Places.{placeFrom, InRange}
 use Rattle.words.specs.Folds.{fold}
 use Rattle.page.specs.declared.Place.{Place}
 use Rattle.partition.specs.declared.Shape.{Shape}
@@ -39,7 +39,7 @@ RefusedBelow most o = ((n : ℕ) × ((n < 15) × (n ≡ 2 → ⊥) × (o ≡ ref
 
 -- a value that carries a place
 abbrev pub Placed : (Place → Out) → Out → Type 0
-Placed f o = (b : List ℕ) × (InRange (place b) × (o ≡ f (place b)))
+Placed f o = (b : List ℕ) × (InRange (placeFrom b) × (o ≡ f (placeFrom b)))
 
 -- a row: the length of its code, and its place
 abbrev pub Rowed : Out → Type 0
@@ -129,7 +129,7 @@ module _ (S : Shape) (h : List ℕ → ℕ) where
     )
 
     -- a row that the map has
-    mapped : (s c b : List ℕ) → Accepted S h s → placeOf (rowsHeld S s) c ≡ some b → InRange (place b)
+    mapped : (s c b : List ℕ) → Accepted S h s → placeOf (rowsHeld S s) c ≡ some b → InRange (placeFrom b)
     mapped s c b a e = held-good S h sized hash s a (record { code = c; place = b }) (in-map c b (rowsHeld S s) e) .range
 
     pub lookup-said : (s c : List ℕ) (o : Out) → Answers (lookupTable S h s c) o → Said (S .entries + 2) (Placed found) o

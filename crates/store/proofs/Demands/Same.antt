@@ -17,7 +17,7 @@ use Rattle.ground.specs.Ladder.{Ladder, rung, answer, refuse, Answers}
 use Rattle.partition.specs.Listing.{placeOf}
 use Rattle.store.specs.Pages.{size, pages, rowsHeld}
 use Rattle.store.specs.Accepted.{Accepted}
-use Rattle.page.specs.Places.{place, stored}
+use Rattle.page.specs.Places.{placeFrom, stored}
 use Rattle.store.specs.Tables.{Out, refused, new, replaced, Refusal3, Refusal4, Refusal14, putTable}
 use Rattle.partition.specs.Listing.{Once}
 use Rattle.store.specs.Demands.{Made, put, AfreshAlways, SameRefusals}
@@ -32,7 +32,7 @@ putAnswers S c p m q a b n =
     (refuse (Refusal14 m) (refused 14)
     (refuse ((m ≡ 1) × ((old : List ℕ) × (q ≡ some old))) (refused 13)
     (refuse ((m ≡ 2) × (q ≡ none)) (refused 5)
-    (rung (λ old. q ≡ some old) (λ old. answer (replaced (place old)))
+    (rung (λ old. q ≡ some old) (λ old. answer (replaced (placeFrom old)))
     (refuse (S .capacity < a) (refused 6)
     (refuse (n - 2 < b) (refused 7)
     (answer new))))))))

@@ -18,7 +18,7 @@ use Rattle.partition.specs.declared.Shape.{Shape}
 use Rattle.partition.specs.Partition.{Row, needs, rowsOf, buckets}
 use Rattle.partition.specs.Listing.{placeOf}
 use Rattle.page.specs.declared.Place.{Place}
-use Rattle.page.specs.Places.{place, stored, Negative, InRange}
+use Rattle.page.specs.Places.{placeFrom, stored, Negative, InRange}
 use Rattle.page.proofs.Stored.{stored-natural}
 use Rattle.store.specs.Pages.{pages, Page, contents, rowsHeld}
 use Rattle.store.specs.Accepted.{Accepted}
@@ -64,7 +64,7 @@ module _ (S : Shape) (h : List ℕ → ℕ) (sized : Sized S) (hash : Hash h) (s
   module _ (a : Accepted S h s) where
     put-accepted : (r : Row) → Stores r → Folded (r .code) → Result (putAccepted S h s r)
     put-accepted r st f = found-or (placeOf (rowsHeld S s) (r .code))
-        (λ old e. written (replaced (place old)) (overwritten (contents S s) r)
+        (λ old e. written (replaced (placeFrom old)) (overwritten (contents S s) r)
         (store-of S h sized hash s (a .long) _ (overwritten (contents S s) r) (over-shown S h sized hash s r old a e) (over-fits S h hash (pages S s - 2) (contents S s) (accepted-fits S h s a) r st)
         (one-more r _ f (one-less (r .code) (rowsHeld S s) (held-folded S h sized hash s a)))))
         (λ e. refused-or (decLt (S .capacity) (needs (rowsOf h (r ∷ rowsHeld S s) (S .deepest) (top (S .deepest) (h (r .code)))))) (λ six.
@@ -87,7 +87,7 @@ module _ (S : Shape) (h : List ℕ → ℕ) (sized : Sized S) (hash : Hash h) (s
   unfolding removeTable
   remove-answered c =
       unless (good-or-not S s) (λ g. refused-or (three-or-not c) (λ three. checked-or S h s (λ o. (o, s)) g (λ a. found-or (placeOf (rowsHeld S s) (fold c))
-      (λ old e. written (found (place old)) (removed S h (contents S s) (fold c))
+      (λ old e. written (found (placeFrom old)) (removed S h (contents S s) (fold c))
       (store-of S h sized hash s (a .long) _ (removed S h (contents S s) (fold c)) (remove-shown S h sized hash s (fold c) old a e) (remove-fits S h hash (pages S s - 2) (contents S s) (accepted-fits S h s a) (fold c))
       (one-less (fold c) (rowsHeld S s) (held-folded S h sized hash s a))))
       (λ e. answered _))))

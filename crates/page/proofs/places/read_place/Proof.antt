@@ -12,7 +12,7 @@ load-place-requires : tie.Need-load-place-requires
 load-place-requires c κs = let s = c .before .before in rw (c .place-at .ensures) (s .pre .0 .places (s .args .i) (s .pre .1))
 
 returns : tie.Need-returns
-returns c = c .load-place .ensures ∙ ap Places.place (c .before .place-at .ensures)
+returns c = c .load-place .ensures ∙ ap Places.placeFrom (c .before .place-at .ensures)
 
 pub read-place-spec : {M : Type 1} → statement M
 read-place-spec = tie.close (tie.spec place-at-requires load-place-requires returns)

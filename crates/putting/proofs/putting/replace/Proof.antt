@@ -89,7 +89,7 @@ returns c =
     let q = c .before .before .set-place .last .0 in
     let g : List ℕ = page (S z) (s z) (p z) in
     let back = given-back (S z) (s z) (p z) q in
-    let old = c .before .before .before .before .read-place .ensures ∙ ap (λ g. Places.place (place g (z .args .i))) (page-lent (S z) (s z) (p z)) in
+    let old = c .before .before .before .before .read-place .ensures ∙ ap (λ g. Places.placeFrom (place g (z .args .i))) (page-lent (S z) (s z) (p z)) in
     let O : Overwritten g (z .args .i) (now (z .args .place)) q = rw (page-lent (S z) (s z) (p z)) at (c .before .before .set-place .ensures) in
     let new : Row = newRow (code g (z .args .i)) (now (z .args .place)) in
     subst (λ t. Answers (putAccepted (S z) fnv (s z) new) (replaced (c .before .before .before .before .read-place .result), t)) (sym back)

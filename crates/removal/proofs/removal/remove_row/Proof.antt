@@ -100,7 +100,7 @@ same-length-2 c = search needs
 
 returns-2 : tie.Need-returns-2
 returns-2 c = let d = c .before .before .before .before .before .before .before .before .before in
-    let old = c .before .before .before .before .read-place .ensures ∙ ap (λ g. Places.place (place g (i d))) (page-lent (S d) (s d) (p d)) in
+    let old = c .before .before .before .before .read-place .ensures ∙ ap (λ g. Places.placeFrom (place g (i d))) (page-lent (S d) (s d) (p d)) in
     inl (place (page (S d) (s d) (p d)) (i d), (stands d .2, (ap found old, c .before .before .take-out .ensures)))
 
 pub remove-row-spec : {M : Type 1} → statement M

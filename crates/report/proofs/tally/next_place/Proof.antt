@@ -76,8 +76,8 @@ enum-told c = search needs
 
 returns : tie.Need-returns
 returns c n a = let b = c .before .before .before .before in
-    let e : c .read-place .result ≡ Places.place (place (page (S b) (store b) (page-no b)) (slot-no b)) =
-    c .read-place .ensures ∙ ap (λ g. Places.place (place g (slot-no b))) (page-lent (S b) (store b) (page-no b)) in
+    let e : c .read-place .result ≡ Places.placeFrom (place (page (S b) (store b) (page-no b)) (slot-no b)) =
+    c .read-place .ensures ∙ ap (λ g. Places.placeFrom (place g (slot-no b))) (page-lent (S b) (store b) (page-no b)) in
     let w = stepped b n a in
     (record { row = asRow (rowAt (page (S b) (store b) (page-no b)) (slot-no b)); there = w .0 .1; is = e }, w .1)
 

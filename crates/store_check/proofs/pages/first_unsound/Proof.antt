@@ -149,7 +149,7 @@ slot-said c =
     let k = depth g in
     let one = c .before .before .before .before .before .before .hash-slot in
     let two = c .before .hash-in-place in
-    let m = c .before .before .before .before .before .before .before .limit in
+    let m = c .before .before .before .before .before .before .before .share-limit in
     let n = near k (omega (arith, own x .deep, start (at x) .pre .begun .deep, few (at x))) (one .result) (two .result) in
     says-same {P = bitXor (one .result) (two .result) < m .result} {Q = Like g (c .before .before .before .slots .i)} (c .differ-below .result) (c .differ-below .ensures)
     (λ h. ap (top k) (sym (one .ensures)) ∙ n .0 (subst (λ v. bitXor (one .result) (two .result) < v) (m .ensures) h) ∙ ap (top k) (two .ensures))
@@ -213,8 +213,8 @@ own-ok-requires c κs = let x = c .before .before .before .before .before in (tu
 shared-slice-read-k : tie.Need-shared-slice-read-k Inv-slots μ-slots Inv-pages μ-pages
 shared-slice-read-k c = omega (arith, long (at (c .before)))
 
-limit-requires : tie.Need-limit-requires Inv-slots μ-slots Inv-pages μ-pages
-limit-requires c κs =
+share-limit-requires : tie.Need-share-limit-requires Inv-slots μ-slots Inv-pages μ-pages
+share-limit-requires c κs =
     let x = c .before in
     omega (arith, own x .deep, start (at x) .pre .begun .deep, few (at x))
 
@@ -238,7 +238,7 @@ slots-holds c =
       omega (arith, far .within, c .before .get16 .ensures .0),
       λ j h. ⊎-elim
           (λ lt. let e : j ≡ 0 = omega arith in rw e refl)
-          (λ ge. ap (top (depth g)) (sym (first .ensures)) ∙ n (fnv (code g j)) .0 (subst (λ v. bitXor (first .result) (fnv (code g j)) < v) (c .before .before .before .limit .ensures) (far .near j ge h)))
+          (λ ge. ap (top (depth g)) (sym (first .ensures)) ∙ n (fnv (code g j)) .0 (subst (λ v. bitXor (first .result) (fnv (code g j)) < v) (c .before .before .before .share-limit .ensures) (far .near j ge h)))
           (side j 1),
     )
 
@@ -399,7 +399,7 @@ first-unsound-spec =
     pages-again
     own-ok-requires
     shared-slice-read-k
-    limit-requires
+    share-limit-requires
     hash-slot-requires
     get16-requires
     near-where-long-requires

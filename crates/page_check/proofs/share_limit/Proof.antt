@@ -1,8 +1,8 @@
--- `page_check::limit` meets its contract. Assumes nothing.
+-- `page_check::share_limit` meets its contract. Assumes nothing.
 use native.Mathlib.Omega.{arith}
 use Rattle.page_check.proofs.Prefixes.{limit-is}
-use Rattle.page_check.proofs.limit.Statement.{statement}
-use Rattle.page_check.proofs.limit.Tie as tie
+use Rattle.page_check.proofs.share_limit.Statement.{statement}
+use Rattle.page_check.proofs.share_limit.Tie as tie
 
 cast-result : tie.Need-cast-result
 cast-result c = record { fits = omega (arith, c .pre) }
@@ -13,5 +13,5 @@ shr-result c = omega (arith, c .pre)
 returns : tie.Need-returns
 returns c = limit-is (c .args .k) (c .pre)
 
-pub limit-spec : {M : Type 1} → statement M
-limit-spec = tie.close (tie.spec cast-result shr-result returns)
+pub share-limit-spec : {M : Type 1} → statement M
+share-limit-spec = tie.close (tie.spec cast-result shr-result returns)
