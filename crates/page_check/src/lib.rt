@@ -482,7 +482,7 @@ fn alike(page: &[u8], first: u32, k: u8) -> bool
 {
     let n = words::get16(page, 2);
     let mut acc: u32 = 0;
-    let mut i = near_by_twos(page, first, limit(k));
+    let mut i = near_by_twos(page, first, share_limit(k));
     while i < n {
         acc = acc | (first ^ hash_slot(page, i));
         i += 1;

@@ -19,8 +19,8 @@ abbrev μ-loop : tie.MeasureT-loop
 get16-requires : tie.Need-get16-requires Inv-loop μ-loop
 get16-requires c κs = omega (arith, c .before .pre .rules .rules .least)
 
-limit-requires : tie.Need-limit-requires Inv-loop μ-loop
-limit-requires c κs = c .before .before .pre .bits
+share-limit-requires : tie.Need-share-limit-requires Inv-loop μ-loop
+share-limit-requires c κs = c .before .before .pre .bits
 
 near-by-twos-requires : tie.Need-near-by-twos-requires Inv-loop μ-loop
 near-by-twos-requires c κs = c .before .before .before .pre .rules
@@ -31,7 +31,7 @@ loop-holds c =
     let a = s .args in
     let near = c .near-by-twos .ensures in (
       omega (arith, near .within, c .before .before .get16 .ensures .0),
-      ored-near _ (s .pre .bits) _ _ _ (s .pre .hash) (λ i h l. subst (λ m. bitXor (a .first) (fnv (code (a .page .now) i)) < m) (c .before .limit .ensures) (near .near i h l)),
+      ored-near _ (s .pre .bits) _ _ _ (s .pre .hash) (λ i h l. subst (λ m. bitXor (a .first) (fnv (code (a .page .now) i)) < m) (c .before .share-limit .ensures) (near .near i h l)),
     )
 
 hash-slot-requires : tie.Need-hash-slot-requires Inv-loop μ-loop
@@ -68,7 +68,7 @@ alike-spec =
     Inv-loop
     μ-loop
     get16-requires
-    limit-requires
+    share-limit-requires
     near-by-twos-requires
     loop-holds
     hash-slot-requires
