@@ -192,7 +192,7 @@ reads-untouched a (Listed n) p = tt
 reads-untouched a (Changed x) p = p
 reads-untouched a (Formats n size) p = p
 
-numbers-untouched : (n : ℕ) (o : Outcome) → TellsNumber n o → Untouched o
+pub numbers-untouched : (n : ℕ) (o : Outcome) → TellsNumber n o → Untouched o
 numbers-untouched n NotKnown p = tt
 numbers-untouched n Stopped p = tt
 numbers-untouched n Silent p = tt

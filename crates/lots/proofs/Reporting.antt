@@ -26,10 +26,9 @@ use Rattle.store.specs.Pages.{rowsHeld}
 use Rattle.store.specs.Tables.{refused}
 use Rattle.store.proofs.Accepted.Reading.{row-none}
 use Rattle.lots.specs.declared.Outcome.{Outcome}
-use Rattle.lots.specs.declared.Outcome.the-variants.{Silent, Unknown as NotKnown, Told, Changed, Listed, Format as Formats, Stopped}
-use Rattle.lots.specs.Obeys.{Untouched, TellsNumber, ReportTold, ReportAsked}
+use Rattle.lots.specs.Obeys.{Untouched, ReportTold, ReportAsked}
 use Rattle.lots.specs.Reports.{FileFormed, FileLaid, ListedSums, Reports, RowRefused}
-use Rattle.lots.proofs.Leaving.{passes-untouched}
+use Rattle.lots.proofs.Leaving.{passes-untouched, numbers-untouched}
 
 abbrev IsSum : Reported → Type 0
 IsSum (other o) = ⊥
@@ -64,15 +63,6 @@ marked-as S s fl n x t cs cs′ r e m =
 
 pub none-begun : {z : Sheet} {line fl : List ℕ} → NoneRead z → fl ≡ blankSheet → BytesRead [] z line fl
 none-begun {z} {line} {fl} n e = subst (BytesRead [] z line) (sym e) (n .read line)
-
-numbers-untouched : (n : ℕ) (o : Outcome) → TellsNumber n o → Untouched o
-numbers-untouched n (Listed m) t = tt
-numbers-untouched n Stopped t = tt
-numbers-untouched n Silent t = absurd t
-numbers-untouched n NotKnown t = absurd t
-numbers-untouched n (Told x) t = absurd t
-numbers-untouched n (Changed x) t = absurd t
-numbers-untouched n (Formats m size) t = absurd t
 
 told-untouched : (n : ℕ) (r : Reported) (o : Outcome) → ReportTold n r o → Untouched o
 told-untouched n (summed x) o t = numbers-untouched n o t
