@@ -61,7 +61,7 @@ numbered (found p) = []
 numbered (counted n) = []
 numbered (row n p) = []
 
--- and why it is given
+-- why a refusal is given
 abbrev pub why : Out → List ℕ
 why (refused n) = reason n
 why (refusedAt n p) = reason n

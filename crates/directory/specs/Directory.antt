@@ -101,7 +101,7 @@ pub record Settleable (S : Shape) (s : List ℕ) (n : ℕ) : Type 0 where
   pub pages : Settling S s n
   pub counts : Counts S s
 
--- and none is deeper than most bits; its directory, of depth d, is that of the pages where that is their depth
+-- a store whose counts are true, and no page of it is deeper than most bits; its directory, of depth d, is that of the pages where that is their depth
 pub record SettleDue (S : Shape) (h : List ℕ → ℕ) (s : List ℕ) (n d most : ℕ) : Type 0 where
   pub store : Settleable S s n
   pub limit : most ≤ 12

@@ -74,7 +74,7 @@ fn last_one(h: u32, s: &[u8], i: usize, n: usize) -> u32
     step(h, s[i])
 }
 
-// The same of a multiple of four: fewer than four.
+// The bytes from i on that n has over a multiple of four, taken in: fewer than four.
 fn last_three(h: u32, s: &[u8], i: usize, n: usize) -> u32
     requires { ⌜ i + n % 4 ≤ length (now s) ⌝ }
     ensures { λ r. ⌜ r ≡ each h (take (n % 4) (drop i (now (s .entry)))) ⌝ }
@@ -86,7 +86,7 @@ fn last_three(h: u32, s: &[u8], i: usize, n: usize) -> u32
     last_one(a, s, i + 2, n)
 }
 
-// The same of a multiple of eight: fewer than eight.
+// The bytes from i on that n has over a multiple of eight, taken in: fewer than eight.
 fn last_seven(h: u32, s: &[u8], i: usize, n: usize) -> u32
     requires { ⌜ i + n % 8 ≤ length (now s) ⌝ }
     ensures { λ r. ⌜ r ≡ each h (take (n % 8) (drop i (now (s .entry)))) ⌝ }
@@ -98,7 +98,7 @@ fn last_seven(h: u32, s: &[u8], i: usize, n: usize) -> u32
     last_three(a, s, i + 4, n)
 }
 
-// The same of a multiple of sixteen: fewer than sixteen.
+// The bytes from i on that n has over a multiple of sixteen, taken in: fewer than sixteen.
 fn last_fifteen(h: u32, s: &[u8], i: usize, n: usize) -> u32
     requires { ⌜ i + n % 16 ≤ length (now s) ⌝ }
     ensures { λ r. ⌜ r ≡ each h (take (n % 16) (drop i (now (s .entry)))) ⌝ }

@@ -92,7 +92,7 @@ pub record Used (S : Shape) (s : List ℕ) (p : ℕ) : Type 0 where
 abbrev pub isOf : Shape → (List ℕ → ℕ) → ℕ → ℕ → List ℕ → ℕ → Bool
 isOf S h j v s p = within h j v (read (page S s p))
 
--- and one of its n pages
+-- page p is one of the store's n pages and of the prefix v of j bits
 pub record OfPrefix (S : Shape) (h : List ℕ → ℕ) (s : List ℕ) (n j v p : ℕ) : Type 0 where
   pub from : 2 ≤ p
   pub to : p < n
@@ -126,7 +126,7 @@ pub record Joinable (S : Shape) (h : List ℕ → ℕ) (s : List ℕ) (n x j : �
   pub some : 0 < needs (othersIn h j (top j x) c (contents S s))
   pub there : find (within h j (top j x)) (contents S s) < length (contents S s)
 
--- and the array has the counts of buckets
+-- rows that can be joined, and an array that has the counts of buckets
 pub record JoinCounted (S : Shape) (h : List ℕ → ℕ) (s : List ℕ) (n x j : ℕ) (c tallies : List ℕ) : Type 0 where
   pub joinable : Joinable S h s n x j c
   pub counted : BucketsCounted (contents S s) tallies

@@ -163,7 +163,7 @@ fn join(
     low
 }
 
-// The same with a page lent, by the size, so that a small one pays for no more.
+// The rows of a prefix joined, with a page lent by the size, so that a small one pays for no more.
 pub fn join_lent(
     s: &mut [u8],
     z: Shape,

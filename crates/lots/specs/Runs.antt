@@ -100,7 +100,7 @@ pub record Turned (l : List ℕ) (z : Session) (s : List ℕ) (r : Session) (t :
   pub quit : z .quit ≡ false → Says (r .quit) (l ≡ text "quit")
   pub did : Did (length s) l (take (z .len) s) (take (r .len) t)
 
--- the same by a line whose words, with one blank between, are w, unless it is over the room for them
+-- from z with the buffer s to r with the buffer t by a line whose words, with one blank between, are w, unless it is over the room for them
 pub record WordsTurned (over : Bool) (w : List ℕ) (z : Session) (s : List ℕ) (r : Session) (t : List ℕ) : Type 0 where
   pub kept : Kept z s r t
   pub line : r .line ≡ z .line
@@ -108,14 +108,14 @@ pub record WordsTurned (over : Bool) (w : List ℕ) (z : Session) (s : List ℕ)
   pub quit : over ≡ false → z .quit ≡ false → (l : List ℕ) → w ≡ spaced (wordsOf l) → Says (r .quit) (textOf l ≡ text "quit")
   pub did : over ≡ false → (l : List ℕ) → w ≡ spaced (wordsOf l) → Did (length s) (textOf l) (take (z .len) s) (take (r .len) t)
 
--- the same by the line that was read into the buffer p, and the next one begins
+-- from z with the buffer s to r with the buffer t by the line that was read into the buffer p; the next one begins
 pub record LineTurned (p : List ℕ) (z : Session) (s : List ℕ) (r : Session) (t : List ℕ) : Type 0 where
   pub kept : Kept z s r t
   pub line : (q : List ℕ) → ReadSoFar q (r .line) []
   pub quit : z .quit ≡ false → (l : List ℕ) → ReadSoFar p (z .line) l → Says (r .quit) (Quits l)
   pub did : (l : List ℕ) → ReadSoFar p (z .line) l → LineDid (length s) l (take (z .len) s) (take (r .len) t)
 
--- the same by the lines that the bytes i end, with w read before them: all, unless the run was stopped; what no line feed ends is in the buffer q
+-- from z with the buffer s to r with the buffer t by the lines that the bytes i end, with w read before them: all, unless the run was stopped; what no line feed ends is in the buffer q
 pub record Fed (w i : List ℕ) (z : Session) (s : List ℕ) (r : Session) (t q : List ℕ) : Type 0 where
   pub done : List (List ℕ)
   pub left : List (List ℕ)
@@ -130,7 +130,7 @@ pub record Feeds (i : List ℕ) (z : Session) (s p : List ℕ) (r : Session) (t 
   pub fits : r .line .fill ≤ length q
   pub fed : z .quit ≡ false → (w : List ℕ) → ReadSoFar p (z .line) w → Fed w i z s r t q
 
--- so are the bytes that were read, whichever they are
+-- some bytes were read, whichever they are, and are fed to the session
 pub record Brought (z : Session) (s p : List ℕ) (r : Session) (t q : List ℕ) : Type 0 where
   pub bytes : List ℕ
   pub feeds : Feeds bytes z s p r t q

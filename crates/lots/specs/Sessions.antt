@@ -20,7 +20,7 @@ pub record SessionHolds (z : Session) (s : List ℕ) : Type 0 where
   pub within : z .len ≤ length s
   pub known : Known (z .known) (take (z .len) s)
 
--- and the line that is being read has room in the buffer p, of 4,096 bytes
+-- a session whose line that is being read has room in the buffer p, of 4,096 bytes
 pub record SessionReads (z : Session) (s p : List ℕ) : Type 0 where
   pub holds : SessionHolds z s
   pub fits : z .line .fill ≤ length p

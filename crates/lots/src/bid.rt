@@ -126,7 +126,7 @@ fn tell_marked(s: &[u8], z: Shape, flat: &[u64], counts: &mut [u8], n: usize) ->
     tell_rows(s, z, flat, counts, n)
 }
 
-// The same with marks of its own.
+// The rows that a report is about told, with marks of their own.
 fn tell_fresh(s: &[u8], z: Shape, flat: &[u64], n: usize) -> bool
     requires { ⌜ Summable z (now s) (now flat) n ⌝ }
 {
@@ -134,7 +134,7 @@ fn tell_fresh(s: &[u8], z: Shape, flat: &[u64], n: usize) -> bool
     tell_marked(s, z, flat, &mut counts[..n], n)
 }
 
-// The same at the page size that the store says.
+// The rows that a report is about told, at the page size that the store says.
 fn tell_named(s: &[u8], flat: &[u64], n: usize) -> bool
     requires { ⌜ Summable (shapeOf (now s)) (now s) (now flat) n ⌝ }
 {

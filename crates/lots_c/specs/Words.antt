@@ -52,19 +52,19 @@ pub record Tells (T : Ladder Out) (r : ℕ) : Type 0 where
   pub allowed : Answers T out
   pub is : r ≡ answerWord out
 
--- the same of a call that writes: t is what it leaves
+-- r is the word of an answer that the table of a call which writes allows, with the bytes t that it leaves
 pub record TellsAnd (T : Ladder (Out × List ℕ)) (t : List ℕ) (r : ℕ) : Type 0 where
   pub out : Out
   pub allowed : Answers T (out, t)
   pub is : r ≡ answerWord out
 
--- the same of a batch: ns is what its run of answers holds then
+-- r is the word of an answer that a batch's table allows, with the bytes t that it leaves and its run of answers, which holds ns then
 pub record TellsAll (T : Ladder (Out × (List ℕ × List ℕ))) (t ns : List ℕ) (r : ℕ) : Type 0 where
   pub out : Out
   pub allowed : Answers T (out, (t, ns))
   pub is : r ≡ answerWord out
 
--- the same of a call that gives a row: the code's length too
+-- r is the word of an answer that the table of a call which gives a row allows, and len the code's length
 pub record TellsRow (T : Ladder (Out × List ℕ)) (t : List ℕ) (old len r : ℕ) : Type 0 where
   pub out : Out
   pub allowed : Answers T (out, t)

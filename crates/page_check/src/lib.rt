@@ -390,7 +390,7 @@ pub fn hash_slot(page: &[u8], i: usize) -> u32
     hash::hash(page::code_at(page, i))
 }
 
-// The same where the code lies: in the check's loop over the slots, its one caller, it becomes a part of the loop.
+// The hash of slot i's code where it lies: in the check's loop over the slots, its one caller, it becomes a part of the loop.
 pub fn hash_in_place(page: &[u8], i: usize) -> u32
     requires { ⌜ BucketPage (now page) × (i < count (now page)) ⌝ }
     ensures { λ r. ⌜ r ≡ fnv (code (now (page .entry)) i) ⌝ }
@@ -464,7 +464,7 @@ fn near_by_twos(page: &[u8], first: u32, m: u64) -> usize
     i
 }
 
-// The same where it pays: where the records, which lie before the frontier, have 48 bytes or more on the whole, and so the codes 40. Else 1: no slot is looked at.
+// The slots whose hashes are near the first, two by two, where that pays: where the records, which lie before the frontier, have 48 bytes or more on the whole, and so the codes 40. Else 1: no slot is looked at.
 pub fn near_where_long(page: &[u8], first: u32, m: u64) -> usize
     requires { ⌜ BucketPage (now page) ⌝ }
     ensures { λ r. ⌜ NearUpTo (now (page .entry)) first m r ⌝ }

@@ -96,5 +96,5 @@ pub record TurnedAway (h : List ℕ → ℕ) (P : Program) : Type 0 where
   pub miscounts : Miscounts h P → ⊥
   -- under a hash that has such codes
   pub one-bucket : Parting h → OneBucket P → ⊥
-  -- and under any hash rows that do not fit together have a second directory entry
+  -- under any hash rows that do not fit together have a second directory entry
   pub more-than-one-bucket : (rs : List Row) (t : List ℕ) → SizedHistory h rs t → shapeOf t .capacity < needs rs → 0 < dirDepth t

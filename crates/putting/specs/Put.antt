@@ -35,7 +35,7 @@ pub record Givable (S : Shape) (h : List ℕ → ℕ) (s c pl : List ℕ) : Type
   pub good : GoodCode c
   pub natural : Natural pl
 
--- and its place not yet in bytes
+-- a row that can be put, its place not yet in bytes
 pub record Allowed (S : Shape) (h : List ℕ → ℕ) (s c : List ℕ) (p : Place) : Type 0 where
   pub sized : Sized S
   pub accepted : Accepted S h s
@@ -64,7 +64,7 @@ pub record Homed (S : Shape) (h : List ℕ → ℕ) (s : List ℕ) (p : ℕ) (c 
   pub row : Puttable S h s c pl
   pub home : HomeOf S s (h c) p
 
--- and whose code is in slot i of that page
+-- a row whose code is in slot i of its page p
 pub record KnownAt (S : Shape) (h : List ℕ → ℕ) (s : List ℕ) (p i : ℕ) (pl : List ℕ) : Type 0 where
   pub row : Homed S h s p (code (page S s p) i) pl
   pub slot : i < count (page S s p)

@@ -37,7 +37,7 @@ pub record Each (f : List ℕ → ℕ) (g l : List ℕ) : Type 0 where
   pub long : count g < length l
   pub at : (i : ℕ) → i < count g → getD l i 0 ≡ f (code g i)
 
--- and behind them what it says of the code c
+-- l has what f says of each code of the page g, and behind these what it says of the code c
 pub record Told (f : List ℕ → ℕ) (g c l : List ℕ) : Type 0 where
   pub rows : Each f g l
   pub new : getD l (count g) 0 ≡ f c
@@ -67,7 +67,7 @@ unfoldable pub below : Shape → (List ℕ → ℕ) → List Row → ℕ → ℕ
 unfolding walk grade rowsOf
 below S h rs k v = walk (λ j w. grade (S .capacity) (rowsOf h rs j w)) (S .deepest - k) (grade (S .capacity) (rowsOf h rs k v)) k v
 
--- the same written packed
+-- the buckets below the prefix (k, v), written packed
 abbrev pub pagesBelow : Shape → (List ℕ → ℕ) → List Row → ℕ → ℕ → List Page
 pagesBelow S h rs k v = map (packed h rs) (below S h rs k v)
 
@@ -107,7 +107,7 @@ pub record Appendable (p c pl : List ℕ) : Type 0 where
   pub natural : Natural pl
   pub good : GoodCode c
 
--- the same, if its hash x begins with the k bits of v
+-- a row can be appended to the page p, if its hash x begins with the k bits of v
 pub record AppendableIf (h : List ℕ → ℕ) (p c pl : List ℕ) (x k v : ℕ) : Type 0 where
   pub behind : Behind p (rowsOf h (newRow c pl ∷ []) k v)
   pub hash : x ≡ h c
@@ -115,7 +115,7 @@ pub record AppendableIf (h : List ℕ → ℕ) (p c pl : List ℕ) (x k v : ℕ)
   pub natural : Natural pl
   pub good : GoodCode c
 
--- the same of the row in slot i of the page g
+-- the row in slot i of the page g can be appended to the page p, if its hash x begins with the k bits of v
 pub record SlotAppendable (h : List ℕ → ℕ) (p g : List ℕ) (i x k v : ℕ) : Type 0 where
   pub behind : Behind p (rowsOf h (asRow (rowAt g i) ∷ []) k v)
   pub page : Slotted g
@@ -123,7 +123,7 @@ pub record SlotAppendable (h : List ℕ → ℕ) (p g : List ℕ) (i x k v : ℕ
   pub hash : x ≡ h (code g i)
   pub deep : k ≤ 12
 
--- and of the rows in its slots from a up to b, whose hashes are in hs
+-- the rows in the slots of g from a up to b, whose hashes are in hs, can be appended to the page p, those that begin with the k bits of v
 pub record SlotsAppendable (h : List ℕ → ℕ) (p g hs : List ℕ) (a b k v : ℕ) : Type 0 where
   pub behind : Behind p (rowsOf h (slots g a b) k v)
   pub page : Slotted g
@@ -218,15 +218,14 @@ pub record Writable (S : Shape) (h : List ℕ → ℕ) (rs : List Row) (k v : �
   pub to : at < pages S s
   pub room : Room (contents S s) at (pagesBelow S h rs k v)
 
--- and the rows are those of the page g, whose hashes and needs are in hs and ns, and the new row, which belongs at slot i
--- and d is a depth that there is
+-- buckets that can be written of the rows of the page g, whose hashes and needs are in hs and ns, and of the new row, which belongs at slot i; d is a depth that there is
 pub record Spread (S : Shape) (h : List ℕ → ℕ) (d : ℕ) (s g : List ℕ) (i : ℕ) (c pl hs ns : List ℕ) (k v at : ℕ) : Type 0 where
   pub depth : d ≤ S .deepest
   pub source : Source g i c pl
   pub weighed : Weighed h g c hs ns
   pub writable : Writable S h (withNew g (newRow c pl)) k v s at
 
--- and t is s with them, the first in page at unless that is 0, each next in the lowest free page; p is what is left of page at; d is the directory's depth
+-- t is s with the buckets below the prefix (k, v), the first in page at unless that is 0, each next in the lowest free page; p is what is left of page at; d is the directory's depth
 pub record BucketsWritten (S : Shape) (h : List ℕ → ℕ) (d : ℕ) (rs : List Row) (k v : ℕ) (s : List ℕ) (at : ℕ) (t : List ℕ) (p : ℕ) : Type 0 where
   pub pages : Rewritten S s t
   pub held : contents S t ≡ written (contents S s) (takenNext (contents S s) at) (pagesBelow S h rs k v)

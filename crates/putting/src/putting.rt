@@ -52,7 +52,7 @@ fn insert_new(
     store::Answer::New
 }
 
-// The same, with a page to work in: of 1,024 bytes where the pages are no longer, so that these pay for no more, else of the largest size.
+// A row inserted, with a page to work in: of 1,024 bytes where the pages are no longer, so that these pay for no more, else of the largest size.
 fn insert_lent(
     s: &mut [u8],
     z: Shape,
@@ -73,7 +73,7 @@ fn insert_lent(
     insert_new(s, z, p, i, key, place, &mut scratch[0..size])
 }
 
-// The same, where most pages have the room at the frontier: only one that has not, and is packed first, pays for a page to work in.
+// A row inserted where it fits. Most pages have the room at the frontier: only one that has not, and is packed first, pays for a page to work in.
 fn insert_fitting(
     s: &mut [u8],
     z: Shape,

@@ -139,7 +139,7 @@ fn split(
     store::Answer::New
 }
 
-// The same, with what it works in: of a page of 1,024 bytes and its rows where the pages are no longer, else of the largest size.
+// A split with what it works in: of a page of 1,024 bytes and its rows where the pages are no longer, else of the largest size.
 pub fn split_lent(
     s: &mut [u8],
     z: Shape,

@@ -99,7 +99,7 @@ unfolding timesNamed
 hiddenOf rs [] = 0
 hiddenOf rs (x ∷ xs) = cond (eqb (timesNamed rs x) 0) 1 0 + hiddenOf rs xs
 
--- and their sum
+-- the sum of the sheet rows that no code names
 unfoldable pub hiddenCents : List Row → List SheetRow → ℤ
 unfolding timesNamed
 hiddenCents rs [] = pos 0

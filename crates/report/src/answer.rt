@@ -56,7 +56,7 @@ fn told(s: &[u8], z: Shape, ranks: &[u64], raised: &[u64], counts: &mut [u8]) ->
     }
 }
 
-// The same, with marks of its own.
+// The report over a sound sheet, with marks of its own.
 fn told_fresh(s: &[u8], z: Shape, ranks: &[u64], raised: &[u64]) -> Outcome
     requires { ⌜ SheetReady z (now s) (now ranks) (now raised) ⌝ }
     ensures { λ r. ⌜ ToldBy (now (ranks .entry)) (now (raised .entry)) (listing z fnv (rowsHeld z (now (s .entry)))) (replicate (length (now (ranks .entry))) 0) (reported r) ⌝ }

@@ -69,6 +69,6 @@ module _ (S : Shape) (h : List ℕ → ℕ) where
   abbrev pub PutChooses : Type 0
   PutChooses = (s c : List ℕ) (a : Place) (m : ℕ) (t : List ℕ) → Accepted S h s → Made S h (put c a m) s new t → PutPages S h s (fold c) t
 
-  -- and of every remove that answers a place
+  -- so it is of every remove that answers a place
   abbrev pub RemoveChooses : Type 0
   RemoveChooses = (s c : List ℕ) (a : Place) (t : List ℕ) → Accepted S h s → Made S h (remove c) s (found a) t → RemovePages S h s (fold c) t

@@ -296,7 +296,7 @@ named S s (suc p) = seen (read (page S s (suc p)))
 abbrev pub directory : Shape → List ℕ → List Seen
 directory S s = tab (λ i. named S s (entryAt S s i)) (2 ^ dirDepth s)
 
--- the same, worked out afresh from rows
+-- what a directory entry names, worked out afresh from rows
 abbrev pub seenAfresh : (List ℕ → ℕ) → List Row → Option Prefix → Seen
 seenAfresh h rs none = none
 seenAfresh h rs (some p) = some (p .bits, inOrder (rowsOf h rs (p .bits) (p .value)))

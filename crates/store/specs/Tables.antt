@@ -166,7 +166,7 @@ putAccepted S h s r =
     (refuse (Refusal7 S h s (rowsHeld S s) r) (refused 7, s)
     (writes S h s new (putNew S h (contents S s) r))))
 
--- the same by the mode m: 13 and 5 stand before 6
+-- put on an accepted store by the mode m: 13 and 5 stand before 6
 abbrev pub putByMode : Shape → (List ℕ → ℕ) → List ℕ → ℕ → Row → Ladder (Out × List ℕ)
 putByMode S h s m r =
     refuse (Refusal13 (rowsHeld S s) (r .code) m) (refused 13, s)

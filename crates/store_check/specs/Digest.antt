@@ -51,7 +51,7 @@ module _ (S : Shape) (s : List ℕ) where
   abbrev pub Celled : ℕ → List ℕ → Type 0
   Celled n cells = Heaped topAt loadAt (n - 2) (S .entries + 1) cells
 
-  -- the same added up
+  -- what the pages need by the first bits of their first hash, added up cell by cell
   pub record Digest (n : ℕ) (hashes sums : List ℕ) : Type 0 where
     pub hashed : Hashed n hashes
     pub long : length sums ≡ S .entries + 1

@@ -19,7 +19,7 @@ pub record Roomy (S : Shape) (s dir : List ℕ) (m : ℕ) : Type 0 where
   pub room : length dir ≡ S .entries
   pub none : Zero dir
 
--- the same for a store of n pages, whose directory has m entries
+-- page 1 of a store of n pages, whose directory has m entries, and clear room for these
 pub record PageOneAsked (S : Shape) (s dir : List ℕ) (n m : ℕ) : Type 0 where
   pub room : Roomy S s dir m
   pub number : n ≡ pages S s

@@ -12,7 +12,7 @@ pub record FirstFrom (a n : ℕ) (Keeps : ℕ → Type 0) (p : ℕ) : Type 0 whe
   pub before : (q : ℕ) → q < p → a ≤ q → Keeps q
   pub bad : p < n → Keeps p → ⊥
 
--- the same of the pages 2 upward
+-- p is the first page from 2 up to n that does not keep, or n
 abbrev pub FirstBad : ℕ → (ℕ → Type 0) → ℕ → Type 0
 FirstBad n Keeps p = FirstFrom 2 n Keeps p
 

@@ -12,7 +12,7 @@ module _ (t l : ℕ → ℕ) (n : ℕ) where
   abbrev pub heap : ℕ → ℕ
   heap v = total (λ i. pick (eqb (t i) v) (l i) 0) n
 
-  -- and to the cells below v
+  -- what the first n give to the cells below v
   abbrev pub below : ℕ → ℕ
   below v = total (λ i. pick (ltb (t i) v) (l i) 0) n
 

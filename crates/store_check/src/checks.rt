@@ -123,7 +123,7 @@ fn judge_16384(s: &[u8], z: Shape, zeros: usize) -> usize
     )
 }
 
-// The same, with tables of the store's own size: a small store clears no table of a larger one.
+// The page at which the check stops by the rules before there were counts, with tables of the store's own size: a small store clears no table of a larger one.
 fn judge_sized(s: &[u8], z: Shape, zeros: usize) -> usize
     requires { ⌜ (z ≡ shapeOf (now s)) × Judgeable z (now s) zeros ⌝ }
     ensures { λ r. ⌜ JudgedFrom zeros z fnv (now (s .entry)) r ⌝ }

@@ -35,7 +35,7 @@ fn page_lines(page: &[u8], i: usize, out: &mut [u8]) -> Lined
     Lined { slot, len }
 }
 
-// The same of the bucket page p of a store.
+// The rows of the bucket page p of a store from slot i on as lines: as many as the buffer has room for.
 fn bucket_lines(s: &[u8], z: Shape, p: usize, i: usize, out: &mut [u8]) -> Lined
     requires { ⌜ OnPage z (now s) p i × (4096 ≤ length (now out)) ⌝ }
     ensures { λ r. ⌜ Filling (page z (now (s .entry)) p) i (now (out .entry)) (now (out .exit)) r ⌝ }

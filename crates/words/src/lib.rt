@@ -262,7 +262,7 @@ fn fold_eight(dst: &mut [u8], src: &[u8], a: usize)
     copy_at(dst, a, &e);
 }
 
-// The same of all bytes, one by one.
+// All bytes folded, one by one.
 fn fold_each(dst: &mut [u8], src: &[u8])
     requires { ⌜ length (now src) ≤ length (now dst) ⌝ }
     ensures { λ _. ⌜ Copied (now (dst .entry)) 0 (fold (now (src .entry))) (now (dst .exit)) ⌝ }
