@@ -121,32 +121,24 @@ fn odd_eight(h: u32, s: &[u8], i: usize, n: usize) -> u32
     eight(h, s, i)
 }
 
-// The bytes from `from` up to `to`, taken in: sixteen at a time, since a turn of a loop costs as much as a byte, then the odd ones.
-fn take_in(h: u32, s: &[u8], from: usize, to: usize) -> u32
-    requires { ⌜ PartOf (now s) from to ⌝ }
-    ensures { λ r. ⌜ r ≡ each h (take (to - from) (drop from (now (s .entry)))) ⌝ }
-{
-    let n = to - from;
-    let e = from + n / 16 * 16;
-    let mut i = from;
-    let mut x = h;
-    while i < e {
-        x = sixteen(x, s, i);
-        i += 16;
-    }
-    let y = odd_eight(x, s, e, n);
-    last_seven(y, s, e + n % 16 / 8 * 8, n)
-}
-
-// The hash of any bytes, of any length.
+// The hash of any bytes, of any length: sixteen at a time, since a turn of a loop costs as much as a byte, then the odd ones.
 pub fn hash(code: &[u8]) -> u32
     ensures { λ r. ⌜ r ≡ fnv (now (code .entry)) ⌝ }
 {
-    take_in(2166136261, code, 0, code.len())
+    let n = code.len();
+    let e = n / 16 * 16;
+    let mut i = 0;
+    let mut h = 2166136261;
+    while i < e {
+        h = sixteen(h, code, i);
+        i += 16;
+    }
+    let y = odd_eight(h, code, e, n);
+    last_seven(y, code, e + n % 16 / 8 * 8, n)
 }
 
 // The hash of the bytes from `from` up to `to`, where they lie. Its body is its own: called at one place, in a loop over the codes of a page, it becomes a part of
-// that loop, which `take_in`, called at many, does not.
+// that loop, which `hash`, called at many, does not.
 pub fn hash_part(s: &[u8], from: usize, to: usize) -> u32
     requires { ⌜ PartOf (now s) from to ⌝ }
     ensures { λ r. ⌜ r ≡ fnv (take (to - from) (drop from (now (s .entry)))) ⌝ }
@@ -160,15 +152,18 @@ pub fn hash_part(s: &[u8], from: usize, to: usize) -> u32
     last_fifteen(x, s, i, to - from)
 }
 
-// What is left of a part, where anything is.
-fn rest(h: u32, s: &[u8], from: usize, to: usize) -> u32
+// The bytes from `from` up to `to`, taken in: eight at a time, then the odd ones.
+fn take_in(h: u32, s: &[u8], from: usize, to: usize) -> u32
     requires { ⌜ PartOf (now s) from to ⌝ }
     ensures { λ r. ⌜ r ≡ each h (take (to - from) (drop from (now (s .entry)))) ⌝ }
 {
-    if from == to {
-        return h;
+    let mut i = from;
+    let mut x = h;
+    while i + 8 <= to {
+        x = eight(x, s, i);
+        i += 8;
     }
-    take_in(h, s, from, to)
+    last_seven(x, s, i, to - from)
 }
 
 // The lesser of two lengths.
@@ -198,8 +193,9 @@ pub fn hash_two(s: &[u8], a: usize, b: usize, c: usize, d: usize) -> Hashes
         i += 16;
         j += 16;
     }
+    // most often nothing is left
     Hashes {
-        first: rest(x, s, i, b),
-        second: rest(y, s, j, d),
+        first: if i == b { x } else { take_in(x, s, i, b) },
+        second: if j == d { y } else { take_in(y, s, j, d) },
     }
 }

@@ -2,6 +2,7 @@
 ghost use mathlib.Core.Path.{_≡_};
 ghost use Prim.Native.Nat.{_+_, _*_, _≤_, _<_};
 ghost use lib.ListN.{length};
+ghost use Rattle.ground.specs.Lists.{byte};
 ghost use Rattle.words.specs.Codes.{Ordered};
 ghost use Rattle.page.specs.Page.{Slotted, off, len, code, place, count};
 ghost use Rattle.page.specs.Found.{FoundIn, CodeAsked, CodeOut};
@@ -51,28 +52,52 @@ pub fn compare_slot(page: &[u8], i: usize, key: &[u8]) -> Order
     requires { ⌜ Slotted (now page) × (i < count (now page)) ⌝ }
     ensures { λ r. ⌜ Ordered (code (now (page .entry)) i) (now (key .entry)) r ⌝ }
 {
-    words::compare(code_at(page, i), key)
+    words::compare_alike(code_at(page, i), key)
 }
 
-// Where a code stands, or where it belongs: slots are in code order, so what is left is halved.
+// The first byte of slot i's code.
+fn first_byte(page: &[u8], i: usize) -> u8
+    requires { ⌜ Slotted (now page) × (i < count (now page)) ⌝ }
+    ensures { λ r. ⌜ r ≡ byte (code (now (page .entry)) i) 0 ⌝ }
+{
+    page[extent_of(page, i).off + 8]
+}
+
+// Where a code stands, or where it belongs: slots are in code order, so what is left is halved. Most codes differ in their first byte; before all stands an empty one.
 pub fn find_code(page: &[u8], key: &[u8]) -> Found
     requires { ⌜ Slotted (now page) ⌝ }
     ensures { λ r. ⌜ FoundIn (now (page .entry)) (now (key .entry)) r ⌝ }
 {
+    if key.len() < 1 {
+        return Found::Absent(0);
+    }
     let mut lo = 0;
     let mut hi = words::get16(page, 2);
     while lo < hi {
         let mid = lo + (hi - lo) / 2;
-        let o = compare_slot(page, mid, key);
-        match o {
-            Order::Less => {
-                lo = mid + 1;
-            }
-            Order::Equal => {
-                return Found::At(mid);
-            }
-            Order::Greater => {
+        let x = first_byte(page, mid);
+        if x < key[0] {
+            lo = mid + 1;
+        } else {
+            if key[0] < x {
                 hi = mid;
+            } else {
+                let c = code_at(page, mid);
+                // both are that one byte
+                if c.len() + key.len() == 2 {
+                    return Found::At(mid);
+                }
+                match words::compare_alike(c, key) {
+                    Order::Less => {
+                        lo = mid + 1;
+                    }
+                    Order::Equal => {
+                        return Found::At(mid);
+                    }
+                    Order::Greater => {
+                        hi = mid;
+                    }
+                }
             }
         }
     }

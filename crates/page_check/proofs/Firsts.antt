@@ -1,45 +1,21 @@
 -- Of two stretches of bytes the smaller as a number comes before the other. Assumes nothing.
-use Prim.Native.Nat.{ℕ, zero, suc, _+_, _-_, _≤_, _<_}
+use Prim.Native.Nat.{ℕ, _+_, _-_, _≤_, _<_}
 use mathlib.Core.Path.{_≡_, sym, _∙_}
-use mathlib.Core.Logic.{⊎-elim}
 use mathlib.Core.List.{List}
 use native.Mathlib.Omega.{arith}
 use lib.ListN.{length}
 use Rattle.ground.specs.Lists.{byte, part}
 use Rattle.ground.proofs.Parts.{byte-part, length-part}
-use Rattle.ground.proofs.Sides.{side, same}
 use Rattle.words.specs.Codes.{Before}
 use Rattle.words.proofs.Orders.{differ-before}
-use Rattle.page_check.specs.Big.{big, Stretch, Led}
+use Rattle.words.specs.Big.{big}
+use Rattle.words.proofs.Firsts.{first-of}
+use Rattle.page_check.specs.Leads.{Stretch, Led}
 
 module _ (p : List ℕ) (bytes : (k : ℕ) → byte p k < 256) where
-  -- equal numbers are of equal bytes
-  same-bytes : (n a x : ℕ) → big n p a ≡ big n p x → (i : ℕ) → i < n → byte p (a + i) ≡ byte p (x + i)
-  unfolding big
-  same-bytes zero a x e i h = absurd (omega arith)
-  same-bytes (suc n) a x e i h = ⊎-elim
-      (λ s. rw s (omega (arith, bytes (a + n), bytes (x + n))))
-      (λ s. same-bytes n a x (omega (arith, bytes (a + n), bytes (x + n))) i (omega (arith, s)))
-      (same i n)
-
-  -- where two stretches of n bytes differ first, the smaller number's byte is smaller
-  record First (n a x : ℕ) : Type 0 where
-    pub at : ℕ
-    pub within : at < n
-    pub agree : (i : ℕ) → i < at → byte p (a + i) ≡ byte p (x + i)
-    pub less : byte p (a + at) < byte p (x + at)
-
-  first-of : (n a x : ℕ) → big n p a < big n p x → First n a x
-  unfolding big
-  first-of zero a x h = absurd (omega arith)
-  first-of (suc n) a x h = ⊎-elim
-      (λ l. let f = first-of n a x l in record { at = f .at; within = omega (arith, f .within); agree = f .agree; less = f .less })
-      (λ g. let e : big n p a ≡ big n p x = omega (arith, bytes (a + n), bytes (x + n)) in record { at = n; within = omega arith; agree = same-bytes n a x e; less = omega arith })
-      (side (big n p a) (big n p x))
-
   pub leads-before : (n a l x m : ℕ) → n ≤ l → n ≤ m → a + l ≤ length p → x + m ≤ length p → big n p a < big n p x → Before (part p a l) (part p x m)
   leads-before n a l x m h k al xm d =
-      let f = first-of n a x d in
+      let f = first-of p p bytes bytes n a x d in
       let e : length (part p a l) ≡ l = length-part p a l al in
       let g : length (part p x m) ≡ m = length-part p x m xm in
       differ-before (part p a l) (part p x m) (record {

@@ -14,7 +14,7 @@ use Rattle.words.specs.Zeros.{Zero}
 use Rattle.page.proofs.Sums.{total-more}
 use Rattle.page.specs.Page.{off, len, word, code, count, frontier, free, slotNeed, slotAt}
 use Rattle.page_check.specs.Rules.{WordOk, SlotsOk, Preceded, Codes, prior, offOf, lenOf, slotOf}
-use Rattle.page_check.specs.Big.{Led}
+use Rattle.page_check.specs.Leads.{Led}
 use Rattle.page_check.specs.Table.{Table, NextOk, NextTold}
 use Rattle.page_check.proofs.Table.{table-none, table-more}
 

@@ -1,5 +1,5 @@
 pub mod Rules
-pub mod Big
+pub mod Leads
 pub mod Table
 pub mod Marks
 pub mod Shared

@@ -9,7 +9,8 @@ use Rattle.words.specs.Codes.{Before}
 use Rattle.words.specs.Zeros.{Zero}
 use Rattle.page.specs.Page.{In, off, len, count, frontier}
 use Rattle.page_check.specs.Rules.{HeadOk, NaturalAt, WordOk, Preceded, offOf, lenOf, slotOf, prior}
-use Rattle.page_check.specs.Big.{Stretch, Led, big}
+use Rattle.words.specs.Big.{big}
+use Rattle.page_check.specs.Leads.{Stretch, Led}
 
 -- how many bytes are not zero
 unfoldable pub entries : List ℕ → ℕ

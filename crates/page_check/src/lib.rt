@@ -15,7 +15,7 @@ ghost use Rattle.page.specs.Page.{BucketPage, depth, count, off, len, code};
 ghost use Rattle.page_check.specs.Rules.{HeadOk, NaturalAt, NoSign, SlotsOk, offOf, slotOf, prior, Preceded, Codes};
 ghost use Rattle.page_check.specs.Table.{Table, HeadKnown, Tabled, Inside, Laid, Pair, Turn, LeadOver, NextTold};
 ghost use Rattle.page_check.specs.Marks.{Marked, NoCapital, Halves};
-ghost use Rattle.page_check.specs.Big.{Bytes4, Bytes8, big, Stretch, Led};
+ghost use Rattle.page_check.specs.Leads.{Stretch, Led};
 ghost use Rattle.page_check.specs.Shared.{PageOk, FirstHash, LentTable, AllShare, Share, Keeps, NearUpTo};
 use hash::Hashes;
 use words::Order;
@@ -48,49 +48,13 @@ fn head_ok(page: &[u8]) -> bool
     true
 }
 
-// Four bytes as one number, and eight: nested so that they become one load.
-fn join4(a: usize, b: usize, c: usize, d: usize) -> usize
-    requires { ⌜ Bytes4 a b c d ⌝ }
-    ensures { λ r. ⌜ (r ≡ a * 16777216 + (b * 65536 + (c * 256 + d))) × (r < 4294967296) ⌝ }
-{
-    words::on(a, 24, words::on(b, 16, words::on(c, 8, d)))
-}
-
-fn join8(a: usize, b: usize, c: usize, d: usize, e: usize, f: usize, g: usize, h: usize) -> usize
-    requires { ⌜ Bytes8 a b c d e f g h ⌝ }
-    ensures { λ r. ⌜ r ≡ (a * 16777216 + (b * 65536 + (c * 256 + d))) * 4294967296 + (e * 16777216 + (f * 65536 + (g * 256 + h))) ⌝ }
-{
-    words::on(
-        a,
-        56,
-        words::on(b, 48, words::on(c, 40, words::on(d, 32, join4(e, f, g, h)))),
-    )
-}
-
-// The eight bytes at k as one number, the first the highest.
-fn be64(s: &[u8], k: usize) -> usize
-    requires { ⌜ k + 8 ≤ length (now s) ⌝ }
-    ensures { λ r. ⌜ r ≡ big 8 (now (s .entry)) k ⌝ }
-{
-    join8(
-        words::wide(s[k]),
-        words::wide(s[k + 1]),
-        words::wide(s[k + 2]),
-        words::wide(s[k + 3]),
-        words::wide(s[k + 4]),
-        words::wide(s[k + 5]),
-        words::wide(s[k + 6]),
-        words::wide(s[k + 7]),
-    )
-}
-
 // The eight bytes at k as one number, the first the lowest.
 fn le64(s: &[u8], k: usize) -> usize
     requires { ⌜ k + 8 ≤ length (now s) ⌝ }
     ensures signs { λ r. ⌜ NoSign r ↔ NaturalAt (now (s .entry)) k ⌝ }
     ensures zero { λ r. ⌜ (r ≡ 0) ↔ ZeroFrom (now (s .entry)) k (k + 8) ⌝ }
 {
-    join8(
+    words::join8(
         words::wide(s[k + 7]),
         words::wide(s[k + 6]),
         words::wide(s[k + 5]),
@@ -136,7 +100,7 @@ fn lead_of(page: &[u8], x: usize, y: usize) -> usize
     if y - x < 8 {
         return usize::MAX;
     }
-    let next = be64(page, x);
+    let next = words::be64(page, x);
     if next == 0 {
         return usize::MAX;
     }
@@ -175,7 +139,7 @@ fn lead_over(page: &[u8], lead: usize, w: usize) -> usize
     if 16456 < t {
         return 0;
     }
-    let next = be64(page, w % 16384 + 8);
+    let next = words::be64(page, w % 16384 + 8);
     if next <= lead {
         return 0;
     }

@@ -102,6 +102,14 @@ differ-before s t b = go (order s t) refl (ord s t)
     go Ordering·eq e r = absurd (never t (subst (λ x. Differ x t) r b))
     go Ordering·gt e r = absurd (never s (differ-trans b r))
 
+-- so do the first bytes, where they differ
+pub by-first : (s t : List ℕ) → 1 ≤ length s → 1 ≤ length t → byte s 0 < byte t 0 → Before s t
+by-first s t h l d = differ-before s t (record { at = 0; in-s = omega arith; in-t = l; agree = λ i x. absurd (omega arith); less = λ _. d })
+
+-- an empty code is before all others
+pub empty-before : (s t : List ℕ) → length s < 1 → 1 ≤ length t → Before s t
+empty-before s t h l = differ-before s t (record { at = 0; in-s = omega arith; in-t = l; agree = λ i x. absurd (omega arith); less = λ x. absurd (omega arith) })
+
 before-differ : {s t : List ℕ} → Before s t → Differ s t
 before-differ {s} {t} b = subst (Ord s t) (b .less) (ord s t)
 

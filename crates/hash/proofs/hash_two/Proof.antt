@@ -1,9 +1,10 @@
 -- `hash::hash_two` meets its contract: as much of both is taken in, and then the rest of each. Assumes nothing.
 use Prim.Native.Nat.{_+_, _-_, _≤_}
 use mathlib.Core.Path.{_≡_, sym, _∙_}
+use mathlib.Core.Logic.{⊎-elim}
 use native.Mathlib.Omega.{arith}
 use lib.ListN.{take, drop}
-use Rattle.fnv.specs.Fnv.{each}
+use Rattle.fnv.specs.Fnv.{each, fnv}
 use Rattle.fnv.specs.Fnv.Laws.{starts}
 use Rattle.hash.proofs.Bytes.{none, joined}
 use Rattle.hash.proofs.hash_two.Statement.{statement}
@@ -60,20 +61,33 @@ loop-again c =
       joined _ 2166136261 (l .y) (c .sixteen2 .result) (z .c) (l .j) (l .i - z .a) 16 (l .i + 16 - z .a) (l .inv .4) (c .sixteen2 .ensures) (omega arith) (omega arith),
     )
 
-rest-requires : tie.Need-rest-requires Inv-loop μ-loop
-rest-requires c κs = record { ordered = omega arith; within = omega arith }
+take-in-requires : tie.Need-take-in-requires Inv-loop μ-loop
+take-in-requires c κs = record { ordered = omega arith; within = omega arith }
 
-rest-requires-2 : tie.Need-rest-requires-2 Inv-loop μ-loop
-rest-requires-2 c κs = record { ordered = omega arith; within = omega arith }
+take-in-requires-2 : tie.Need-take-in-requires-2 Inv-loop μ-loop
+take-in-requires-2 c κs = record { ordered = omega arith; within = omega arith }
+
+-- the first hash: nothing was left of it, or that is taken in
+first : (c : tie.Joined1 Inv-loop μ-loop) → let z = c .before .before .before .before .before .args in c .if1 .t35 ≡ fnv (take (z .b - z .a) (drop (z .a) (z .s .now)))
+first c =
+    let l = c .before .before .loop in
+    let z = c .before .before .before .before .before .args in
+    ⊎-elim
+    (λ w. w .1 ∙ joined _ 2166136261 (l .x) (l .x) (z .a) (l .i) (l .i - z .a) (z .b - l .i) (z .b - z .a) (l .inv .3) (none _ (l .x) (l .i) (z .b - l .i) (omega (arith, w .0 .taken))) (omega arith) (omega arith) ∙ sym (starts _))
+    (λ w. w .2 ∙ joined _ 2166136261 (l .x) (w .1 .result) (z .a) (l .i) (l .i - z .a) (z .b - l .i) (z .b - z .a) (l .inv .3) (w .1 .ensures) (omega arith) (omega arith) ∙ sym (starts _))
+    (c .if1 .came)
 
 returns : tie.Need-returns Inv-loop μ-loop
 returns c =
-    let b = c .before in
-    let l = b .before .before .loop in
-    let z = b .before .before .before .before .before .args in (
-      joined _ 2166136261 (l .x) (b .rest .result) (z .a) (l .i) (l .i - z .a) (z .b - l .i) (z .b - z .a) (l .inv .3) (b .rest .ensures) (omega arith) (omega arith) ∙ sym (starts _),
-      joined _ 2166136261 (l .y) (c .rest2 .result) (z .c) (l .j) (l .i - z .a) (z .d - l .j) (z .d - z .c) (l .inv .4) (c .rest2 .ensures) (omega arith) (omega arith) ∙ sym (starts _),
-    )
+    let l = c .before .before .before .loop in
+    let z = c .before .before .before .before .before .before .args in
+    (first (c .before), joined _ 2166136261 (l .y) (l .y) (z .c) (l .j) (l .i - z .a) (z .d - l .j) (z .d - z .c) (l .inv .4) (none _ (l .y) (l .j) (z .d - l .j) (omega arith)) (omega arith) (omega arith) ∙ sym (starts _))
+
+returns-2 : tie.Need-returns-2 Inv-loop μ-loop
+returns-2 c =
+    let l = c .before .before .before .before .loop in
+    let z = c .before .before .before .before .before .before .before .args in
+    (first (c .before .before), joined _ 2166136261 (l .y) (c .take-in2 .result) (z .c) (l .j) (l .i - z .a) (z .d - l .j) (z .d - z .c) (l .inv .4) (c .take-in2 .ensures) (omega arith) (omega arith) ∙ sym (starts _))
 
 pub hash-two-spec : {M : Type 1} → statement M
 hash-two-spec =
@@ -93,6 +107,7 @@ hash-two-spec =
     add-j
     loop-less
     loop-again
-    rest-requires
-    rest-requires-2
-    returns)
+    take-in-requires
+    take-in-requires-2
+    returns
+    returns-2)

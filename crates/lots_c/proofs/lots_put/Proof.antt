@@ -15,8 +15,8 @@ use Rattle.lots_c.proofs.lots_put.Tie as tie
 put-requires : tie.Need-put-requires
 put-requires c κs = search needs
 
-word-of-requires : tie.Need-word-of-requires
-word-of-requires c κs = search needs
+new-word-requires : tie.Need-new-word-requires
+new-word-requires c κs = search needs
 
 same-length : tie.Need-same-length
 same-length c = search needs
@@ -34,8 +34,8 @@ returns c =
     record {
       out = meaning (p .result);
       allowed = subst (λ q. Answers (putTable (shapeOf (now (z .args .store))) fnv (now (z .args .store)) (now (z .args .code)) q (z .args .mode)) (meaning (p .result), p .last .0)) e (p .ensures);
-      is = c .word-of .ensures;
+      is = c .new-word .ensures;
     }
 
 pub lots-put-spec : {M : Type 1} → statement M
-lots-put-spec = tie.close (tie.spec put-requires word-of-requires same-length returns)
+lots-put-spec = tie.close (tie.spec put-requires new-word-requires same-length returns)

@@ -5,7 +5,7 @@ use native.Mathlib.Omega.{arith}
 use borrow.Author.Needs.{needs}
 use lib.ListN.{length}
 use Rattle.page_check.specs.Rules.{WordOk, offOf, lenOf, slotOf}
-use Rattle.page_check.specs.Big.{Stretch}
+use Rattle.page_check.specs.Leads.{Stretch}
 use Rattle.page_check.specs.Table.{NextOk, LeadOver}
 use Rattle.page_check.proofs.Sweep.{told-none}
 use Rattle.page_check.proofs.Firsts.{led-of}

@@ -11,7 +11,7 @@ use Rattle.words.specs.Le.{le32}
 use Rattle.page.specs.Page.{slotNeed, word, count}
 use Rattle.page_check.specs.Rules.{SlotsOk, prior, slotOf, offOf, lenOf}
 use Rattle.page_check.specs.Table.{NextOk}
-use Rattle.page_check.specs.Big.{Led}
+use Rattle.page_check.specs.Leads.{Led}
 use Rattle.page_check.proofs.Table.{inside-of}
 use Rattle.page_check.proofs.Sweep.{Swept, swept-none, swept-more, next-of, preceded, led-more, led-none, needs-more, word-is, slots-all}
 use Rattle.page_check.proofs.slots_ok.Statement.{statement}

@@ -1,10 +1,10 @@
--- `page_check::be64` meets its contract. Assumes nothing.
+-- `words::be64` meets its contract. Assumes nothing.
 use native.Mathlib.Nat.{add-zero}
 use native.Mathlib.Omega.{arith}
 use borrow.Author.Needs.{needs}
-use Rattle.page_check.specs.Big.{big}
-use Rattle.page_check.proofs.be64.Statement.{statement}
-use Rattle.page_check.proofs.be64.Tie as tie
+use Rattle.words.specs.Big.{big}
+use Rattle.words.proofs.be64.Statement.{statement}
+use Rattle.words.proofs.be64.Tie as tie
 
 shared-slice-read-wide : tie.Need-shared-slice-read-wide
 shared-slice-read-wide c = search needs
