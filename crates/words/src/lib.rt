@@ -1,4 +1,4 @@
-// Bytes of a slice: little-endian numbers, copies and shifts, zeros, the byte order of codes, and their folding.
+// Bytes of a slice: little-endian numbers, eight bytes as one number, copies and shifts, zeros, the byte order of codes, and their folding.
 ghost use mathlib.Core.Path.{_≡_};
 ghost use mathlib.Core.Logic.{_↔_};
 ghost use Prim.Native.Nat.{_+_, _*_, _^_, _≤_, _<_, min};
