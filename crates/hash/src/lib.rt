@@ -193,7 +193,7 @@ pub fn hash_two(s: &[u8], a: usize, b: usize, c: usize, d: usize) -> Hashes
         i += 16;
         j += 16;
     }
-    // most often nothing is left
+    // what has no rest is not worth a call
     Hashes {
         first: if i == b { x } else { take_in(x, s, i, b) },
         second: if j == d { y } else { take_in(y, s, j, d) },

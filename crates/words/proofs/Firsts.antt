@@ -41,7 +41,7 @@ abbrev pub Agreed : List ℕ → List ℕ → ℕ → Type 0
 Agreed p q n = (k : ℕ) → k < n → byte p k ≡ byte q k
 
 module _ (p q : List ℕ) (bytes-p : (k : ℕ) → byte p k < 256) (bytes-q : (k : ℕ) → byte q k < 256) where
-  -- eight more bytes, some of which may be known to be the same
+  -- n bytes more, some of which may be known to be the same
   pub agreed-on : (i j n : ℕ) → Agreed p q i → j ≤ i → big n p j ≡ big n q j → Agreed p q (j + n)
   agreed-on i j n h l e k m = ⊎-elim
       (λ lt. h k lt)
