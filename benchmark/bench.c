@@ -4,11 +4,7 @@
  *   bench CALL FILE [checks]    makes calls that are counted, and says how many: check, plain2, plain3 once; lookup, put, remove for several codes, and
  *                               with `checks` a check of the same store before each, which is then what the marks enclose
  *   bench put_all FILE [checks] the same for one call of many puts, from FILE.before to FILE; says how many puts
- *   bench rows FILE [checks]    the same for one call of lots_rows that gives every row; says how many rows
- *   bench lookup_all FILE [checks]  the same for one call of lots_lookup_all of every code; says how many codes
  *   bench report FILE [checks]  the same for one report over a sheet of SHEET rows, the codes' places among them
- *   bench pack FILE [checks]    the same for one pack of the store, its pages moved one place on before
- *   bench resize FILE [checks]  the same for a change of its length to the longest there is
  *   bench damage FILE TIMES     the three checks on damaged copies, which must all say the same; says how many were accepted
  *   bench time FILE TURNS       the least nanoseconds of a check, a plain check at -O2, one at -O3, of so many each
  *   bench bytes FILE            how many codes there are, and their bytes together
@@ -312,44 +308,6 @@ static size_t put_at_once(const char *path, int checks) {
     return many;
 }
 
-/* Every row in one call; each must be that of lots_row at the ends and in the middle. */
-static size_t list_at_once(int checks) {
-    static uint8_t bytes[CODES * 64], code[64];
-    static uint32_t lengths[CODES];
-    static uint64_t places[CODES];
-    uint64_t all = lots_count(store, size), given = 0;
-    if (checks) return check_once(lots_check), all;
-    mark(0);
-    given = lots_rows(store, size, 0, bytes, sizeof bytes, lengths, CODES, places, CODES);
-    mark(1);
-    expect(given == all, "rows");
-    for (size_t i = 0, at = 0; i < all; at += lengths[i++]) {
-        uint32_t len;
-        if (i % (all / 2 + 1) != 0 && i + 1 != all) continue;
-        expect(lots_row(store, size, i, code, 64, &len) == places[i] && len == lengths[i] && memcmp(code, bytes + at, len) == 0, "a row");
-    }
-    return all;
-}
-
-/* Every code looked up in one call. */
-static size_t look_up_at_once(int checks) {
-    static uint8_t bytes[CODES * 64];
-    static uint32_t lengths[CODES];
-    static uint64_t answers[CODES];
-    size_t len = 0;
-    for (size_t i = 0; i < many; i++) {
-        memcpy(bytes + len, codes[i].bytes, codes[i].len);
-        len += lengths[i] = codes[i].len;
-    }
-    if (checks) return check_once(lots_check), many;
-    mark(0);
-    uint64_t r = lots_lookup_all(store, size, bytes, len, lengths, many, answers, many);
-    mark(1);
-    expect(r == 0, "lookups");
-    for (size_t i = 0; i < many; i++) expect(answers[i] == place_word(i), "a lookup of many");
-    return many;
-}
-
 /* 200,000 codes of 8 to 20 bytes in one call. */
 static size_t national(int checks) {
     start(4098, 16384);
@@ -370,39 +328,6 @@ static size_t report_once(int checks) {
     lots_report_answer r = lots_report(store, size, sheet, SHEET);
     mark(1);
     expect(r.answer == 0 && r.total == total && r.hidden == SHEET - many && r.hidden_cents == hidden && r.doubled == 0, "a report");
-    return 1;
-}
-
-/* The pages from 2 on one place further, the last one first: where they were in order, each has to be moved. */
-static void turn_pages(void) {
-    static uint8_t last[1 << 14];
-    memcpy(last, store + size - page, page);
-    memmove(store + 3 * page, store + 2 * page, size - 3 * page);
-    memcpy(store + 2 * page, last, page);
-    for (uint8_t *e = store + page; e < store + 2 * page; e += 4)
-        if (get32(e) != 0) set32(e, get32(e) + 1 < size / page ? get32(e) + 1 : 2);
-}
-
-static size_t pack_once(int checks) {
-    uint64_t rows = lots_count(store, size), used = 0;
-    turn_pages();
-    if (checks) return check_once(lots_check);
-    for (size_t p = 2; p < size / page; p++) used += store[p * page];
-    mark(0);
-    uint64_t r = lots_pack(store, size);
-    mark(1);
-    expect(r == 2 + used && lots_count(store, size) == rows, "a pack");
-    return 1;
-}
-
-static size_t resize_once(int checks) {
-    size_t most = page / 4 + 2;
-    if (checks) return check_once(lots_check);
-    memset(store + size, 0xA5, most * page - size);
-    mark(0);
-    uint64_t r = lots_resize(store, most * page, size / page, most);
-    mark(1);
-    expect(r == 0 && lots_check(store, most * page) == 0, "another length");
     return 1;
 }
 
@@ -517,11 +442,7 @@ int main(int argc, char **argv) {
     else if (strcmp(call, "lookup") == 0) calls = look_up_some(checks);
     else if (strcmp(call, "put") == 0) calls = put_all(lots_count(store, size), checks);
     else if (strcmp(call, "put_all") == 0) calls = put_at_once(path, checks);
-    else if (strcmp(call, "rows") == 0) calls = list_at_once(checks);
-    else if (strcmp(call, "lookup_all") == 0) calls = look_up_at_once(checks);
     else if (strcmp(call, "report") == 0) calls = report_once(checks);
-    else if (strcmp(call, "pack") == 0) calls = pack_once(checks);
-    else if (strcmp(call, "resize") == 0) calls = resize_once(checks);
     else if (strcmp(call, "remove") == 0) calls = remove_all(rows_before(path), checks);
     else return 2;
     printf("%zu\n", calls);

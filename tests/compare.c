@@ -1,5 +1,5 @@
 /* Drives the proved calls (include/lots.h) beside the reference at the three page sizes: seeded histories, damaged stores, random bytes, lengths around
- * every limit, many codes in one call, and stores packed and made longer and shorter within a buffer. Every answer and every byte of store and output is compared. Each buffer ends where an unreadable page begins,
+ * every limit, and many codes in one call. Every answer and every byte of store and output is compared. Each buffer ends where an unreadable page begins,
  * and begins where one ends or at any offset after it. What a call may not write, all of it where the reference refuses, is lent in memory that cannot be
  * written. */
 #include "../include/lots.h"
@@ -32,7 +32,7 @@ static const uint64_t no_sizes[] = {0, 1, 1016, 1023, 1025, 2048, 4095, 4097, 81
 enum { NO_SIZES = sizeof no_sizes / sizeof *no_sizes };
 
 static uint64_t state;
-static uint64_t steps, refused[16], inspected[16], in_batch[16], reached[3][13], full[3], joins, splits, respelled, capitals, miscounts, unfilled[2], packs, lengths[3][16];
+static uint64_t steps, refused[16], inspected[16], in_batch[16], reached[3][13], full[3], joins, splits, respelled, capitals, miscounts, unfilled[2];
 static const int numbers[] = {1, 2, 3, 4, 5, 6, 7, 8, 9, 12, 13, 14};
 enum { NUMBERS = sizeof numbers / sizeof *numbers };
 
@@ -107,15 +107,13 @@ struct call {
     uint64_t n;
     size_t out_len;
     size_t at, page_len; /* inspection: from this page of the store on, so many bytes */
-    uint64_t from, to;   /* another length: the old one and the new one, in pages */
 };
 
-enum { FORMAT, CHECK, LOOKUP, REMOVE, PUT, COUNT, ROW, INSPECT, FILL, PACK, RESIZE, KINDS };
+enum { FORMAT, CHECK, LOOKUP, REMOVE, PUT, COUNT, ROW, INSPECT, FILL, KINDS };
 
-/* Only format, put, remove, the filling of counts, packing and another length write the store, only row and inspection the output; a refusal writes nothing. */
+/* Only format, put, remove and the filling of counts write the store, only row and inspection the output; a refusal writes nothing. */
 static void protect(int kind, int refusal) {
-    int changes = !refusal && (kind == FORMAT || kind == PUT || kind == REMOVE || kind == FILL || kind == PACK || kind == RESIZE);
-    int gives = !refusal && (kind == ROW || kind == INSPECT);
+    int changes = !refusal && (kind == FORMAT || kind == PUT || kind == REMOVE || kind == FILL), gives = !refusal && (kind == ROW || kind == INSPECT);
     writable(&store_mem, changes);
     writable(&out_mem, gives);
     writable(&len_mem, gives);
@@ -151,8 +149,6 @@ static uint64_t proved(const struct call *c, size_t len, int refusal, uint32_t *
     case PUT: r = lots_put(s, len, key, c->code_len, c->page, c->slot, c->volume, c->mode); break;
     case COUNT: r = lots_count(s, len); break;
     case FILL: r = lots_fill_counts(s, len); break;
-    case PACK: r = lots_pack(s, len); break;
-    case RESIZE: r = lots_resize(s, len, c->from, c->to); break;
     case ROW: r = lots_row(s, len, c->n, out, c->out_len, l); break;
     case INSPECT: r = lots_inspect(g, c->page_len, c->n, out, c->out_len, l); break;
     }
@@ -171,8 +167,6 @@ static uint64_t reference(const struct call *c, size_t len, uint32_t *code_len) 
     case PUT: return ref_put(theirs, len, c->code, c->code_len, c->page, c->slot, c->volume, c->mode);
     case COUNT: return ref_count(theirs, len);
     case FILL: return ref_fill_counts(theirs, len);
-    case PACK: return ref_pack(theirs, len);
-    case RESIZE: return ref_resize(theirs, len, c->from, c->to);
     case ROW: return ref_row(theirs, len, c->n, their_out, c->out_len, code_len);
     default: return ref_inspect(given, c->page_len, c->n, their_out, c->out_len, code_len);
     }
@@ -493,34 +487,6 @@ static void wrong_counts(size_t len) {
     for (size_t at = 24; at < 80; at += 4) wrong_count(len, at, number(ours + at) + 1), wrong_count(len, at, number(ours + at) - 1);
 }
 
-/* ---- other lengths */
-
-static size_t limit(void) { return sizes[by].entries + 2; }
-
-/* lengths in pages for a store of so many in a buffer of so many: around every limit, and those that a number of 32 bits or of bytes would take for others */
-enum { LENGTHS = 20 };
-
-static uint64_t length_at(int i, uint64_t pages, uint64_t room) {
-    const uint64_t of[LENGTHS] = {0, 1, 2, 3, 4, pages - 1, pages, pages + 1, room - 1, room, room + 1, limit(), limit() + 1, (uint64_t)1 << 32, ((uint64_t)1 << 32) + 3,
-                                  ((uint64_t)1 << 32) + pages, UINT64_MAX / page_size + 1 + pages, (uint64_t)1 << 63, ((uint64_t)1 << 63) + pages, UINT64_MAX};
-    return of[i];
-}
-
-/* Another length, most of the time from the true one to one that the buffer may have room for. */
-static struct call random_lengths(size_t pages, size_t room) {
-    struct call c = {.kind = RESIZE, .from = pages, .to = 3 + below(room)};
-    if (below(4) == 0) c.to = length_at(below(LENGTHS), pages, room);
-    if (below(6) == 0) c.from = length_at(below(LENGTHS), pages, room);
-    return c;
-}
-
-/* A change of the length by both, in a buffer of so many bytes. */
-static uint64_t both_lengths(const struct call *c, size_t bytes) {
-    uint64_t r = both(c, bytes);
-    lengths[by][lots_refusal(r) & 15]++;
-    return r;
-}
-
 /* Every call on a store with some bytes changed. */
 static void damage(size_t len, int times, size_t many) {
     static uint8_t sound[MOST];
@@ -534,8 +500,6 @@ static void damage(size_t len, int times, size_t many) {
         memcpy(theirs, ours, len);
         struct call c = random_call(many, 40);
         if (below(2)) c.at = at / page_size;
-        if (t % 8 == 6) c.kind = PACK;
-        if (t % 8 == 7) c = random_lengths(len / page_size, len / page_size);
         both(&c, len);
         memcpy(ours, sound, len);
         memcpy(theirs, sound, len);
@@ -551,7 +515,6 @@ static void random_bytes(int times, size_t many) {
         if (below(2) && len >= 24) set_number(ours + 20, any_number()), set_number(theirs + 20, number(ours + 20));
         struct call c = random_call(many, 30);
         c.kind = below(KINDS);
-        if (c.kind == RESIZE) c = random_lengths(len / page_size, len / page_size + 1);
         both(&c, len);
     }
 }
@@ -750,9 +713,6 @@ static void nothing_lent(void) {
     expect("check of nothing", lots_check(NULL, 0), LOTS_BAD_LENGTH);
     expect("count of nothing", lots_count(NULL, 0), LOTS_BAD_LENGTH);
     expect("counts of nothing", lots_fill_counts(NULL, 0), LOTS_BAD_LENGTH);
-    expect("pack of nothing", lots_pack(NULL, 0), LOTS_BAD_LENGTH);
-    expect("another length of nothing", lots_resize(NULL, 0, 3, 3), LOTS_BAD_LENGTH);
-    expect("no length of nothing", lots_resize(NULL, 0, 0, 0), LOTS_BAD_LENGTH);
     expect("lookup in nothing", lots_lookup(NULL, 0, NULL, 0), LOTS_BAD_LENGTH);
     expect("lookup of nothing", lots_lookup(s, len, NULL, 0), LOTS_BAD_CODE);
     expect("put in nothing", lots_put(NULL, 0, NULL, 0, 1, 2, 3, LOTS_EITHER), LOTS_BAD_LENGTH);
@@ -826,7 +786,6 @@ static void refused_at(size_t len, uint32_t n) {
     if ((got = lots_check(s, len)) != want) fail("a check by the length", got, want);
     if ((got = lots_count(s, len)) != want) fail("a count by the length", got, want);
     if ((got = lots_fill_counts(s, len)) != want) fail("a filling of counts by the length", got, want);
-    if ((got = lots_pack(s, len)) != want) fail("a pack by the length", got, want);
     if ((got = lots_lookup(s, len, key, 1)) != want) fail("a lookup by the length", got, want);
     if ((got = lots_put(s, len, key, 1, 1, 1, 1, LOTS_EITHER)) != want) fail("a put by the length", got, want);
     if ((got = lots_remove(s, len, key, 1)) != want) fail("a remove by the length", got, want);
@@ -835,12 +794,6 @@ static void refused_at(size_t len, uint32_t n) {
     if ((got = lots_report(s, len, NULL, 0).answer) != want) fail("a report by the length", got, want);
     for (int i = 0; i < 3; i++)
         if (len % sizes[i].page != 0 || len < 3 * sizes[i].page || len > (sizes[i].entries + 2) * sizes[i].page) expect("a format by the length", lots_format(s, len, sizes[i].page), LOTS_BAD_LENGTH);
-    for (int i = 0; i < 6; i++) {
-        go_by(i % 3);
-        uint64_t from = length_at(below(LENGTHS), len / page_size, len / page_size), to = length_at(below(LENGTHS), len / page_size, len / page_size);
-        uint64_t none = ref_resize(s, len, from, to);
-        if ((got = lots_resize(s, len, from, to)) != none) fail("another length by the length", got, none);
-    }
     note(0, want);
     set_at_20(len, 0);
 }
@@ -1093,147 +1046,6 @@ static void every_entry(int size, int each) {
     crowd_in(sizes[by].entries + 2, 0);
 }
 
-/* ---- pages given back */
-
-/* The listing, read off the store: of each row the length of its code, then its record; how many bytes. */
-static size_t listed(const uint8_t *s, uint8_t *out) {
-    size_t n = 0;
-    for (uint32_t i = 0, last = 0; i < 1u << s[16]; i++) {
-        uint32_t p = number(s + page_size + 4 * i);
-        if (p == 0 || p == last) continue;
-        const uint8_t *g = s + p * page_size;
-        for (int k = 0; k < (g[2] | g[3] << 8); k++) {
-            uint32_t w = number(g + page_size - 4 * (k + 1)), size = w >> 14 & 0x3FFF;
-            out[n++] = size - 8;
-            memcpy(out + n, g + (w & 0x3FFF), size);
-            n += size;
-        }
-        last = p;
-    }
-    return n;
-}
-
-static uint8_t list_before[LONGEST], list_after[LONGEST];
-
-/* The store packed: the listing stays, the pages in use are 2 up to the answer less one, and a second time nothing changes. The answer. */
-static size_t packed(size_t len) {
-    static uint8_t once[LONGEST];
-    struct call c = {.kind = PACK};
-    size_t rows = number(ours + 24), before = listed(ours, list_before);
-    uint64_t r = both(&c, len);
-    if (lots_refusal(r) != 0) fail("a pack of a store in use", r, 0);
-    if (listed(ours, list_after) != before || memcmp(list_before, list_after, before) != 0) fail("the listing of a packed store", before, listed(ours, list_after));
-    for (size_t p = 2; p < len / page_size; p++)
-        if (ours[p * page_size] != (rows > 0 && p < r)) fail("a page of a packed store", p, r);
-    memcpy(once, ours, len);
-    if (both(&c, len) != r || memcmp(once, ours, len) != 0) fail("a second pack", 0, r);
-    packs++;
-    return r;
-}
-
-/* Any bytes behind the store, up to the end of the buffer. */
-static void scribble(size_t len, size_t bytes) {
-    for (size_t i = len; i < bytes; i++) ours[i] = theirs[i] = draw();
-}
-
-/* Another length for the store of so many pages; how many it has then. The listing stays. */
-static size_t other_length(struct call c, size_t pages, size_t bytes) {
-    size_t before = listed(ours, list_before);
-    if (lots_refusal(both_lengths(&c, bytes)) != 0) return pages;
-    if (ref_check(theirs, c.to * page_size) != 0) fail("what the check says of another length", c.from, c.to);
-    if (listed(ours, list_after) != before || memcmp(list_before, list_after, before) != 0) fail("the listing at another length", c.from, c.to);
-    return c.to;
-}
-
-/* A store of so many pages goes on in a buffer of `room` pages and some bytes more, with packs and other lengths among its calls. */
-static void given_back(size_t pages, size_t room, size_t many, int rounds, int each) {
-    size_t bytes = room * page_size + below(page_size);
-    lend(&store_mem, bytes);
-    scribble(pages * page_size, bytes);
-    for (int r = 0; r < rounds; r++)
-        for (int i = 0; i < each; i++) {
-            struct call c = random_call(many, r % 2 == 0 ? 70 : 15);
-            step(&c, pages * page_size);
-            if (below(8) == 0) {
-                size_t least = packed(pages * page_size);
-                struct call cut = {.kind = RESIZE, .from = pages, .to = least - 1}, fit = {.kind = RESIZE, .from = pages, .to = least};
-                expect("a length that cuts a page off", both_lengths(&cut, bytes), least == 3 ? LOTS_BAD_LENGTH : LOTS_PAGES_FULL);
-                if (below(2)) pages = other_length(fit, pages, bytes), scribble(pages * page_size, bytes);
-            }
-            if (below(4) == 0) pages = other_length(random_lengths(pages, room), pages, bytes);
-            if (below(4) == 0) scribble(pages * page_size, bytes);
-        }
-}
-
-/* Every two of the lengths, on a store of `pages` with one row in a buffer of `room`. */
-static void every_two_lengths(size_t pages, size_t room) {
-    static uint8_t sound[MOST];
-    size_t bytes = room * page_size;
-    fill_pool(1, 1, 64, 0, 0);
-    format(pages * page_size);
-    if (packed(pages * page_size) != 3) fail("the pages of no rows", 0, 3);
-    expect("a put", put_as(0, LOTS_EITHER, pages * page_size), 0);
-    if (packed(pages * page_size) != 3) fail("the pages of one row", 0, 3);
-    lend(&store_mem, bytes);
-    scribble(pages * page_size, bytes);
-    memcpy(sound, ours, bytes);
-    for (int i = 0; i < LENGTHS * LENGTHS; i++) {
-        struct call c = {.kind = RESIZE, .from = length_at(i / LENGTHS, pages, room), .to = length_at(i % LENGTHS, pages, room)};
-        if (lots_refusal(both_lengths(&c, bytes)) != 0) continue;
-        memcpy(ours, sound, bytes);
-        memcpy(theirs, sound, bytes);
-    }
-    ours[page_size - 1] = theirs[page_size - 1] = ours[3 * page_size] = theirs[3 * page_size] = 1; /* page 0 is broken, and page 3 not free: 2 stands before 7 */
-    struct call c = {.kind = RESIZE, .from = pages, .to = 3};
-    expect("another length of a broken store", both_lengths(&c, bytes), LOTS_BAD_PAGE);
-}
-
-/* From 3 pages to as many as there can be and back, in a buffer of one page more; one more than there can be is refused. */
-static void longest_length(void) {
-    size_t bytes = (limit() + 1) * page_size;
-    struct call grow = {.kind = RESIZE, .from = 3, .to = limit()}, over = {.kind = RESIZE, .from = 3, .to = limit() + 1}, back = {.kind = RESIZE, .from = limit(), .to = 3};
-    format(3 * page_size);
-    lend(&store_mem, bytes);
-    memset(ours + 3 * page_size, 0xA5, bytes - 3 * page_size);
-    memset(theirs + 3 * page_size, 0xA5, bytes - 3 * page_size);
-    expect("a length over the limit", both_lengths(&over, bytes), LOTS_BAD_LENGTH);
-    expect("the longest length", both_lengths(&grow, bytes), 0);
-    expect("and back", both_lengths(&back, bytes), 0);
-}
-
-/* The codes of the pool from a to e into s, each with the place of its number and `off`: in order, or turned round and half of the letters in the other spelling. */
-static void put_pool(uint8_t *s, size_t len, size_t a, size_t e, int turned, int off) {
-    start_crowd();
-    for (size_t k = a; k < e; k++) {
-        size_t i = turned ? a + e - 1 - k : k;
-        uint8_t code[64];
-        for (size_t b = 0; b < pool[i].len; b++) code[b] = pool[i].code[b] - (turned && letter(pool[i].code[b]) && below(2) ? 32 : 0);
-        join_crowd(code, pool[i].len);
-        crowd.places[k - a] = i + off;
-    }
-    expect("puts", lots_put_all(s, len, crowd.codes, crowd.bytes, crowd.lengths, crowd.many, crowd.places, crowd.many, crowd.answers, crowd.many, LOTS_EITHER), 0);
-    for (size_t k = 0; k < crowd.many; k++)
-        if (crowd.answers[k] != 0) fail("a put", crowd.answers[k], 0);
-}
-
-/* The same rows by two histories in stores of two lengths: byte-equal once they are packed and of one length, and then only. */
-static void archives(size_t many, size_t pages) {
-    size_t kept = many - 12, a_len = pages * page_size, b_len = (pages + 5) * page_size;
-    if (lots_format(ours, a_len, page_size) || lots_format(theirs, b_len, page_size)) fail("a format", 1, 0);
-    put_pool(ours, a_len, 0, kept, 0, 0);
-    put_pool(theirs, b_len, 0, many, 1, 7); /* others too, and every place another */
-    for (size_t i = kept; i < many; i++) expect("a remove", lots_remove(theirs, b_len, pool[i].code, pool[i].len), 0);
-    put_pool(theirs, b_len, 0, kept, 1, 0);
-    if (memcmp(ours + page_size, theirs + page_size, a_len - page_size) == 0) fail("two histories", 0, 0);
-    uint64_t a = lots_pack(ours, a_len), b = lots_pack(theirs, b_len);
-    if (lots_refusal(a) || a != b) fail("the pages of one archive", a, b);
-    expect("a length", lots_resize(ours, a_len, pages, a), 0);
-    expect("a length", lots_resize(theirs, b_len, pages + 5, a), 0);
-    if (memcmp(ours, theirs, a * page_size) != 0) fail("two archives of the same rows", 0, 0);
-    put_pool(theirs, a * page_size, 5, 6, 0, 1);
-    if (lots_pack(theirs, a * page_size) != a || memcmp(ours, theirs, a * page_size) == 0) fail("two archives of other rows", 0, 0);
-}
-
 /* The histories at 1,024. */
 static void small_pages(void) {
     size_t many;
@@ -1250,9 +1062,6 @@ static void small_pages(void) {
     many = fill_pool(120, 1, 64, 0, 0), batches(3, many, 80), batches(12, many, 80);
     many = fill_pool(60, 50, 64, 8, below(256)), batches(6, many, 80);
     many = fill_pool(3000, 8, 20, 0, 0), batches(258, many, 40);
-    many = fill_pool(120, 1, 64, 0, 0), format(5 * page_size), given_back(5, 12, many, 4, 120);
-    many = fill_pool(60, 50, 64, 7, below(128)), format(8 * page_size), given_back(8, 8, many, 4, 60);
-    many = fill_pool(1500, 20, 64, 0, 0), crowded(258, many), given_back(258, 262, many, 2, 30);
 }
 
 /* Codes that share all but the last bits of a deepest prefix, and a few beside each prefix on the way there: a deep and full directory in few pages. */
@@ -1275,7 +1084,6 @@ static void big_pages(int size, int each) {
     batches(pages, many, 10), batches(4, many, 10);
     many = fill_pool(4 * page_size / 46, 4, 64, 0, 0), crowded(pages, many), go_on(pages * page_size, many, 3, each, 1), damage(pages * page_size, each, many);
     many = deep_pool(2, 3 * page_size / 64), crowded(pages, many), go_on(pages * page_size, many, 2, each, 1), damage(pages * page_size, each, many);
-    crowded(pages, many), given_back(pages, pages + 2, many, 2, each / 4);
     random_bytes(300, many);
 }
 
@@ -1288,18 +1096,13 @@ static int sum_up(uint64_t seed) {
         for (int i = 0; i <= sizes[k].deepest; i++) printf(" %d:%llu", i, (unsigned long long)reached[k][i]);
         printf(", full %llu", (unsigned long long)full[k]);
     }
-    printf("; deeper %llu, shallower %llu times; packed %llu times, other lengths", (unsigned long long)splits, (unsigned long long)joins, (unsigned long long)packs);
-    for (int k = 0; k < 3; k++)
-        printf("%s at %zu %llu, refused 1:%llu 2:%llu 7:%llu", k ? "," : "", sizes[k].page, (unsigned long long)lengths[k][0], (unsigned long long)lengths[k][1], (unsigned long long)lengths[k][2], (unsigned long long)lengths[k][7]);
-    printf("\n");
+    printf("; deeper %llu, shallower %llu times\n", (unsigned long long)splits, (unsigned long long)joins);
     for (int i = 0; i < NUMBERS; i++)
         if (refused[numbers[i]] == 0) bad = 1, printf("compare: refusal %d was never reached\n", numbers[i]);
     if (!inspected[0] || !inspected[1] || !inspected[2] || !inspected[8] || !inspected[9]) bad = 1, printf("compare: an answer of inspection was never reached\n");
     for (int i = 3; i <= 13; i++)
         if (in_batch[i] == 0 && (i < 8 || i == 13)) bad = 1, printf("compare: no put of a batch was refused with %d\n", i);
     if (unfilled[0] == 0 || unfilled[1] == 0) bad = 1, printf("compare: counts were never filled in, or never refused\n");
-    for (int k = 0; k < 3; k++)
-        if (!lengths[k][0] || !lengths[k][1] || !lengths[k][2] || !lengths[k][7]) bad = 1, printf("compare: an answer to another length of %zu was never reached\n", sizes[k].page);
     if (respelled == 0 || capitals == 0) bad = 1, printf("compare: no code was spelled anew, or no capital stored\n");
     if (miscounts == 0) bad = 1, printf("compare: no count was wrong\n");
     for (int k = 0; k < 3; k++)
@@ -1332,9 +1135,6 @@ int main(int argc, char **argv) {
         modes(sizes[size].deepest, below(sizes[size].entries), LOTS_PREFIX_FULL);
         spellings();
         filled_counts();
-        every_two_lengths(5, 8);
-        if (size < 2 || seed % 3 == 0) longest_length();
-        many = fill_pool(6 * page_size / 46, 8, 64, 0, 0), archives(many, 30);
     }
     for (int k = 0; k < scale; k++) {
         small_pages();

@@ -215,13 +215,11 @@ static void make_room(void) {
 static int in_limits(size_t len) { return len % page_size == 0 && len / page_size >= 3 && len / page_size <= (size_t)entries + 2; }
 
 /* By the number at 20, 0 for 1,024; one that is no size counts as 1,024, so does 1,024 itself, and a store without one is too short. */
-static int says_size(const uint8_t *s, size_t len) {
+static int good_length(const uint8_t *s, size_t len) {
     if (len < 24) return 0;
     if (!go_by(number(s + 20, 4))) go_by(1024);
-    return 1;
+    return in_limits(len);
 }
-
-static int good_length(const uint8_t *s, size_t len) { return says_size(s, len) && in_limits(len); }
 
 static int good_page0(const uint8_t *s, int pages) {
     return number(s, 4) == (uint32_t)pages && number(s + 4, 4) == (uint32_t)page_size && number(s + 8, 4) == (uint32_t)entries &&
@@ -623,37 +621,4 @@ uint64_t ref_remove(uint8_t *s, size_t len, const uint8_t *code, size_t code_len
     }
     write_directory(s);
     return place_word(gone.place);
-}
-
-/* ---- pages given back */
-
-/* Every bucket packed: the first of the listing on page 2, the next on page 3 and so on; the other pages cleared. */
-uint64_t ref_pack(uint8_t *s, size_t len) {
-    static struct bucket buckets[MOST_ENTRIES];
-    uint64_t bad = read_store(s, len);
-    if (bad) return bad;
-    int n = partition(rows, row_count, buckets), at = 0;
-    list_rows();
-    memset(s + 2 * page_size, 0, len - 2 * page_size);
-    for (int b = 0; b < n; b++) {
-        int from = at;
-        while (at < row_count && bucket_of(listing[at]->hash) == b) at++;
-        write_packed(s, 2 + b, buckets[b].bits, listing + from, at - from);
-    }
-    write_directory(s);
-    return n == 0 ? 3 : n + 2;
-}
-
-/* Whether so many pages are a store's length, and the buffer has them. */
-static int has_pages(size_t len, uint64_t pages) { return pages >= 3 && pages <= (uint64_t)entries + 2 && pages <= len / page_size; }
-
-uint64_t ref_resize(uint8_t *b, size_t len, uint64_t old_pages, uint64_t new_pages) {
-    if (!says_size(b, len) || !has_pages(len, old_pages) || !has_pages(len, new_pages)) return refusal(1);
-    uint64_t bad = read_store(b, old_pages * page_size);
-    if (bad) return bad;
-    for (uint64_t p = new_pages; p < old_pages; p++)
-        if (!all_zero(b + p * page_size, page_size)) return refusal(7);
-    set_number(b, 4, new_pages);
-    for (uint64_t p = old_pages; p < new_pages; p++) memset(b + p * page_size, 0, page_size);
-    return 0;
 }

@@ -1,4 +1,4 @@
-/* A second implementation of document 01 with the modes, the spellings, the batch, the report, the page sizes, the filling of counts, packing and other lengths of document 02, written from the documents and from nothing else: slow, plain, and worked out afresh from the rows at every call. */
+/* A second implementation of document 01 with the modes, the spellings, the batch, the report, the page sizes and the filling of counts of document 02, written from the documents and from nothing else: slow, plain, and worked out afresh from the rows at every call. */
 #ifndef REFERENCE_H
 #define REFERENCE_H
 
@@ -18,8 +18,6 @@ uint64_t ref_put_all(uint8_t *store, size_t store_len, const uint8_t *codes, siz
                      const uint64_t *places, size_t places_len, uint32_t *answers, size_t answers_len, uint64_t mode);
 uint64_t ref_count(const uint8_t *store, size_t store_len);
 uint64_t ref_fill_counts(uint8_t *store, size_t store_len);
-uint64_t ref_pack(uint8_t *store, size_t store_len);
-uint64_t ref_resize(uint8_t *buffer, size_t buffer_len, uint64_t old_pages, uint64_t new_pages);
 uint64_t ref_row(const uint8_t *store, size_t store_len, uint64_t n, uint8_t *out, size_t out_len, uint32_t *code_len);
 uint64_t ref_inspect(const uint8_t *page, size_t page_len, uint64_t n, uint8_t *out, size_t out_len, uint32_t *code_len);
 lots_report_answer ref_report(const uint8_t *store, size_t store_len, const lots_sheet_row *sheet, size_t sheet_rows);

@@ -3,56 +3,49 @@ use mathlib.Core.Path.{◌≡◌, refl, sym, ap, subst, ◌∙◌}
 use mathlib.Core.Bool.{Bool, true, false, true≢false}
 use mathlib.Core.List.{List}
 use mathlib.Core.Logic.{◌⊎◌, inl, inr, ⊎_elim}
-use Prim.Native.Nat.{ℕ, ◌*◌, ◌≤◌, ◌<◌}
-use native.Mathlib.Nat.{mul-le-mul_right}
-use native.Mathlib.Omega.{arith}
+use Prim.Native.Nat.{ℕ}
 use lib.ListN.{length}
 use Rattle.ground.specs.Ladder.{Answers}
 use Rattle.partition.specs.declared.Shape.{Shape}
-use Rattle.partition.specs.Sizes.{Sized, size, shape_for, shape_of}
+use Rattle.partition.specs.Sizes.{Sized, shape_for, shape_of}
 use Rattle.partition.proofs.Sizes.{sized_for, sized_of}
 use Rattle.words.specs.Le.{le32}
 use Rattle.store.specs.Pages.{S1024}
 use Rattle.store.specs.Accepted.{Page0}
-use Rattle.store.specs.Packing.{Within, resize_table}
 use Rattle.store.specs.Tables.{Out, refused, refused_at, formatted, PageSize, format_table, format_sized}
-use Rattle.store.specs.Demands.{Hash, Call, format, check, count, pack, lookup, remove, put, row_at, inspect, Made, ok, WholePages, page_0, ExactlyWhen}
+use Rattle.store.specs.Demands.{Hash, Call, format, check, count, lookup, remove, put, row_at, inspect, Made, ok, WholePages, page_0, ExactlyWhen}
 use Rattle.store.proofs.Accepted.Format.{good_stable}
 use Rattle.store.proofs.Accepted.OwnSize.{short, size_is, is_size}
 use Rattle.store.proofs.Demands.Order.{good_length, whole_pages, says_one, says_late}
-use Rattle.store.proofs.Demands.Settled.{format_settled, check_settled, count_settled, lookup_settled, row_settled, inspect_settled, put_settled, remove_settled, pack_settled}
+use Rattle.store.proofs.Demands.Settled.{format_settled, check_settled, count_settled, lookup_settled, row_settled, inspect_settled, put_settled, remove_settled}
 use Rattle.store.proofs.Demands.Whole.{demand_1}
-use Rattle.store.proofs.Packing.Back.{given_back}
 use Rattle.store.proofs.Result.Answered.{unless, format_answered}
 use Rattle.store.proofs.Result.Total.{answered_always}
-use Rattle.any_size.specs.OwnSizes.{SizedCall, format_to, on, goes_by, MadeSized, MadeResize, faults_sized, GivenSized, SizeNumber, OwnFirst}
+use Rattle.any_size.specs.OwnSizes.{SizedCall, format_to, on, goes_by, MadeSized, faults_sized, GivenSized, SizeNumber, OwnFirst}
 use Rattle.any_size.proofs.Rows.{number_at, size_or_not, bad_number}
 
 pub sized_by : (c : Call) (s : List ℕ) → Sized (goes_by c s)
 sized_by format s = sized_of s
 sized_by check s = sized_of s
 sized_by count s = sized_of s
-sized_by pack s = sized_of s
 sized_by (lookup c) s = sized_of s
 sized_by (remove c) s = sized_of s
 sized_by (put c p m) s = sized_of s
 sized_by (row_at n out) s = sized_of s
 sized_by (inspect g n out) s = sized_for (length g)
 
--- check is neither a format nor a pack
-abbrev is_check : Call → Bool
-is_check check = true
-is_check format = false
-is_check count = false
-is_check pack = false
-is_check (lookup c) = false
-is_check (remove c) = false
-is_check (put c p m) = false
-is_check (row_at n out) = false
-is_check (inspect g n out) = false
+abbrev pub is_format : Call → Bool
+is_format format = true
+is_format check = false
+is_format count = false
+is_format (lookup c) = false
+is_format (remove c) = false
+is_format (put c p m) = false
+is_format (row_at n out) = false
+is_format (inspect g n out) = false
 
-pub differs : (c : Call) → is_check c ≡ false → check ≡ c → ⊥
-differs c f e = true≢false (ap is_check e ∙ f)
+pub differs : (c : Call) → is_format c ≡ false → c ≡ format → ⊥
+differs c f e = true≢false (sym (ap is_format e) ∙ f)
 
 -- ---- a format, by the size that it is given
 
@@ -89,7 +82,6 @@ pub made_settled : (S : Shape) (h : List ℕ → ℕ) → Sized S → (c : Call)
 made_settled S h z format s o o' t t' m n = pair (o, t) (o', t') (format_settled S s (o, t) (o', t') m n)
 made_settled S h z check s o o' t t' m n = (check_settled S h s o o' m.0 n.0, m.1 ∙ sym n.1)
 made_settled S h z count s o o' t t' m n = (count_settled S h s o o' m.0 n.0, m.1 ∙ sym n.1)
-made_settled S h z pack s o o' t t' m n = pair (o, t) (o', t') (pack_settled S h z s (o, t) (o', t') m n)
 made_settled S h z (lookup c) s o o' t t' m n = (lookup_settled S h s c o o' m.0 n.0, m.1 ∙ sym n.1)
 made_settled S h z (remove c) s o o' t t' m n = pair (o, t) (o', t') (remove_settled S h z s c (o, t) (o', t') m n)
 made_settled S h z (put c p k) s o o' t t' m n = pair (o, t) (o', t') (put_settled S h z s c p k (o, t) (o', t') m n)
@@ -133,13 +125,6 @@ module _ (h : List ℕ → ℕ) (hash : Hash h) where
       let broken : Page0 (shape_of s) s → ⊥ = subst (λ S. Page0 S s → ⊥) (sym (number_at s)) (small.1 (le32 s 20)) in
       ((in_order (on check) s o t m).two 0).1 ((λ x. x (subst (λ S. WholePages S s) (sym small.0) w)), (λ x. x), (λ x. x), (λ x. x), (λ x. x), page_0 broken)
 
-  resize_short : (b : List ℕ) (m n : ℕ) → length b < 24 → MadeResize h b m n (refused 1) b
-  unfolding resize_table
-  resize_short b m n l = inl (tt, (out, refl))
-    where
-      out : Within (shape_of b) b m → ⊥
-      out w = let k : 3 * size (shape_of b) ≤ m * size (shape_of b) = mul-le-mul_right (size (shape_of b)) w.least in omega (arith, k, w.inside, (sized_of b).least, l)
-
   pub own_first : OwnFirst h
   own_first = record {
     answered = answered;
@@ -153,12 +138,6 @@ module _ (h : List ℕ → ℕ) (hash : Hash h) where
         (λ r. (demand_1 (shape_of s) h).3 s n out o out' (inl r) f)
         (λ i. (demand_1 (shape_for (length s)) h).3 s n out o out' (inr i) f)
         m;
-    resize_answered = λ b m n. (given_back (shape_of b) h (sized_of b) hash).answered b m n;
-    resize_settled = λ b m n o o' c c' x y. pair (o, c) (o', c') ((given_back (shape_of b) h (sized_of b) hash).settled b m n (o, c) (o', c') x y);
-    resize_refused = λ b. (given_back (shape_of b) h (sized_of b) hash).in_order b;
-    resize_limits = λ b. (given_back (shape_of b) h (sized_of b) hash).limits;
-    resize_kept = λ b. (given_back (shape_of b) h (sized_of b) hash).kept b;
-    resize_short = resize_short;
     short_is_one = short;
     bad_number = bad_number;
     bad_number_told = bad_number_told;

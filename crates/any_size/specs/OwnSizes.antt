@@ -1,24 +1,18 @@
 -- The customer's demands where each store says its own page size, for any hash: the laws over a size, at that one. Assumes nothing.
 use Rattle.std.specs.Prelude.{◌≡◌, false, List, [], map, ◌↔◌, ◌⊎◌, ℕ, ◌+◌, ◌*◌, ◌≤◌, ◌<◌, length}
 use Rattle.ground.specs.Ladder.{Answers}
-use Rattle.ground.specs.Lists.{byte}
 use Rattle.words.specs.Le.{le32}
 use Rattle.page.specs.Page.{Record}
 use Rattle.page.specs.declared.Place.{Place}
 use Rattle.partition.specs.declared.Shape.{Shape}
 use Rattle.partition.specs.Partition.{Row, Reordered}
-use Rattle.partition.specs.Sizes.{size, shape_for, shape_of, shape_of_page, shape_given}
+use Rattle.partition.specs.Sizes.{size, shape_for, shape_of}
 use Rattle.store.specs.Pages.{S1024, pages, page, bucket, read, as_row, rows_held}
 use Rattle.store.specs.Accepted.{Page0, Accepted}
 use Rattle.store.specs.Moves.{pick}
-use Rattle.store.specs.Packing.{store_in, resize_table}
-use Rattle.store.specs.Lengths.{LimitsAreAStores, ResizeRefused, PackIsMap, ResizeIsMap}
-use Rattle.store.specs.Archives.{AllArchives, ArchiveOf}
-use Rattle.store.specs.GivenBack.{HeldBelow, PackMeans, ResizeMeans}
-use Rattle.store.specs.Tables.{Out, refused, refused_at, formatted, accepted, counted, Refusal1, PageSize, format_sized, row_table, inspect_table}
-use Rattle.store.specs.Demands.{Hash, Call, format, check, count, pack, lookup, remove, put, row_at, inspect, Made, ok, WholePages, Faults, in_turn, faults, ExactlyWhen, Given, CheckExact, LookupIsMap, PutIsMap, RemoveIsMap, PutRefused, EitherAsBefore, ListedOnce, CountIsSize, RowIsListed, InspectIsSlot, PlaceComesBack, surviving, Afresh}
+use Rattle.store.specs.Tables.{Out, refused_at, formatted, Refusal1, PageSize, format_sized, row_table, inspect_table}
+use Rattle.store.specs.Demands.{Hash, Call, format, check, count, lookup, remove, put, row_at, inspect, Made, ok, WholePages, Faults, in_turn, faults, ExactlyWhen, Given, CheckExact, LookupIsMap, PutIsMap, RemoveIsMap, PutRefused, EitherAsBefore, ListedOnce, CountIsSize, RowIsListed, InspectIsSlot, PlaceComesBack, surviving, Afresh}
 use Rattle.store.specs.Choice.{PutChooses, RemoveChooses}
-use Rattle.store.specs.Spellings.{SameLot, StoredFolded}
 
 -- a format is given a page size; any other call is as it was
 pub data SizedCall : Type 0 where
@@ -30,12 +24,11 @@ abbrev pub goes_by : Call → List ℕ → Shape
 goes_by format s = shape_of s
 goes_by check s = shape_of s
 goes_by count s = shape_of s
-goes_by pack s = shape_of s
 goes_by (lookup c) s = shape_of s
 goes_by (remove c) s = shape_of s
 goes_by (put c p m) s = shape_of s
 goes_by (row_at n out) s = shape_of s
-goes_by (inspect g n out) s = shape_of_page g
+goes_by (inspect g n out) s = shape_for (length g)
 
 module _ (h : List ℕ → ℕ) where
   -- the call on the store s answers o and leaves the store t; there is no format without a size
@@ -45,16 +38,8 @@ module _ (h : List ℕ → ℕ) where
 
   -- what can be wrong: with a format its size or the length, by that size; with another call as at the size that it goes by
   abbrev pub faults_sized : SizedCall → List ℕ → Faults
-  faults_sized (format_to n) s = in_turn (PageSize n × WholePages (shape_given n) s → ⊥) ⊥ ⊥ ⊥ ⊥ (λ p. ⊥)
+  faults_sized (format_to n) s = in_turn (PageSize n × WholePages (shape_for n) s → ⊥) ⊥ ⊥ ⊥ ⊥ (λ p. ⊥)
   faults_sized (on c) s = faults (goes_by c s) h c s
-
-  -- a resize of the buffer b from m pages to n, by the size that the buffer says, answers o and leaves the buffer c
-  abbrev pub MadeResize : List ℕ → ℕ → ℕ → Out → List ℕ → Type 0
-  MadeResize b m n o c = Answers (resize_table (shape_of b) h b m n) (o, c)
-
--- the store of n pages at the start of a buffer, by the size that the buffer says
-abbrev pub store_at : List ℕ → ℕ → List ℕ
-store_at b n = store_in (shape_of b) b n
 
 -- what can be given: any size; with another call as before
 abbrev pub GivenSized : SizedCall → Type 0
@@ -73,21 +58,14 @@ pub record OwnFirst (h : List ℕ → ℕ) : Type 0 where
   pub settled : (c : SizedCall) (s : List ℕ) (o o' : Out) (t t' : List ℕ) → MadeSized h c s o t → MadeSized h c s o' t' → (o ≡ o') × (t ≡ t')
   pub row_output : (s : List ℕ) (n : ℕ) (out : List ℕ) (a b : Out × List ℕ) → Answers (row_table (shape_of s) h s n out) a → Answers (row_table (shape_of s) h s n out) b → a ≡ b
   pub inspection_output : (g : List ℕ) (n : ℕ) (out : List ℕ) (a b : Out × List ℕ)
-      → Answers (inspect_table (shape_of_page g) h g n out) a → Answers (inspect_table (shape_of_page g) h g n out) b → a ≡ b
+      → Answers (inspect_table (shape_for (length g)) h g n out) a → Answers (inspect_table (shape_for (length g)) h g n out) b → a ≡ b
   -- each number is given exactly when its fault is the first; a format without a fault succeeds
   pub refused_in_order : (c : SizedCall) (s : List ℕ) (o : Out) (t : List ℕ) → MadeSized h c s o t → ExactlyWhen (faults_sized h c s) o
-  pub format_succeeds : (n : ℕ) (s : List ℕ) (o : Out) (t : List ℕ) → MadeSized h (format_to n) s o t → PageSize n → WholePages (shape_given n) s → o ≡ formatted
+  pub format_succeeds : (n : ℕ) (s : List ℕ) (o : Out) (t : List ℕ) → MadeSized h (format_to n) s o t → PageSize n → WholePages (shape_for n) s → o ≡ formatted
   -- a refused call keeps every byte of store and output
   pub store_kept : (c : SizedCall) (s : List ℕ) (o : Out) (t : List ℕ) → MadeSized h c s o t → ok o ≡ false → t ≡ s
   pub output_kept : (s : List ℕ) (n : ℕ) (out : List ℕ) (o : Out) (out' : List ℕ)
-      → Answers (row_table (shape_of s) h s n out) (o, out') ⊎ Answers (inspect_table (shape_of_page s) h s n out) (o, out') → ok o ≡ false → out' ≡ out
-  -- a resize has a result, which settles the answer and every byte; each number is given exactly when, and a refused one keeps every byte of the buffer
-  pub resize_answered : (b : List ℕ) (m n : ℕ) → (o : Out) × (c : List ℕ) × MadeResize h b m n o c
-  pub resize_settled : (b : List ℕ) (m n : ℕ) (o o' : Out) (c c' : List ℕ) → MadeResize h b m n o c → MadeResize h b m n o' c' → (o ≡ o') × (c ≡ c')
-  pub resize_refused : (b : List ℕ) (m n : ℕ) (o : Out) (c : List ℕ) → MadeResize h b m n o c → ResizeRefused (shape_of b) h b m n o
-  pub resize_limits : (b : List ℕ) → LimitsAreAStores (shape_of b)
-  pub resize_kept : (b : List ℕ) (m n : ℕ) (o : Out) (c : List ℕ) → MadeResize h b m n o c → ok o ≡ false → c ≡ b
-  pub resize_short : (b : List ℕ) (m n : ℕ) → length b < 24 → MadeResize h b m n (refused 1) b
+      → Answers (row_table (shape_of s) h s n out) (o, out') ⊎ Answers (inspect_table (shape_for (length s)) h s n out) (o, out') → ok o ≡ false → out' ≡ out
   -- under 24 bytes is always 1
   pub short_is_one : (s : List ℕ) → length s < 24 → Refusal1 (shape_of s) s
   -- a bad size number counts as 1,024 for the length, and breaks the rule of page 0, at every size
@@ -95,7 +73,7 @@ pub record OwnFirst (h : List ℕ → ℕ) : Type 0 where
   -- so on whole pages of 1,024 bytes the check answers 2 with page 0
   pub bad_number_told : (s : List ℕ) (o : Out) (t : List ℕ) → (SizeNumber (le32 s 20) → ⊥) → WholePages S1024 s → MadeSized h (on check) s o t → o ≡ refused_at 2 0
   -- inspection takes a page of any of the three lengths, and no other
-  pub three_lengths : (g : List ℕ) → (length g ≡ size (shape_of_page g)) ↔ PageSize (length g)
+  pub three_lengths : (g : List ℕ) → (length g ≡ size (shape_for (length g))) ↔ PageSize (length g)
 
 -- ---- demand 2
 
@@ -107,33 +85,21 @@ pub record OwnSecond (h : List ℕ → ℕ) : Type 0 where
   pub remove : (s : List ℕ) → RemoveIsMap (shape_of s) h
   pub put_refused : (s : List ℕ) → PutRefused (shape_of s) h
   pub either_as_before : (s : List ℕ) → EitherAsBefore (shape_of s) h
-  -- two spellings are the same lot; every stored and every listed code is folded
-  pub same_lot : (s : List ℕ) → SameLot (shape_of s) h
-  pub stored_folded : (s : List ℕ) → StoredFolded (shape_of s) h
   pub listed_once : (s : List ℕ) → ListedOnce (shape_of s) h
   pub count : (s : List ℕ) → CountIsSize (shape_of s) h
   pub row : (s : List ℕ) → RowIsListed (shape_of s) h
-  pub inspection : (g : List ℕ) → InspectIsSlot (shape_of_page g) h
+  pub inspection : (g : List ℕ) → InspectIsSlot (shape_for (length g)) h
   pub places : (s : List ℕ) → PlaceComesBack (shape_of s) h
-  -- pack and resize keep the map and the listing
-  pub packs : (s : List ℕ) → PackIsMap (shape_of s) h
-  pub resizes : (b : List ℕ) → ResizeIsMap (shape_of b) h
-  -- what they leave, in other words
-  pub pack_means : (s : List ℕ) → PackMeans (shape_of s) h
-  pub resize_means : (b : List ℕ) → ResizeMeans (shape_of b) h
   -- a store that is accepted at one of the three sizes says that size
   pub said : (n : ℕ) (s : List ℕ) → Accepted (shape_for n) h s → shape_of s ≡ shape_for n
   -- the store is accepted again afterwards, of the same size and length
   pub accepted_again : (c : Call) (s : List ℕ) (o : Out) (t : List ℕ) → Accepted (shape_of s) h s → MadeSized h (on c) s o t
       → Accepted (shape_of t) h t × (shape_of t ≡ shape_of s) × (length t ≡ length s)
-  -- so it is at another length, which keeps the size
-  pub resized_again : (b : List ℕ) (m n : ℕ) (c : List ℕ) → ((k : ℕ) → byte (store_at b m) k < 256) → MadeResize h b m n accepted c
-      → (shape_of c ≡ shape_of b) × Accepted (shape_of c) h (store_at c n) × (shape_of (store_at c n) ≡ shape_of c) × (length (store_at c n) ≡ n * size (shape_of c))
   -- an accepted format makes an accepted store of the size given, without rows, whatever the store held and whatever size it was
   pub format_accepted : (n : ℕ) (s t : List ℕ) → MadeSized h (format_to n) s formatted t
-      → PageSize n × (shape_of t ≡ shape_given n) × Accepted (shape_of t) h t × (rows_held (shape_of t) t ≡ []) × (length t ≡ length s)
+      → PageSize n × (shape_of t ≡ shape_for n) × Accepted (shape_of t) h t × (rows_held (shape_of t) t ≡ []) × (length t ≡ length s)
 
--- ---- demand 3: format a store to a size, then make any calls, refused ones, formats to another size and other lengths among them
+-- ---- demand 3: format a store to a size, then make any calls, refused ones and formats to another size among them
 
 -- the rows that a call leaves: none after an accepted format, whatever its size
 abbrev pub surviving_sized : SizedCall → Out → List Row → List Row
@@ -144,20 +110,13 @@ surviving_sized (on c) o rs = surviving c o rs
 pub data SizedHistory (h : List ℕ → ℕ) : List Row → List ℕ → Type 0 where
   starts : (n : ℕ) (s : List ℕ) {t : List ℕ} → MadeSized h (format_to n) s formatted t → SizedHistory h [] t
   goes_on : {rs : List Row} {s t : List ℕ} (c : SizedCall) (o : Out) → SizedHistory h rs s → MadeSized h c s o t → SizedHistory h (surviving_sized c o rs) t
-  at_length : {rs : List Row} (b : List ℕ) (m n : ℕ) (c : List ℕ) → SizedHistory h rs (store_at b m) → MadeResize h b m n accepted c → SizedHistory h rs (store_at c n)
 
 pub record OwnThird (h : List ℕ → ℕ) : Type 0 where
   -- a history begins at each size and with each number of pages that it allows
-  pub begins : (n : ℕ) → PageSize n → (m : ℕ) → 3 ≤ m → m ≤ (shape_given n).entries + 2 → (t : List ℕ) × SizedHistory h [] t × (shape_of t ≡ shape_given n) × (length t ≡ m * n)
+  pub begins : (n : ℕ) → PageSize n → (m : ℕ) → 3 ≤ m → m ≤ (shape_for n).entries + 2 → (t : List ℕ) × SizedHistory h [] t × (shape_of t ≡ shape_for n) × (length t ≡ m * n)
   -- any history may go on with a format to a size of which its store is whole pages, and no row survives that
-  pub anew : (rs : List Row) (s : List ℕ) → SizedHistory h rs s → (n : ℕ) → PageSize n → WholePages (shape_given n) s
-      → (t : List ℕ) × MadeSized h (format_to n) s formatted t × SizedHistory h [] t × (shape_of t ≡ shape_given n) × (length t ≡ length s)
-  -- it goes on at any other length that its size allows and below which all its buckets stand, with the same rows
-  pub any_length : (rs : List Row) (s : List ℕ) → SizedHistory h rs s → (n : ℕ) → 3 ≤ n → n ≤ (shape_of s).entries + 2 → HeldBelow (shape_of s) h s n
-      → (t : List ℕ) × SizedHistory h rs t × (shape_of t ≡ shape_of s) × (length t ≡ n * size (shape_of s))
-  -- so once it is packed it goes on with as many pages as pack answered
-  pub gives_back : (rs : List Row) (s : List ℕ) → SizedHistory h rs s → (n : ℕ) (t : List ℕ) → MadeSized h (on pack) s (counted n) t
-      → (u : List ℕ) × SizedHistory h rs u × (shape_of u ≡ shape_of s) × (length u ≡ n * size (shape_of s))
+  pub anew : (rs : List Row) (s : List ℕ) → SizedHistory h rs s → (n : ℕ) → PageSize n → WholePages (shape_for n) s
+      → (t : List ℕ) × MadeSized h (format_to n) s formatted t × SizedHistory h [] t × (shape_of t ≡ shape_for n) × (length t ≡ length s)
   -- a refused call changes nothing
   pub refused_keeps : (c : SizedCall) (o : Out) (rs : List Row) → ok o ≡ false → surviving_sized c o rs ≡ rs
   -- after any history the store is what is worked out afresh, at its own size, from the rows that survive
@@ -165,8 +124,8 @@ pub record OwnThird (h : List ℕ → ℕ) : Type 0 where
   -- two histories with the same surviving rows, page size and store length answer the same next put of the same mode alike
   pub same_refusals : (rs qs : List Row) (s t : List ℕ) → SizedHistory h rs s → SizedHistory h qs t → Reordered rs qs → shape_of s ≡ shape_of t → length s ≡ length t
       → (c : List ℕ) (p : Place) (m : ℕ) (o o' : Out) (s' t' : List ℕ) → MadeSized h (on (put c p m)) s o s' → MadeSized h (on (put c p m)) t o' t' → o ≡ o'
-  -- in each call but format and pack a bucket whose rows and depth come out the same keeps its page and all its bytes
-  pub kept_pages : (c : Call) (s : List ℕ) (o : Out) (t : List ℕ) → (c ≡ pack → ⊥) → Accepted (shape_of s) h s → MadeSized h (on c) s o t
+  -- in each call but format a bucket whose rows and depth come out the same keeps its page and all its bytes
+  pub kept_pages : (c : Call) (s : List ℕ) (o : Out) (t : List ℕ) → Accepted (shape_of s) h s → MadeSized h (on c) s o t
       → (p q k : ℕ) (rs qs : List Record) → 2 ≤ p → p < pages (shape_of s) s → 2 ≤ q → q < pages (shape_of t) t
       → read (page (shape_of s) s p) ≡ bucket k rs → read (page (shape_of t) t q) ≡ bucket k qs → map as_row rs ≡ map as_row qs
       → (p ≡ q) × (page (shape_of s) s p ≡ page (shape_of t) t q)
@@ -174,23 +133,11 @@ pub record OwnThird (h : List ℕ → ℕ) : Type 0 where
   pub put_pages : (s : List ℕ) → PutChooses (shape_of s) h
   pub remove_pages : (s : List ℕ) → RemoveChooses (shape_of s) h
 
--- ---- archives, of stores of one page size
-
-pub record OwnArchives (h : List ℕ → ℕ) : Type 0 where
-  pub at_size : (s : List ℕ) → AllArchives (shape_of s) h
-  -- of any two histories whose stores say one size the archives of one length are byte-equal exactly when the surviving rows are the same
-  pub histories : (rs qs : List Row) (s t : List ℕ) → SizedHistory h rs s → SizedHistory h qs t → shape_of s ≡ shape_of t
-      → (n : ℕ) (a b : List ℕ) → ArchiveOf (shape_of s) h s n a → ArchiveOf (shape_of t) h t n b → (a ≡ b) ↔ Reordered rs qs
-  -- so are the stores themselves once packed, where their lengths are the same, and pack then answers the same
-  pub history_packs : (rs qs : List Row) (s t : List ℕ) → SizedHistory h rs s → SizedHistory h qs t → shape_of s ≡ shape_of t → length s ≡ length t
-      → (o o' : Out) (s' t' : List ℕ) → MadeSized h (on pack) s o s' → MadeSized h (on pack) t o' t' → ((s' ≡ t') ↔ Reordered rs qs) × (Reordered rs qs → o ≡ o')
-
 -- all of it, for every hash
 pub record OwnDemands (h : List ℕ → ℕ) : Type 0 where
   pub first : OwnFirst h
   pub second : OwnSecond h
   pub third : OwnThird h
-  pub archives : OwnArchives h
 
 abbrev pub AnySize : Type 0
 AnySize = (h : List ℕ → ℕ) → Hash h → OwnDemands h

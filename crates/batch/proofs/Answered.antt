@@ -20,10 +20,10 @@ use Rattle.batch.specs.Batch.{Runs, GoodRuns, sum, wanted, number, OneByOne, non
 use Rattle.batch.proofs.Signs.{word_ranged}
 
 -- the runs fit or not
-pub same_or_not : (a b : ℕ) → Dec (a ≡ b)
+same_or_not : (a b : ℕ) → Dec (a ≡ b)
 same_or_not a b = ⊎_elim (λ e. yes e) (λ n. no n) (same a b)
 
-pub fit_or_not : (b : Runs) → Dec (GoodRuns b)
+fit_or_not : (b : Runs) → Dec (GoodRuns b)
 fit_or_not b = go (same_or_not (length b.places) (length b.lengths)) (same_or_not (length b.answers) (length b.lengths)) (same_or_not (sum b.lengths) (length b.codes))
   where
     go : Dec (length b.places ≡ length b.lengths) → Dec (length b.answers ≡ length b.lengths) → Dec (sum b.lengths ≡ length b.codes) → Dec (GoodRuns b)

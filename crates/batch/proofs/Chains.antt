@@ -9,7 +9,7 @@ use Rattle.partition.specs.declared.Shape.{Shape}
 use Rattle.store.specs.Accepted.{Accepted}
 use Rattle.store.proofs.Demands.Kept.{put_again}
 use Rattle.batch.specs.PlaceWords.{word_place}
-use Rattle.batch.specs.Batch.{Wanted, wanted, OnePut, InTurn, none_left, and_then}
+use Rattle.batch.specs.Batch.{Wanted, wanted, OnePut, OneByOne, none_left, and_then}
 
 -- the puts that are left from put i on, whose code begins at byte a
 abbrev pub left_from : List ℕ → List ℕ → List ℕ → ℕ → ℕ → List Wanted
@@ -34,25 +34,24 @@ module _ (codes lengths words : List ℕ) (a i : ℕ) where
   nothing_left b = ap (λ l. wanted (drop a codes) l (drop i words)) (drop_of_length-le lengths b)
 
 -- with the puts that are left the chain is whole: those before i are made, from s on to t, with the first i of the answers
-abbrev pub Made_to : {A : Type 0} → (Wanted → A → ℕ → A → Type 0) → List Wanted → A → List Wanted → ℕ → List ℕ → A → Type 0
-Made_to {A} P all s rest i answers t = (ns : List ℕ) (u : A) → InTurn P rest t ns u → InTurn P all s (take i answers ++ ns) u
+abbrev pub Made_to : Shape → (List ℕ → ℕ) → ℕ → List Wanted → List ℕ → List Wanted → ℕ → List ℕ → List ℕ → Type 0
+Made_to S h m all s rest i answers t = (ns u : List ℕ) → OneByOne S h m rest t ns u → OneByOne S h m all s (take i answers ++ ns) u
 
-module _ {A : Type 0} (P : Wanted → A → ℕ → A → Type 0) (all : List Wanted) (s : A) where
+module _ (S : Shape) (h : List ℕ → ℕ) (m : ℕ) (all : List Wanted) (s : List ℕ) where
   -- one more
-  pub made_more : (w : Wanted) (rest : List Wanted) (i : ℕ) (answers : List ℕ) (t : A) → Made_to P all s (w ∷ rest) i answers t → i < length answers
-      → (n : ℕ) (v : A) → P w t n v → Made_to P all s rest (i + 1) (set answers i n) v
+  pub made_more : (w : Wanted) (rest : List Wanted) (i : ℕ) (answers t : List ℕ) → Made_to S h m all s (w ∷ rest) i answers t → i < length answers
+      → (n : ℕ) (v : List ℕ) → OnePut S h m w t n v → Made_to S h m all s rest (i + 1) (set answers i n) v
   made_more w rest i answers t made b n v one ns u chain =
-      subst (λ l. InTurn P all s l u)
+      subst (λ l. OneByOne S h m all s l u)
       (sym (append_snoc (take i answers) n ns) ∙ ap (λ l. l ++ ns) (sym (take-suc-set answers i n b)) ∙ ap (λ k. take k (set answers i n) ++ ns) (sym (add-one i)))
       (made (n ∷ ns) u (and_then one chain))
 
   -- all of them
-  pub made_all : (rest : List Wanted) (i : ℕ) (answers : List ℕ) (t : A) → Made_to P all s rest i answers t → rest ≡ [] → length answers ≤ i → InTurn P all s answers t
+  pub made_all : (rest : List Wanted) (i : ℕ) (answers t : List ℕ) → Made_to S h m all s rest i answers t → rest ≡ [] → length answers ≤ i → OneByOne S h m all s answers t
   made_all rest i answers t made e b =
-      subst (λ l. InTurn P all s l t) (append-nil (take i answers) ∙ take_all i answers b)
-      (made [] t (subst (λ l. InTurn P l t [] t) (sym e) none_left))
+      subst (λ l. OneByOne S h m all s l t) (append-nil (take i answers) ∙ take_all i answers b)
+      (made [] t (subst (λ l. OneByOne S h m l t [] t) (sym e) none_left))
 
-module _ (S : Shape) (h : List ℕ → ℕ) (m : ℕ) where
   -- a put leaves an accepted store as long as it was
   pub one_again : (w : Wanted) (t : List ℕ) (n : ℕ) (v : List ℕ) → Accepted S h t → OnePut S h m w t n v → Accepted S h v × (length v ≡ length t)
   one_again w t n v a one = put_again S h t w.code w.place m a (one.out, v) one.made

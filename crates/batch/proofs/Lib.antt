@@ -6,5 +6,3 @@ pub mod Histories
 pub mod OwnSize
 pub mod EndToEnd
 pub mod Answered
-pub mod InTurn
-pub mod Laws

@@ -1,6 +1,6 @@
 -- A batch in a history where each store says its own page size: it is its puts, at the size of its store. Over any hash. Assumes nothing.
-use mathlib.Core.Path.{◌≡◌, refl, sym, ap, subst, ◌∙◌}
-use mathlib.Core.Bool.{Bool, true, false, true≢false}
+use mathlib.Core.Path.{◌≡◌, refl, sym, subst, ◌∙◌}
+use mathlib.Core.Bool.{true}
 use mathlib.Core.List.{List}
 use Prim.Native.Nat.{ℕ}
 use Rattle.ground.specs.Ladder.{Answers}
@@ -8,28 +8,13 @@ use Rattle.ground.proofs.Ladders.{each}
 use Rattle.partition.specs.declared.Shape.{Shape}
 use Rattle.partition.specs.Partition.{Row}
 use Rattle.partition.specs.Sizes.{shape_of}
-use Rattle.page.specs.declared.Place.{Place}
-use Rattle.store.specs.Demands.{Hash, Call, format, check, count, pack, lookup, remove, put, row_at, inspect, ok}
+use Rattle.store.specs.Demands.{Hash, put, ok}
 use Rattle.store.specs.Tables.{Out, put_table}
 use Rattle.any_size.specs.OwnSizes.{on, MadeSized, SizedHistory, goes_on}
+use Rattle.any_size.proofs.Calls.{differs}
 use Rattle.any_size.proofs.Histories.{same_size, afresh}
 use Rattle.batch.specs.Batch.{Runs, Wanted, wanted, OneByOne, none_left, and_then, batch_table, survivors}
 use Rattle.batch.proofs.Histories.{left_by_lem, refused_not}
-
--- a put is no format
-abbrev is_put : Call → Bool
-is_put (put c p m) = true
-is_put format = false
-is_put check = false
-is_put count = false
-is_put pack = false
-is_put (lookup c) = false
-is_put (remove c) = false
-is_put (row_at n out) = false
-is_put (inspect g n out) = false
-
-put_no_format : (c : List ℕ) (p : Place) (m : ℕ) → put c p m ≡ format → ⊥
-put_no_format c p m e = true≢false (ap is_put e)
 
 module _ (h : List ℕ → ℕ) (hash : Hash h) (m : ℕ) where
   -- the puts of a chain at the size that its store says are calls of such a history, and leave the size
@@ -38,7 +23,7 @@ module _ (h : List ℕ → ℕ) (hash : Hash h) (m : ℕ) where
   puts_sized e H none_left = (H, e)
   puts_sized {S} {rs = rs} e H (and_then {w} {l} {s} {t} {u} {n} {ns} p ps) =
       let made : MadeSized h (on (put w.code w.place m)) s p.out t =
-      (put_no_format w.code w.place m, subst (λ T. Answers (put_table T h s w.code w.place m) (p.out, t)) (sym e) p.made) in
+      (differs (put w.code w.place m) refl, subst (λ T. Answers (put_table T h s w.code w.place m) (p.out, t)) (sym e) p.made) in
       puts_sized (same_size h hash (put w.code w.place m) s p.out t (afresh h hash rs s H).keeps made ∙ e)
       (subst (λ x. SizedHistory h x t) (left_by_lem S h m w s n t p rs) (goes_on (on (put w.code w.place m)) p.out H made)) ps
 

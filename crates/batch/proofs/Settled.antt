@@ -1,7 +1,7 @@
 -- A batch is settled, answer by answer and byte by byte; a refused one keeps store and answers; the store is accepted again. Over any page size and hash. Assumes nothing.
 use mathlib.Core.Path.{◌≡◌, refl, sym, ap, subst, ◌∙◌}
-use mathlib.Core.Bool.{true, false, true≢false}
-use mathlib.Core.List.{List, ◌∷◌}
+use mathlib.Core.Bool.{false, true≢false}
+use mathlib.Core.List.{List, [], ◌∷◌}
 use mathlib.Core.Logic.{inl, inr}
 use Prim.Native.Nat.{ℕ, ◌+◌}
 use native.Mathlib.Omega.{arith}
@@ -31,6 +31,7 @@ module _ (S : Shape) (h : List ℕ → ℕ) where
       let e = one_settled z m w s n k t v p q in
       let r = puts_settled z m ps (subst (λ x. OneByOne S h m l x ks u) (sym e.1) qs) in
       ((λ i. e.0 i ∷ r.0 i), r.1)
+  puts_settled z m {ns = _ ∷ _} {ks = []} (and_then p ps) x = elim x [ ]
 
   pub batch_settled : Sized S → (s : List ℕ) (b : Runs) (m : ℕ) (x y : Out × (List ℕ × List ℕ)) → Answers (batch_table S h s b m) x → Answers (batch_table S h s b m) y → x ≡ y
   unfolding batch_table

@@ -63,14 +63,10 @@ pub record OnePut (S : Shape) (h : List ℕ → ℕ) (m : ℕ) (w : Wanted) (s :
   pub made : Answers (put_table S h s w.code w.place m) (out, t)
   pub is : n ≡ number out
 
--- puts made one by one, each as P says, refused ones included: their answer numbers, and what they leave
-pub data InTurn {A : Type 0} (P : Wanted → A → ℕ → A → Type 0) : List Wanted → A → List ℕ → A → Type 0 where
-  none_left : {s : A} → InTurn P [] s [] s
-  and_then : {w : Wanted} {l : List Wanted} {s t u : A} {n : ℕ} {ns : List ℕ} → P w s n t → InTurn P l t ns u → InTurn P (w ∷ l) s (n ∷ ns) u
-
--- the same puts made one by one: their answer numbers, and the store that they leave
-abbrev pub OneByOne : Shape → (List ℕ → ℕ) → ℕ → List Wanted → List ℕ → List ℕ → List ℕ → Type 0
-OneByOne S h m = InTurn (OnePut S h m)
+-- the same puts made one by one, refused ones included: their answer numbers, and the store that they leave
+pub data OneByOne (S : Shape) (h : List ℕ → ℕ) (m : ℕ) : List Wanted → List ℕ → List ℕ → List ℕ → Type 0 where
+  none_left : {s : List ℕ} → OneByOne S h m [] s [] s
+  and_then : {w : Wanted} {l : List Wanted} {s t u : List ℕ} {n : ℕ} {ns : List ℕ} → OnePut S h m w s n t → OneByOne S h m l t ns u → OneByOne S h m (w ∷ l) s (n ∷ ns) u
 
 -- answer, store and answer numbers; a batch that is taken is answered as a store is by the check
 unfoldable pub batch_table : Shape → (List ℕ → ℕ) → List ℕ → Runs → ℕ → Ladder (Out × (List ℕ × List ℕ))

@@ -1,3 +1,2 @@
 pub mod PlaceWords
 pub mod Batch
-pub mod BatchLaws

@@ -4,7 +4,7 @@ ghost use Rattle.ground.specs.Says.{Says};
 ghost use Rattle.batch.specs.Batch.{sum, runs, GoodRuns};
 
 // Whether the lengths add up to n: what is left of n is counted down, so no sum can be too large.
-pub fn add_up(lengths: &[u32], n: usize) -> bool
+fn add_up(lengths: &[u32], n: usize) -> bool
     ensures { Says result (sum lengths.now ≡ n) }
 {
     let mut left = n;

@@ -4,10 +4,9 @@ ghost use Rattle.std.specs.Prelude.{◌≡◌, ◌≤◌, length};
 
 use super::answers::{say_number, say_place};
 use super::show::{digits, part};
-use libc::STDOUT_FILENO;
 
 // Codes of one length, 2 to 64 bytes, without a capital, whose hashes begin with these bits.
-#[derive(Drop)]
+#[derive(Clone, Copy)]
 pub struct Kind {
     pub len: usize,
     pub bits: u32,
@@ -147,10 +146,10 @@ fn remove_all(store: &mut [u8], kind: Kind, many: u32) -> u64
 }
 
 // The header of each page from 2 on, the rows, and what the check says.
-pub fn say(store: &[u8]) {
-    headers(store);
-    say_number(b"rows:", lots_c::lots_count(store));
-    say_number(b"check:", lots_c::lots_check(store));
+pub fn say<R: Print>(rt: &R, store: &[u8]) {
+    headers(rt, store);
+    say_number(rt, b"rows:", lots_c::lots_count(store));
+    say_number(rt, b"check:", lots_c::lots_check(store));
 }
 
 // The page size that the number at 20 stands for.
@@ -163,50 +162,55 @@ pub fn page_size(store: &[u8]) -> usize
     8 + partition::shape_of(store).capacity
 }
 
-fn headers(store: &[u8]) {
+fn headers<R: Print>(rt: &R, store: &[u8]) {
     let size = page_size(store);
     let mut a = 2 * size;
     while a < store.len() {
-        digits(part(store, a, a + 8));
+        digits(rt, part(store, a, a + 8));
         a += size;
     }
 }
 
 // A 14th row and one of the 13, where only a new code or only a known one is expected.
-fn by_mode(store: &mut [u8], kind: Kind)
+fn by_mode<R: Print>(rt: &R, store: &mut [u8], kind: Kind)
     requires { (kind.len ≤ 64) × (kind.bits ≤ 12) }
 {
-    say_place(b"a 14th, only if new:", put_as(store, kind, 13, 1));
-    say_place(b"a 14th, only if known:", put_as(store, kind, 13, 2));
-    say_place(b"on one of the 13, only if new:", put_as(store, kind, 5, 1));
+    say_place(rt, b"a 14th, only if new:", put_as(store, kind, 13, 1));
+    say_place(rt, b"a 14th, only if known:", put_as(store, kind, 13, 2));
     say_place(
+        rt,
+        b"on one of the 13, only if new:",
+        put_as(store, kind, 5, 1),
+    );
+    say_place(
+        rt,
         b"on one of the 13, only if known:",
         put_as(store, kind, 5, 2),
     );
 }
 
 // Case 11, where not all share 8 bits: in 3 pages 13 rows of 64-byte codes.
-pub fn full(store: &mut [u8]) {
-    io::write_all(STDOUT_FILENO, b"case 11, full store\n");
+pub fn full<R: Print>(rt: &R, store: &mut [u8]) {
+    let _ = rt.write_all(b"case 11, full store\n");
     let any = codes(64, 0, 0);
-    say_number(b"format:", lots_c::lots_format(store, 1024));
-    say_number(b"rows put:", put_all(store, any, 13));
-    say_place(b"a 14th:", put(store, any, 13));
-    say_place(b"on one of the 13:", put(store, any, 5));
-    by_mode(store, any);
-    say(store);
+    say_number(rt, b"format:", lots_c::lots_format(store, 1024));
+    say_number(rt, b"rows put:", put_all(store, any, 13));
+    say_place(rt, b"a 14th:", put(store, any, 13));
+    say_place(rt, b"on one of the 13:", put(store, any, 5));
+    by_mode(rt, store, any);
+    say(rt, store);
 }
 
 // Case 11, where all share 8 bits.
-pub fn crowded(store: &mut [u8]) {
-    io::write_all(STDOUT_FILENO, b"case 11, crowded prefix\n");
+pub fn crowded<R: Print>(rt: &R, store: &mut [u8]) {
+    let _ = rt.write_all(b"case 11, crowded prefix\n");
     let alike = codes(64, 8, 90);
-    say_number(b"format:", lots_c::lots_format(store, 1024));
-    say_number(b"rows put:", put_all(store, alike, 13));
-    say_place(b"a 14th:", put(store, alike, 13));
-    say_place(b"on one of the 13:", put(store, alike, 5));
-    by_mode(store, alike);
-    say(store);
+    say_number(rt, b"format:", lots_c::lots_format(store, 1024));
+    say_number(rt, b"rows put:", put_all(store, alike, 13));
+    say_place(rt, b"a 14th:", put(store, alike, 13));
+    say_place(rt, b"on one of the 13:", put(store, alike, 5));
+    by_mode(rt, store, alike);
+    say(rt, store);
 }
 
 // A row at 1, one at 01 and so on, the last at as many bits as this; how many went well.
@@ -226,93 +230,98 @@ pub fn put_ladder(store: &mut [u8], deepest: u32) -> u64
 }
 
 // In 9 pages rows as in case 9, with codes of 2 and 3 bytes: one long code more, and seven buckets take all pages.
-pub fn deep_split(store: &mut [u8]) {
-    io::write_all(STDOUT_FILENO, b"deep split\n");
+pub fn deep_split<R: Print>(rt: &R, store: &mut [u8]) {
+    let _ = rt.write_all(b"deep split\n");
     let short = codes(3, 6, 0);
     let long = codes(64, 6, 0);
-    say_number(b"format:", lots_c::lots_format(store, 1024));
-    say_number(b"rows put at 1, 01 to 000001:", put_ladder(store, 6));
-    say_number(b"rows put at 000000:", put_all(store, short, 62));
-    say(store);
-    say_place(b"a long one there:", put(store, long, 0));
-    say(store);
+    say_number(rt, b"format:", lots_c::lots_format(store, 1024));
+    say_number(rt, b"rows put at 1, 01 to 000001:", put_ladder(store, 6));
+    say_number(rt, b"rows put at 000000:", put_all(store, short, 62));
+    say(rt, store);
+    say_place(rt, b"a long one there:", put(store, long, 0));
+    say(rt, store);
 }
 
 // The seven buckets join over six levels when the long code goes.
-pub fn deep_join(store: &mut [u8]) {
-    io::write_all(STDOUT_FILENO, b"join over levels\n");
+pub fn deep_join<R: Print>(rt: &R, store: &mut [u8]) {
+    let _ = rt.write_all(b"join over levels\n");
     let first = codes(64, 1, 1);
     let long = codes(64, 6, 0);
     say_number(
+        rt,
         b"long rows put at 1, as far as they go:",
         put_all(store, first, 20),
     );
-    say_place(b"the next:", put(store, first, 13));
-    say_number(b"removed:", remove_all(store, first, 13));
-    say(store);
-    say_place(b"the long one at 000000 removed:", remove(store, long, 0));
-    say(store);
+    say_place(rt, b"the next:", put(store, first, 13));
+    say_number(rt, b"removed:", remove_all(store, first, 13));
+    say(rt, store);
+    say_place(
+        rt,
+        b"the long one at 000000 removed:",
+        remove(store, long, 0),
+    );
+    say(rt, store);
 }
 
 // In 3 pages a hole before the frontier: the page is packed, not split.
-pub fn fragmented(store: &mut [u8]) {
-    io::write_all(STDOUT_FILENO, b"fragmented page\n");
+pub fn fragmented<R: Print>(rt: &R, store: &mut [u8]) {
+    let _ = rt.write_all(b"fragmented page\n");
     let any = codes(64, 0, 0);
-    say_number(b"format:", lots_c::lots_format(store, 1024));
-    say_number(b"rows put:", put_all(store, any, 13));
-    say_place(b"the first removed:", remove(store, any, 0));
-    say(store);
-    say_place(b"a 14th:", put(store, any, 13));
-    say(store);
+    say_number(rt, b"format:", lots_c::lots_format(store, 1024));
+    say_number(rt, b"rows put:", put_all(store, any, 13));
+    say_place(rt, b"the first removed:", remove(store, any, 0));
+    say(rt, store);
+    say_place(rt, b"a 14th:", put(store, any, 13));
+    say(rt, store);
 }
 
 // In 3 pages a hole of 72 bytes before 12 records, and room of 32 at the frontier: one row more of this kind, then where the records are.
-fn beside_hole(store: &mut [u8], kind: Kind)
+fn beside_hole<R: Print>(rt: &R, store: &mut [u8], kind: Kind)
     requires { (kind.len ≤ 64) × (kind.bits ≤ 12) }
 {
     let any = codes(64, 0, 0);
-    say_number(b"format:", lots_c::lots_format(store, 1024));
-    say_number(b"rows put:", put_all(store, any, 13));
-    say_place(b"the first removed:", remove(store, any, 0));
-    say(store);
-    say_place(b"one more:", put(store, kind, 13));
-    say(store);
-    digits(part(store, 3020, 3072));
+    say_number(rt, b"format:", lots_c::lots_format(store, 1024));
+    say_number(rt, b"rows put:", put_all(store, any, 13));
+    say_place(rt, b"the first removed:", remove(store, any, 0));
+    say(rt, store);
+    say_place(rt, b"one more:", put(store, kind, 13));
+    say(rt, store);
+    digits(rt, part(store, 3020, 3072));
 }
 
 // A need of 32 goes at the frontier; for 33 the page is packed first.
-pub fn room(store: &mut [u8]) {
-    io::write_all(STDOUT_FILENO, b"room for exactly a row\n");
+pub fn room<R: Print>(rt: &R, store: &mut [u8]) {
+    let _ = rt.write_all(b"room for exactly a row\n");
     let fits = codes(20, 0, 0);
-    beside_hole(store, fits);
-    io::write_all(STDOUT_FILENO, b"room a byte less than a row\n");
+    beside_hole(rt, store, fits);
+    let _ = rt.write_all(b"room a byte less than a row\n");
     let packs = codes(21, 0, 0);
-    beside_hole(store, packs);
+    beside_hole(rt, store, packs);
 }
 
 // In 5 pages a bucket of one row loses it and joins its sibling (case 8).
-pub fn joined(store: &mut [u8]) {
-    io::write_all(STDOUT_FILENO, b"emptied bucket, joined\n");
+pub fn joined<R: Print>(rt: &R, store: &mut [u8]) {
+    let _ = rt.write_all(b"emptied bucket, joined\n");
     let left = codes(64, 2, 0);
     let right = codes(64, 2, 1);
-    say_number(b"format:", lots_c::lots_format(store, 1024));
-    say_number(b"rows put at 00:", put_all(store, left, 13));
-    say_place(b"one at 01:", put(store, right, 0));
-    say(store);
-    say_place(b"removed:", remove(store, right, 0));
-    say(store);
+    say_number(rt, b"format:", lots_c::lots_format(store, 1024));
+    say_number(rt, b"rows put at 00:", put_all(store, left, 13));
+    say_place(rt, b"one at 01:", put(store, right, 0));
+    say(rt, store);
+    say_place(rt, b"removed:", remove(store, right, 0));
+    say(rt, store);
 }
 
 // A bucket of one row loses it with nothing to join: its page is cleared, and taken again.
-pub fn cleared(store: &mut [u8]) {
-    io::write_all(STDOUT_FILENO, b"emptied bucket, cleared\n");
+pub fn cleared<R: Print>(rt: &R, store: &mut [u8]) {
+    let _ = rt.write_all(b"emptied bucket, cleared\n");
     let right = codes(64, 2, 1);
     let other = codes(64, 1, 1);
-    say_place(b"one at 1:", put(store, other, 0));
-    say_number(b"rows put at 01:", put_all(store, right, 13));
-    say(store);
-    say_place(b"the one at 1 removed:", remove(store, other, 0));
-    say(store);
-    say_place(b"and put again:", put(store, other, 0));
-    say(store);
+    say_place(rt, b"one at 1:", put(store, other, 0));
+    say_number(rt, b"rows put at 01:", put_all(store, right, 13));
+    say(rt, store);
+    say_place(rt, b"the one at 1 removed:", remove(store, other, 0));
+    say(rt, store);
+    say_place(rt, b"and put again:", put(store, other, 0));
+    say(rt, store);
 }

@@ -1,6 +1,7 @@
-// The worked cases of document 01 that run, and those of what document 02 adds; what they must write stands in `stdout`.
+// The worked cases of document 01 that run; what they must write stands in `stdout`.
+#![tactic(auto)]
+
 mod answers;
-mod given_back;
 mod history;
 mod reads;
 mod refusals;
@@ -8,42 +9,38 @@ mod show;
 mod sizes;
 
 use answers::{say_number, say_place};
-use libc::STDOUT_FILENO;
 
-fn main() {
+fn main(rt: HostRuntime) {
     let mut store = [0xAAu8; 3072];
-    case_10(&mut store);
+    case_10(&rt, &mut store);
     let mut damaged = store;
     damaged[1024] = 1;
-    refusals::all(&store, &damaged);
-    refusals::of_writes(&mut store, &mut damaged);
-    reads::row_by_row();
-    histories(&mut store);
-    sizes::of_4096();
-    sizes::of_16384();
+    refusals::all(&rt, &store, &damaged);
+    refusals::of_writes(&rt, &mut store, &mut damaged);
+    reads::row_by_row(&rt);
+    histories(&rt, &mut store);
+    sizes::of_4096(&rt);
+    sizes::of_16384(&rt);
 }
 
 // On what the other cases left, and on larger stores.
-fn histories(store: &mut [u8]) {
+fn histories<R: Print>(rt: &R, store: &mut [u8]) {
     let mut nine = [0xAAu8; 9216];
     let mut five = [0xAAu8; 5120];
-    history::full(store);
-    history::crowded(store);
-    history::deep_split(&mut nine);
-    history::deep_join(&mut nine);
-    history::fragmented(store);
-    history::room(store);
-    history::joined(&mut five);
-    history::cleared(&mut five);
-    given_back::renumbered(&mut five);
-    given_back::records(&mut five);
-    given_back::lengths(&mut five);
+    history::full(rt, store);
+    history::crowded(rt, store);
+    history::deep_split(rt, &mut nine);
+    history::deep_join(rt, &mut nine);
+    history::fragmented(rt, store);
+    history::room(rt, store);
+    history::joined(rt, &mut five);
+    history::cleared(rt, &mut five);
 }
 
 // In 3 pages, "a" with place (7, 2, 0), whatever they held.
-fn case_10(store: &mut [u8]) {
-    say_number(b"format:", lots_c::lots_format(store, 1024));
-    say_place(b"put a:", lots_c::lots_put(store, b"a", 7, 2, 0, 0));
-    io::write_all(STDOUT_FILENO, b"case 10\n");
-    show::lines(store);
+fn case_10<R: Print>(rt: &R, store: &mut [u8]) {
+    say_number(rt, b"format:", lots_c::lots_format(store, 1024));
+    say_place(rt, b"put a:", lots_c::lots_put(store, b"a", 7, 2, 0, 0));
+    let _ = rt.write_all(b"case 10\n");
+    show::lines(rt, store);
 }

@@ -1,29 +1,28 @@
 // Bytes as hex text, and parts of them.
 ghost use Rattle.std.specs.Prelude.{◌+◌, ◌≤◌, length};
 
-use libc::STDOUT_FILENO;
-
 fn wide(x: u8) -> u64 {
     x as u64
 }
 
-fn space() {
-    io::write_all(STDOUT_FILENO, b" ");
+fn space<R: Print>(rt: &R) {
+    let _ = rt.write_all(b" ");
 }
 
-fn end() {
-    io::write_all(STDOUT_FILENO, b"\n");
+fn end<R: Print>(rt: &R) {
+    let _ = rt.write_all(b"\n");
 }
 
 // The bytes on one line.
-pub fn digits(b: &[u8]) {
+pub fn digits<R: Print>(rt: &R, b: &[u8]) {
     let mut i = 0;
     while i < b.len() {
-        space();
-        io::print_hex(STDOUT_FILENO, wide(b[i]), 2);
+        space(rt);
+        let x = wide(b[i]);
+        let _ = print!(rt; "{x:02x}");
         i += 1;
     }
-    end();
+    end(rt);
 }
 
 // The bytes from a up to e, where there are so many.
@@ -46,20 +45,20 @@ fn all_zero(b: &[u8]) -> bool {
     acc == 0
 }
 
-fn line(b: &[u8], a: usize, e: usize)
+fn line<R: Print>(rt: &R, b: &[u8], a: usize, e: usize)
     requires { (a ≤ e) × (e ≤ length b.now) }
 {
     if !all_zero(&b[a..e]) {
-        io::print_hex(STDOUT_FILENO, a as u64, 4);
-        digits(&b[a..e]);
+        let _ = print!(rt; "{a:04x}");
+        digits(rt, &b[a..e]);
     }
 }
 
 // Lines of 16 bytes after their offset; those of zeros only are left out.
-pub fn lines(b: &[u8]) {
+pub fn lines<R: Print>(rt: &R, b: &[u8]) {
     let mut a = 0;
     while a + 16 <= b.len() {
-        line(b, a, a + 16);
+        line(rt, b, a, a + 16);
         a += 16;
     }
 }

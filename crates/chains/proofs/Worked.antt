@@ -1,5 +1,5 @@
 -- The chain pages of worked lengths, computed.
-use mathlib.Core.Path.{◌≡◌, refl}
+use mathlib.Core.Path.{refl}
 use Rattle.chains.specs.Chains.{links, pages_of}
 use Rattle.chains.specs.Worked.{WorkedLinks}
 

@@ -1,5 +1,5 @@
 -- Chain pages of worked lengths, at each page size: 1,012 bytes fill a first page of 1,024, each next takes 1,016. Assumes nothing.
-use Rattle.std.specs.Prelude.{◌≡◌, ℕ}
+use Rattle.std.specs.Prelude.{◌≡◌}
 use Rattle.chains.specs.Chains.{links}
 
 pub record WorkedLinks : Type 0 where

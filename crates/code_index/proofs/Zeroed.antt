@@ -1,5 +1,5 @@
 -- Entries that rise step by step, zero entries and rests. Assumes nothing.
-use mathlib.Core.Path.{◌≡◌, refl, sym, ap, subst, ◌∙◌}
+use mathlib.Core.Path.{◌≡◌, sym, ap, subst, ◌∙◌}
 use mathlib.Core.Logic.{⊎_elim}
 use mathlib.Core.List.{List, []}
 use Prim.Native.Nat.{ℕ, ◌+◌, ◌-◌, ◌*◌, ◌/◌, ◌≤◌, ◌<◌}
@@ -11,7 +11,7 @@ use Rattle.ground.proofs.Sides.{side}
 use Rattle.words.specs.Codes.{Before}
 use Rattle.words.specs.Zeros.{Zero}
 use Rattle.words.specs.Moves.{Cleared}
-use Rattle.code_index.specs.Entries.{code_entry, entry_start, whole_pages, entry_room, entry_in, SameOdd, NoneFrom, RestsZero, Emptied}
+use Rattle.code_index.specs.Entries.{code_entry, entry_start, whole_pages, entry_room, entry_in, RestsZero, Emptied}
 use Rattle.code_index.specs.Sort.{RisingBy}
 use Rattle.code_index.proofs.Places.{start_within}
 use Rattle.code_index.proofs.Writing.{entry_byte, entry_size, entry_long, entry_pad, entry_length, entry_zeros}

@@ -6,8 +6,8 @@ use mathlib.Core.Logic.{⊎_elim}
 use native.Mathlib.Nat.{add-zero}
 use native.Mathlib.Numerals.{add-one}
 use native.Mathlib.Omega.{arith}
-use lib.ListN.{length, take, drop, length-append, length-drop}
-use lib.Seq.{take-add, take_at, take-take, take-suc, take-length, take_all, length-take-le}
+use lib.ListN.{length, take, drop, length-drop}
+use lib.Seq.{take-add, take-suc, take-length, take_all, length-take-le}
 use Rattle.ground.specs.Lists.{byte, part}
 use Rattle.ground.proofs.Sides.{side}
 use Rattle.ground.proofs.Parts.{part_is}

@@ -11,4 +11,3 @@ pub mod OneRow
 pub mod Cents
 pub mod Small
 pub mod Blocks
-pub mod Worked

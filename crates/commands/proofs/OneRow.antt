@@ -1,5 +1,5 @@
 -- A line of a sheet says one thing. Assumes nothing.
-use Prim.Native.Nat.{ℕ, suc}
+use Prim.Native.Nat.{ℕ}
 use mathlib.Core.Path.{◌≡◌, refl, sym, ap, ◌∙◌}
 use mathlib.Core.Bool.{Bool, true, false}
 use mathlib.Core.List.{List, [], ◌∷◌}
@@ -10,7 +10,7 @@ use lib.ListN.{length}
 use Rattle.ground.specs.Lists.{byte}
 use Rattle.page.specs.declared.Place.{Place}
 use Rattle.commands.specs.Numbers.{value, Integer, signed, marked}
-use Rattle.commands.specs.SheetLines.{words_of, PassedOver, RowLine, FitsRow, LineSays}
+use Rattle.commands.specs.SheetLines.{PassedOver, RowLine, FitsRow, LineSays}
 use Rattle.commands.specs.declared.SheetLine.{SheetLine}
 use Rattle.commands.specs.declared.SheetLine.TheVariants.{Passed, Amount, Other}
 

@@ -73,7 +73,7 @@ module _ (w : Width) (z : ℤ) (f : SFits w64 z) (h : mag z < 2 ^ hbits w) where
 -- a part of a place that was read
 module _ (w : Width) (v : List ℕ) (z : ℤ) (most : ℕ) (small : most < 2 ^ 63) (d : ReadsSigned v most (Of z)) where
   back : to_z w64 (of_z w64 z) ≡ z
-  back = let h : mag z ≤ most = d.1 in to_z-of_z (record { sfits = omega arith })
+  back = let h : mag z ≤ most = d.1 in to_z-of_z {w = w64} (record { sfits = omega arith })
 
   pub part_size : mag (to_z w64 (of_z w64 z)) ≤ most
   part_size = rw back d.1
@@ -104,7 +104,7 @@ from_zero (negsuc n) e = untrue (sym e)
 -- the size of a number that is tested below zero, or from zero on
 module _ (z : ℤ) (h : mag z < 2147483648) where
   pub whole : to_z w64 (of_z w64 z) ≡ z
-  whole = to_z-of_z (record { sfits = omega arith })
+  whole = to_z-of_z {w = w64} (record { sfits = omega arith })
 
   pub size_is : (n : ℕ) → to_z w64 (of_z w64 z) ≡ signed (lt_z (to_z w64 (of_z w64 z)) (pos 0)) n → z ≡ signed (lt_z z (pos 0)) n
   size_is n e = rw whole at e

@@ -16,10 +16,10 @@ use Rattle.page.specs.Places.{InRange}
 use Rattle.commands.specs.declared.Number.TheVariants.{Not}
 use Rattle.commands.specs.declared.Spot.TheVariants.{Nowhere}
 use Rattle.commands.specs.declared.Command.{Command}
-use Rattle.commands.specs.declared.Command.TheVariants.{Nothing, Unknown, Format, Put, Lookup, Remove, Count, Row, Listing, Check, Counts, Pack, Resize, Inspect, Report}
+use Rattle.commands.specs.declared.Command.TheVariants.{Nothing, Unknown, Format, Put, Lookup, Remove, Count, Row, Listing, Check, Counts, Inspect, Report}
 use Rattle.commands.specs.Numbers.{Decimal, Integer, ReadsNumber}
 use Rattle.commands.specs.Codes.{Spells, Coded}
-use Rattle.commands.specs.Lines.{Spaceless, BehindWord, Placed, Places, Putting, PagesOf, Paged, Asks, WithinLimits, AsksNothing, Spoken, Uncoded, format_word, put_word, add_word, move_word, PutBy, lookup_word, remove_word, count_word, row_word, list_word, check_word, counts_word, pack_word, resize_word, inspect_word, report_word}
+use Rattle.commands.specs.Lines.{Spaceless, BehindWord, Placed, Places, Putting, Paged, Asks, WithinLimits, AsksNothing, Spoken, Uncoded, format_word, put_word, add_word, move_word, PutBy, lookup_word, remove_word, count_word, row_word, list_word, check_word, counts_word, inspect_word, report_word}
 use Rattle.commands.proofs.Unread.{split_one, no_space, digits_spaceless, integer_spaceless, spells_spaceless}
 
 -- ---- places
@@ -113,8 +113,6 @@ On w r j (Row n) = (w ≡ row_word) × Decimal n r
 On w r j Listing = ⊥
 On w r j Check = ⊥
 On w r j Counts = ⊥
-On w r j Pack = ⊥
-On w r j (Resize n) = (w ≡ resize_word) × Decimal n r
 On w r j (Inspect n) = (w ≡ inspect_word) × Decimal n r
 On w r j Report = (w ≡ report_word) × Unit {0}
 On w r j Unknown = ⊥
@@ -134,14 +132,12 @@ module _ (w r : List ℕ) (f : Spaceless w) (s : Spoken (w ++ (32 ∷ r))) where
   on j Listing a = no_space list_word w r (of_clear list_word refl) (sym a)
   on j Check a = no_space check_word w r (of_clear check_word refl) (sym a)
   on j Counts a = no_space counts_word w r (of_clear counts_word refl) (sym a)
-  on j Pack a = no_space pack_word w r (of_clear pack_word refl) (sym a)
-  on j (Resize n) a = word_is resize_word (Decimal n) refl a
   on j (Inspect n) a = word_is inspect_word (Decimal n) refl a
   on j Report a = word_is report_word (λ t. Unit {0}) refl a
   on j Unknown a = a
 
   -- a word and a number
-  module _ (u : Uncoded w) (unformat : w ≡ format_word → ⊥) (no : (n : ℕ) → n < 2 ^ 64 → Decimal n r → (w ≡ row_word) ⊎ ((w ≡ inspect_word) ⊎ (w ≡ resize_word)) → ⊥) where
+  module _ (u : Uncoded w) (unformat : w ≡ format_word → ⊥) (no : (n : ℕ) → n < 2 ^ 64 → Decimal n r → (w ≡ row_word) ⊎ (w ≡ inspect_word) → ⊥) where
     numbers : (j : List ℕ) (c : Command) → WithinLimits c → On w r j c → ⊥
     numbers j Nothing h o = o
     numbers j (Format n size) h o = unformat o.0
@@ -153,9 +149,7 @@ module _ (w r : List ℕ) (f : Spaceless w) (s : Spoken (w ++ (32 ∷ r))) where
     numbers j Listing h o = o
     numbers j Check h o = o
     numbers j Counts h o = o
-    numbers j Pack h o = o
-    numbers j (Resize n) h o = no n h o.1 (inr (inr o.0))
-    numbers j (Inspect n) h o = no n h o.1 (inr (inl o.0))
+    numbers j (Inspect n) h o = no n h o.1 (inr o.0)
     numbers j Report h o = u.report o.0
     numbers j Unknown h o = o
 
@@ -178,8 +172,6 @@ module _ (w r : List ℕ) (f : Spaceless w) (s : Spoken (w ++ (32 ∷ r))) where
     lookups e j Listing l o = o
     lookups e j Check l o = o
     lookups e j Counts l o = o
-    lookups e j Pack l o = o
-    lookups e j (Resize n) l o = apart 0 resize_word lookup_word w o.0 e (λ x. omega arith)
     lookups e j (Inspect n) l o = apart 0 inspect_word lookup_word w o.0 e (λ x. omega arith)
     lookups e j Report l o = apart 0 report_word lookup_word w o.0 e (λ x. omega arith)
     lookups e j Unknown l o = o
@@ -195,8 +187,6 @@ module _ (w r : List ℕ) (f : Spaceless w) (s : Spoken (w ++ (32 ∷ r))) where
     removes e j Listing l o = o
     removes e j Check l o = o
     removes e j Counts l o = o
-    removes e j Pack l o = o
-    removes e j (Resize n) l o = apart 2 resize_word remove_word w o.0 e (λ x. omega arith)
     removes e j (Inspect n) l o = apart 0 inspect_word remove_word w o.0 e (λ x. omega arith)
     removes e j Report l o = apart 2 report_word remove_word w o.0 e (λ x. omega arith)
     removes e j Unknown l o = o
@@ -221,8 +211,6 @@ module _ (w : List ℕ) (m : ℕ) (q : PutBy w m) (r k : List ℕ) where
     puts j Listing l h o = o
     puts j Check l h o = o
     puts j Counts l h o = o
-    puts j Pack l h o = o
-    puts j (Resize n) l h o = put_not resize_word refl w m q o.0
     puts j (Inspect n) l h o = put_not inspect_word refl w m q o.0
     puts j Report l h o = put_not report_word refl w m q o.0
     puts j Unknown l h o = o
@@ -259,8 +247,6 @@ module _ (r k : List ℕ) where
     formats j Listing h o = o
     formats j Check h o = o
     formats j Counts h o = o
-    formats j Pack h o = o
-    formats j (Resize n) h o = apart 0 resize_word format_word format_word o.0 refl (λ x. omega arith)
     formats j (Inspect n) h o = apart 0 inspect_word format_word format_word o.0 refl (λ x. omega arith)
     formats j Report h o = apart 0 report_word format_word format_word o.0 refl (λ x. omega arith)
     formats j Unknown h o = o
@@ -287,7 +273,7 @@ module _ (r k : List ℕ) where
     format_unsized q = no_format (λ n size h i x. q size i (paged n size x).1)
 
 -- a line of one word
-module _ (l : List ℕ) (f : Spaceless l) (s : Spoken l) (x : l ≡ count_word → ⊥) (y : l ≡ list_word → ⊥) (z : l ≡ check_word → ⊥) (u : l ≡ counts_word → ⊥) (v : l ≡ pack_word → ⊥) where
+module _ (l : List ℕ) (f : Spaceless l) (s : Spoken l) (x : l ≡ count_word → ⊥) (y : l ≡ list_word → ⊥) (z : l ≡ check_word → ⊥) (u : l ≡ counts_word → ⊥) where
   pub no_word : (k : List ℕ) → AsksNothing l k
   no_word k j Nothing m h a = ⊎_elim s.some s.said a
   no_word k j (Format n size) m h a = no_space l format_word a.rest f a.line
@@ -299,8 +285,6 @@ module _ (l : List ℕ) (f : Spaceless l) (s : Spoken l) (x : l ≡ count_word �
   no_word k j Listing m h a = y a
   no_word k j Check m h a = z a
   no_word k j Counts m h a = u a
-  no_word k j Pack m h a = v a
-  no_word k j (Resize n) m h a = no_space l resize_word a.rest f a.line
   no_word k j (Inspect n) m h a = no_space l inspect_word a.rest f a.line
   no_word k j Report m h a = no_space l report_word a.rest f a.line
   no_word k j Unknown m h a = a

@@ -6,7 +6,7 @@ use Rattle.commands.specs.Texts.{text}
 use Rattle.commands.specs.Numbers.{decimal, integer}
 use Rattle.commands.specs.Codes.{shown}
 use Rattle.commands.specs.declared.Fault.{Fault}
-use Rattle.commands.specs.declared.Fault.TheVariants.{Word, Escape, Range, Form, Long, Filled, Room, Grow, Cut}
+use Rattle.commands.specs.declared.Fault.TheVariants.{Word, Escape, Range, Form, Long, Filled, Room}
 
 -- q is p with the text w at `at`, up to r
 pub record Adds (w p : List ℕ) (at : ℕ) (q : List ℕ) (r : ℕ) : Type 0 where
@@ -40,9 +40,6 @@ reason n = get_or (
     text "the runs differ in length" ∷
     text "the code is there" ∷
     text "no such mode" ∷
-    text "not a line of the form asked" ∷
-    text "the index has too few pages" ∷
-    text "not the index of this store" ∷
     []) n []
 
 -- the number of the line, and the reason w
@@ -94,8 +91,6 @@ faulty at Form = text "unknown" ++ because at (text "its words are not those of 
 faulty at Long = text "unknown" ++ because at (text "over 4096 bytes")
 faulty at Filled = text "refused" ++ because at (text "the file is not empty, say format N anew")
 faulty at Room = text "refused" ++ because at (text "so large a store wants an empty file and a stack of 80 MB (ulimit -s 81920)")
-faulty at Grow = text "refused" ++ because at (text "so long a store wants another run and a stack of 80 MB (ulimit -s 81920)")
-faulty at Cut = text "refused 7" ++ because at (text "a page in use would be cut off, pack first")
 
 -- out begins with the text w as a line, r bytes long
 pub record Lines (w out : List ℕ) (r : ℕ) : Type 0 where

@@ -5,4 +5,3 @@ pub mod Lines
 pub mod Answers
 pub mod SheetLines
 pub mod Sums
-pub mod WorkedLines

@@ -8,7 +8,7 @@ use Rattle.commands.specs.Codes.{Coded}
 use Rattle.commands.specs.declared.Spot.{Spot}
 use Rattle.commands.specs.declared.Spot.TheVariants.{At, Nowhere}
 use Rattle.commands.specs.declared.Command.{Command}
-use Rattle.commands.specs.declared.Command.TheVariants.{Nothing, Unknown, Format, Put, Lookup, Remove, Count, Row, Listing, Check, Counts, Pack, Resize, Inspect, Report}
+use Rattle.commands.specs.declared.Command.TheVariants.{Nothing, Unknown, Format, Put, Lookup, Remove, Count, Row, Listing, Check, Counts, Inspect, Report}
 
 -- r is where w's first space stands, or w's length
 pub record FirstSpace (w : List ℕ) (r : ℕ) : Type 0 where
@@ -111,14 +111,6 @@ check_word = 99 ∷ 104 ∷ 101 ∷ 99 ∷ 107 ∷ []
 abbrev pub counts_word : List ℕ
 counts_word = 99 ∷ 111 ∷ 117 ∷ 110 ∷ 116 ∷ 115 ∷ []
 
--- "pack"
-abbrev pub pack_word : List ℕ
-pack_word = 112 ∷ 97 ∷ 99 ∷ 107 ∷ []
-
--- "resize"
-abbrev pub resize_word : List ℕ
-resize_word = 114 ∷ 101 ∷ 115 ∷ 105 ∷ 122 ∷ 101 ∷ []
-
 -- "inspect"
 abbrev pub inspect_word : List ℕ
 inspect_word = 105 ∷ 110 ∷ 115 ∷ 112 ∷ 101 ∷ 99 ∷ 116 ∷ []
@@ -139,8 +131,6 @@ Asks l k (Row n) = BehindWord l row_word (Decimal n)
 Asks l k Listing = l ≡ list_word
 Asks l k Check = l ≡ check_word
 Asks l k Counts = l ≡ counts_word
-Asks l k Pack = l ≡ pack_word
-Asks l k (Resize n) = BehindWord l resize_word (Decimal n)
 Asks l k (Inspect n) = BehindWord l inspect_word (Decimal n)
 Asks l k Report = BehindWord l report_word (λ w. Unit {0})
 Asks l k Unknown = ⊥
@@ -157,8 +147,6 @@ WithinLimits (Row n) = n < 2 ^ 64
 WithinLimits Listing = Unit {0}
 WithinLimits Check = Unit {0}
 WithinLimits Counts = Unit {0}
-WithinLimits Pack = Unit {0}
-WithinLimits (Resize n) = n < 2 ^ 64
 WithinLimits (Inspect n) = n < 2 ^ 64
 WithinLimits Report = Unit {0}
 WithinLimits Unknown = Unit {0}
@@ -179,8 +167,6 @@ Means l k (Row n) = Asks l k (Row n)
 Means l k Listing = Asks l k Listing
 Means l k Check = Asks l k Check
 Means l k Counts = Asks l k Counts
-Means l k Pack = Asks l k Pack
-Means l k (Resize n) = Asks l k (Resize n)
 Means l k (Inspect n) = Asks l k (Inspect n)
 Means l k Report = Asks l k Report
 Means l k Unknown = AsksNothing l k

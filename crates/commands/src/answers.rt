@@ -354,9 +354,6 @@ fn add_reason(out: &mut [u8], at: usize, number: usize, f: Refusal) -> usize
         Refusal::BadRuns => add_because(out, at, number, b"the runs differ in length"),
         Refusal::KnownCode => add_because(out, at, number, b"the code is there"),
         Refusal::BadMode => add_because(out, at, number, b"no such mode"),
-        Refusal::BadLine => add_because(out, at, number, b"not a line of the form asked"),
-        Refusal::IndexFull => add_because(out, at, number, b"the index has too few pages"),
-        Refusal::BadIndex => add_because(out, at, number, b"not the index of this store"),
     }
 }
 
@@ -483,18 +480,6 @@ fn fault_text(out: &mut [u8], number: usize, f: Fault) -> usize
             b"refused",
             number,
             b"so large a store wants an empty file and a stack of 80 MB (ulimit -s 81920)",
-        ),
-        Fault::Grow => add_fault(
-            out,
-            b"refused",
-            number,
-            b"so long a store wants another run and a stack of 80 MB (ulimit -s 81920)",
-        ),
-        Fault::Cut => add_fault(
-            out,
-            b"refused 7",
-            number,
-            b"a page in use would be cut off, pack first",
         ),
     }
 }

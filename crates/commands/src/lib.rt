@@ -1,4 +1,6 @@
 // One line of the program `lots` read as a command, and answers written as lines.
+#![tactic(auto)]
+
 mod answers;
 mod codes;
 mod lines;
@@ -16,7 +18,7 @@ pub use sums::{
 };
 
 // What a line asks. The code of a put, a lookup or a remove stands in the buffer that was lent; here is its length.
-#[derive(Drop)]
+#[derive(Clone, Copy)]
 pub enum Command {
     Nothing,
     Unknown,
@@ -32,26 +34,21 @@ pub enum Command {
     Check,
     // filled in, in a store that has none
     Counts,
-    // every bucket packed, and the pages renumbered
-    Pack,
-    // to so many pages
-    Resize(usize),
     Inspect(usize),
     // of a sheet, whose name is the rest of the line
     Report,
 }
 
 // What a line of a sheet is: nothing, a row's place and cents, or of another form.
-#[derive(Drop)]
+#[derive(Clone, Copy)]
 pub enum SheetLine {
     Passed,
     Amount(Place, i64),
     Other,
 }
 
-// Why a line is not obeyed, where no call was asked: its word, its code's text, a number, its words, its length; Filled: the file is not empty; Room and Grow: the run has no room for so large a store, of a format and of a
-// resize; Cut: a resize would cut off a page in use.
-#[derive(Drop)]
+// Why a line is not obeyed, where no call was asked: its word, its code's text, a number, its words, its length; Filled: the file is not empty; Room: the run has no room for so large a store.
+#[derive(Clone, Copy)]
 pub enum Fault {
     Word,
     Escape,
@@ -60,37 +57,35 @@ pub enum Fault {
     Long,
     Filled,
     Room,
-    Grow,
-    Cut,
 }
 
-#[derive(Drop)]
+#[derive(Clone, Copy)]
 enum Number {
     Is(usize),
     Not,
 }
 
-#[derive(Drop)]
+#[derive(Clone, Copy)]
 enum Signed {
     Of(i64),
     Other,
 }
 
 // One byte of a code, and how many bytes of text wrote it; 0 where none did.
-#[derive(Drop)]
+#[derive(Clone, Copy)]
 struct Glyph {
     byte: u8,
     size: usize,
 }
 
 // The length of a code, or no code.
-#[derive(Drop)]
+#[derive(Clone, Copy)]
 enum Decoded {
     Code(usize),
     Wrong,
 }
 
-#[derive(Drop)]
+#[derive(Clone, Copy)]
 enum Spot {
     At(Place),
     Nowhere,

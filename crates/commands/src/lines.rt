@@ -93,9 +93,6 @@ fn bare(line: &[u8]) -> Command
     if same(line, b"counts") {
         return Command::Counts;
     }
-    if same(line, b"pack") {
-        return Command::Pack;
-    }
     Command::Unknown
 }
 
@@ -136,9 +133,6 @@ fn numbered(word: &[u8], rest: &[u8]) -> Command
     }
     if same(word, b"inspect") {
         return Command::Inspect(n);
-    }
-    if same(word, b"resize") {
-        return Command::Resize(n);
     }
     Command::Unknown
 }

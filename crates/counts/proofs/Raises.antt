@@ -7,7 +7,7 @@ use native.Mathlib.Omega.{arith}
 use lib.ListN.{length, get_or, set, length-set}
 use lib.Seq.{get_or-set_same, get_or-set_other}
 use Rattle.ground.specs.Lists.{byte}
-use Rattle.ground.proofs.Sides.{side, same}
+use Rattle.ground.proofs.Sides.{side}
 use Rattle.words.specs.Le.{le32}
 use Rattle.words.specs.Moves.{Frame, Put32}
 use Rattle.words.proofs.Bytes.{le32_same}

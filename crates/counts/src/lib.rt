@@ -1,4 +1,6 @@
 // The counts in page 0: worked out from the pages, read, and kept.
+#![tactic(auto)]
+
 mod kept;
 mod tallies;
 

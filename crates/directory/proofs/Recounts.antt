@@ -10,14 +10,14 @@ use Rattle.words.specs.Moves.{Frame}
 use Rattle.words.proofs.Bytes.{le32_same}
 use Rattle.partition.specs.declared.Shape.{Shape}
 use Rattle.partition.proofs.Sizes.{twelve}
-use Rattle.store.specs.Pages.{size, pages, page, read, depth_on, contents, rows_in, rows_held, dir_depth, entry_at}
+use Rattle.store.specs.Pages.{size, pages, page, read, depth_on, contents, rows_in, rows_held, entry_at}
 use Rattle.store.specs.Counts.{buckets_at, counted}
 use Rattle.store.specs.Demands.{Sized}
 use Rattle.store.proofs.Counts.Words.{word_counts}
 use Rattle.store.proofs.Accepted.Unique.{read_zero, read_used}
 use Rattle.store.proofs.Accepted.Accepting.{contents_kept, page_kept}
 use Rattle.counts.specs.Tallies.{Tallied, BucketsCounted, CountsWritten, CountsNow}
-use Rattle.directory.specs.Directory.{CallsFor, EntryFor, none, names, Directed, SoundPage, free, used, Settling, Recounted}
+use Rattle.directory.specs.Directory.{EntryFor, none, names, Directed, SoundPage, free, used, Settling, Recounted}
 use Rattle.directory.proofs.Directories.{calls_same}
 
 module _ (S : Shape) (sized : Sized S) (s : List ℕ) (n : ℕ) (P : Settling S s n) where

@@ -1,4 +1,6 @@
 // Format, free pages, and depth and directory written from the pages.
+#![tactic(auto)]
+
 ghost use Rattle.ground.specs.Ladder.{Answers};
 ghost use Rattle.ground.specs.Says.{Says};
 ghost use Rattle.store.specs.Demands.{Sized};

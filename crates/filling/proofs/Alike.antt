@@ -2,9 +2,8 @@
 use mathlib.Core.Path.{◌≡◌, refl, sym, ap, subst, subst₂, ◌∙◌}
 use mathlib.Core.List.{List, [], ◌∷◌, ◌++◌}
 use mathlib.Core.Logic.{◌⊎◌, inl, inr, ◌↔◌}
-use Prim.Native.Nat.{ℕ, zero, suc, ◌+◌, ◌-◌, ◌*◌, ◌/◌, ◌%◌, ◌^◌, ◌≤◌, ◌<◌}
+use Prim.Native.Nat.{ℕ, zero, suc, ◌+◌, ◌-◌, ◌*◌, ◌/◌, ◌^◌, ◌≤◌, ◌<◌}
 use native.Mathlib.Omega.{arith}
-use lib.ListN.{length}
 use Rattle.ground.specs.Lists.{byte, tab}
 use Rattle.words.specs.Moves.{Frame}
 use Rattle.words.proofs.Bytes.{le32_below, le32_above}
@@ -13,7 +12,7 @@ use Rattle.partition.specs.Bits.{top}
 use Rattle.partition.specs.declared.Shape.{Shape}
 use Rattle.partition.specs.Partition.{rows_of, needs}
 use Rattle.store.specs.Pages.{size, pages, page, dir_depth, entry_at, contents, rows_in, deepest_in}
-use Rattle.store.specs.Accepted.{GoodLength, Zero, Bucket, Page1, Calls, Stands, unused, used, Parted, Deepest, Rule, rule, upward, in_turn, Every, Stops}
+use Rattle.store.specs.Accepted.{Zero, Bucket, Page1, Calls, Stands, unused, used, Parted, Deepest, Rule, rule, upward, in_turn, Every, Stops}
 use Rattle.store.specs.Demands.{Sized}
 use Rattle.store.proofs.Accepted.Rules.{stops_not}
 use Rattle.store.proofs.Accepted.Accepting.{page_kept, contents_kept}

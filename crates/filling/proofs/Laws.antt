@@ -1,9 +1,9 @@
 -- What the call's table comes to: settled, answered, exact; what the filled store is, and what a store with counts is answered. Over any page size. Assumes nothing.
 use mathlib.Core.Path.{◌≡◌, refl, sym, ap, subst, ◌∙◌}
 use mathlib.Core.Bool.{true, false, true≢false}
-use mathlib.Core.List.{List, [], ◌∷◌, ◌++◌, flat_map}
+use mathlib.Core.List.{List, [], ◌∷◌, flat_map}
 use mathlib.Core.Logic.{◌⊎◌, inl, inr, ⊎_elim, ◌↔◌}
-use Prim.Native.Nat.{ℕ, zero, suc, ◌+◌, ◌-◌, ◌*◌, ◌/◌, ◌≤◌, ◌<◌}
+use Prim.Native.Nat.{ℕ, zero, suc, ◌+◌, ◌-◌, ◌*◌, ◌/◌, ◌<◌}
 use native.Mathlib.Omega.{arith}
 use lib.ListN.{length, length-append, length-map}
 use Rattle.ground.specs.Ladder.{Answers, rung, given, ends, answer}
@@ -16,8 +16,8 @@ use Rattle.words.proofs.Bytes.{le32_byte}
 use Rattle.page.specs.Page.{count, row_at, rows}
 use Rattle.partition.specs.declared.Shape.{Shape}
 use Rattle.store.specs.Pages.{pages, page, Page, free, read, contents, as_row, rows_on, rows_in, rows_held}
-use Rattle.store.specs.Accepted.{GoodLength, Stands, unused, used, Accepted, Broken, AcceptedBefore, BrokenBefore}
-use Rattle.store.specs.Counts.{buckets_at, counted}
+use Rattle.store.specs.Accepted.{GoodLength, Stands, unused, used, Accepted, AcceptedBefore, BrokenBefore}
+use Rattle.store.specs.Counts.{counted}
 use Rattle.store.specs.Tables.{Out, refused, refused_at, formatted, accepted, new, replaced, found, counted as tally, row, Refusal1}
 use Rattle.store.specs.Demands.{Sized, WholePages, ok}
 use Rattle.store.proofs.Accepted.Format.{good_stable}

@@ -2,7 +2,7 @@
 use mathlib.Core.Path.{◌≡◌, sym, ap, subst, ◌∙◌}
 use mathlib.Core.List.{List, [], ◌∷◌}
 use mathlib.Core.Logic.{◌⊎◌, inl, inr, ⊎_elim}
-use Prim.Native.Nat.{ℕ, ◌+◌, ◌*◌, ◌/◌, ◌%◌, ◌≤◌, ◌<◌}
+use Prim.Native.Nat.{ℕ, ◌+◌, ◌/◌, ◌%◌, ◌≤◌, ◌<◌}
 use native.Mathlib.Decide.{map_dec, ℕ_discrete, dec_le}
 use native.Mathlib.Nat.{le_trans, div-add-mod'}
 use native.Mathlib.Omega.{arith}
@@ -14,7 +14,7 @@ use Rattle.words.specs.Moves.{Frame}
 use Rattle.words.proofs.Bytes.{le32_below}
 use Rattle.partition.specs.declared.Shape.{Shape}
 use Rattle.store.specs.Pages.{size, pages, page}
-use Rattle.store.specs.Accepted.{GoodLength, Page0From, Page0, Stands, unused, used, rule, rules, rules_before, Every, Stops, Accepted, Broken, AcceptedBefore, BrokenBefore}
+use Rattle.store.specs.Accepted.{GoodLength, Page0From, Page0, Stands, unused, used, rule, rules, rules_before, Accepted, Broken, AcceptedBefore, BrokenBefore}
 use Rattle.store.specs.Counts.{Counts}
 use Rattle.store.specs.Demands.{Sized, StopsAt, page_0, page_1, first_pass, second_pass, depth_0, counts}
 use Rattle.store.proofs.Accepted.Rules.{stops_one, stops_not, opened, broken_stops, at_0, at_1, at_first, at_second, at_depth, all_in_turn, all_stand}

@@ -1,11 +1,10 @@
 -- The filled store exists, and is one: the counts' bytes written out. Over any page size. Assumes nothing.
-use mathlib.Core.Path.{◌≡◌, refl, sym, ap, subst, ◌∙◌}
+use mathlib.Core.Path.{◌≡◌, refl, sym, ap, ◌∙◌}
 use mathlib.Core.List.{List}
 use mathlib.Core.Logic.{◌⊎◌, inl, inr, ⊎_elim}
 use Prim.Native.Nat.{ℕ, zero, suc, ◌+◌, ◌-◌, ◌*◌, ◌/◌, ◌%◌, ◌≤◌, ◌<◌}
 use native.Mathlib.Omega.{arith}
-use native.Mathlib.Nat.{div-add-mod'}
-use lib.ListN.{length, get_or, get_or-eq_default}
+use lib.ListN.{length, get_or-eq_default}
 use lib.Seq.{ext_get_or}
 use Rattle.ground.specs.Lists.{byte, tab}
 use Rattle.ground.proofs.Sides.{side}
@@ -14,9 +13,9 @@ use Rattle.words.specs.Le.{le16, le32, bytes}
 use Rattle.words.specs.Moves.{Frame}
 use Rattle.words.proofs.Bytes.{le32_byte, le32_moved, small_bytes}
 use Rattle.partition.specs.declared.Shape.{Shape}
-use Rattle.store.specs.Pages.{size, pages, page, read, contents}
+use Rattle.store.specs.Pages.{size, pages, contents}
 use Rattle.store.specs.Accepted.{GoodLength}
-use Rattle.store.specs.Counts.{Counts, counted}
+use Rattle.store.specs.Counts.{counted}
 use Rattle.store.specs.Demands.{Sized}
 use Rattle.store.proofs.Accepted.Accepting.{contents_kept}
 use Rattle.store.proofs.Accepted.Unique.{within}

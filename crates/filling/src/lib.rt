@@ -1,4 +1,6 @@
 // The call that fills in the counts of a store that meets the old rules.
+#![tactic(auto)]
+
 ghost use Rattle.ground.specs.Ladder.{Answers};
 ghost use Rattle.hash.specs.Fnv.{fnv};
 ghost use Rattle.partition.specs.Sizes.{shape_of};

@@ -1,5 +1,5 @@
 -- Laws of tables and totals. Assumes nothing.
-use Prim.Native.Nat.{ℕ, zero, suc, ◌+◌, ◌-◌, ◌≤◌, ◌<◌, suc-le-suc, zero-le}
+use Prim.Native.Nat.{ℕ, zero, suc, ◌+◌, ◌≤◌, ◌<◌, suc-le-suc, zero-le}
 use mathlib.Core.Path.{◌≡◌, refl, ap}
 use mathlib.Core.List.{◌∷◌, map}
 use native.Mathlib.Omega.{arith}

@@ -11,7 +11,7 @@ use Rattle.fnv.specs.Fnv.Laws.{ends, goes_on}
 -- one list after the other
 each_append : (h : ℕ) (xs ys : List ℕ) → each h (xs ++ ys) ≡ each (each h xs) ys
 each_append h [] ys = ap (λ x. each x ys) (sym (ends h))
-each_append h (b ∷ c) ys = goes_on h b (c ++ ys) ∙ each_append _ c ys ∙ ap (λ x. each x ys) (sym (goes_on h b c))
+each_append h (b ∷ c) ys = goes_on h b (c ++ ys) ∙ each_append (bit_xor h b * 16777619 % 2 ^ 32) c ys ∙ ap (λ x. each x ys) (sym (goes_on h b c))
 
 -- no byte
 pub none : (s : List ℕ) (h i n : ℕ) → n ≡ 0 → h ≡ each h (take n (drop i s))

@@ -1,4 +1,6 @@
 // The hash of a code: FNV-1a, 32 bits. What stands above sees only the promises of `hash`, `hash_part` and `hash_two`.
+#![tactic(auto)]
+
 ghost use Rattle.std.specs.Prelude.{◌≡◌, ◌+◌, ◌-◌, ◌*◌, ◌/◌, ◌%◌, ◌^◌, ◌≤◌, length, take, drop};
 ghost use Rattle.std.specs.Int.Bits.{bit_xor};
 ghost use Rattle.fnv.specs.Fnv.{each};
@@ -6,7 +8,7 @@ ghost use Rattle.hash.specs.Fnv.{fnv};
 ghost use Rattle.hash.specs.Parts.{PartOf};
 
 // The hashes of two codes.
-#[derive(Drop)]
+#[derive(Clone, Copy)]
 pub struct Hashes {
     pub first: u32,
     pub second: u32,

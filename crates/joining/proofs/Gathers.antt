@@ -15,17 +15,16 @@ use Rattle.words.proofs.Orders.{order_refl, order_eq}
 use Rattle.page.specs.Page.{Record, Slotted, BucketPage, Belongs, rows, row_at, count, code, place, frontier, depth, free as spare}
 use Rattle.page.specs.Steps.{Insertable, Inserted}
 use Rattle.page.proofs.Sums.{count_more, slot_code}
-use Rattle.partition.specs.Partition.{Row, record_length, row_need, need, needs, Reordered, front, chain}
+use Rattle.partition.specs.Partition.{Row, need, needs, Reordered, front, chain}
 use Rattle.partition.specs.Listing.{by, insert, without, in_order, place_of, Once}
 use Rattle.partition.proofs.Reorders.{same_order, turned, append_same, needs_same, needs_append, to_front}
 use Rattle.partition.proofs.Maps.{cut, passed}
-use Rattle.partition.proofs.Rows.{body_short}
 use Rattle.partition.proofs.Rising.{by_ne, insert_map}
 use Rattle.partition.proofs.Sorted.{by_code, same_map, in_order_reordered, order_put}
 use Rattle.store.specs.Pages.{Page, free, read, as_row, rows_on, rows_in}
 use Rattle.store.specs.Moves.{pick, within, record_at, frontier_of, at_frontier}
 use Rattle.store.proofs.Accepted.Unique.{read_used}
-use Rattle.store.proofs.Paging.PageTies.{rows_tab, page_needs, page_order, page_frontier, inserted_rows, inserted_sorted, found_at}
+use Rattle.store.proofs.Paging.PageTies.{rows_tab, page_needs, page_order, page_frontier, inserted_rows, found_at}
 use Rattle.joining.specs.Join.{Housed, Tight, Taking, Gathered, Storable, row_with, rows_at, others_in}
 
 -- ---- rows left out of lists
@@ -100,7 +99,7 @@ module _ {p q : List ℕ} {rs : List Row} (xs rest : List Row) (k : Coming p rs 
 -- ---- one row
 
 end_of : Record → ℕ
-end_of r = r.start + record_length r.code
+end_of r = r.start + (8 + length r.code)
 
 front_insert : (r : Record) (l : List Record) → frontier_of (insert (λ q. q.code) r l) ≡ max (end_of r) (frontier_of l)
 unfolding frontier_of insert end_of
@@ -127,25 +126,25 @@ module _ (p c pl : List ℕ) (K : Storable c pl) (T : Taking p (row_with c pl �
   not_there : place_of (rows_at p) c ≡ none
   not_there = (same_map last_first T.all.once).0.0
 
-  fits : row_need c ≤ spare p
+  fits : 12 + length c ≤ spare p
   unfolding needs need
   fits = omega (arith, T.all.fit, needs_same last_first, page_needs p P)
 
   pub row_fits : (i : ℕ) → Belongs p i c → Insertable p i c pl
   row_fits i b = record {
     page = P;
-    within = b.within;
+    belongs = b;
     natural = K.natural;
     good = K.good;
     fits = fits;
-    room = omega (arith, fits, body_short (length c) K.good.most, T.tight.full);
+    room = omega (arith, fits, T.tight.full);
   }
 
   pub row_added : (i : ℕ) (q : List ℕ) → Belongs p i c → Inserted p i c pl q → Gathered p (r ∷ []) q
   unfolding at_frontier needs need end_of
   row_added i q b I = record {
     long = I.long;
-    tight = record { page = I.page; sorted = inserted_sorted p i c pl q T.tight.sorted b I; full = full };
+    tight = record { page = I.page; full = full };
     deep = I.deep;
     all = chain (subst (λ l. Reordered l (r ∷ rows_at p)) (sym put) (in_order_reordered (r ∷ rows_at p))) (turned last_first);
   }
@@ -156,17 +155,17 @@ module _ (p c pl : List ℕ) (K : Storable c pl) (T : Taking p (row_with c pl �
       put : rows_at q ≡ in_order (r ∷ rows_at p)
       put =
           ap (map as_row) its ∙ insert_map (λ x. x.code) (λ x. x.code) as_row (λ x. refl) (record_at (frontier_of (rows p)) r) (rows p)
-          ∙ ap (insert by_code r) (sym (page_order p T.tight.sorted)) ∙ sym (order_put r (rows_at p))
+          ∙ ap (insert by_code r) (sym (page_order p P)) ∙ sym (order_put r (rows_at p))
 
       full : frontier q + 4 * count q + spare q ≡ length q
       full =
-          let f : frontier q ≡ max (frontier p + record_length c) (frontier p) =
-          page_frontier q I.page ∙ ap frontier_of its ∙ front_insert (record_at (frontier_of (rows p)) r) (rows p) ∙ ap (λ n. max (n + record_length c) n) (sym (page_frontier p P)) in
+          let f : frontier q ≡ max (frontier p + (8 + length c)) (frontier p) =
+          page_frontier q I.page ∙ ap frontier_of its ∙ front_insert (record_at (frontier_of (rows p)) r) (rows p) ∙ ap (λ n. max (n + (8 + length c)) n) (sym (page_frontier p P)) in
           let n : needs (rows_at q) ≡ needs (r ∷ rows_at p) = ap needs put ∙ needs_same (in_order_reordered (r ∷ rows_at p)) in
           omega (arith, f, n, fits, count_more p i c pl q I b.within, page_needs p P, page_needs q I.page, I.long, T.tight.full)
 
   pub row_known : (i : ℕ) → i < count p → code p i ≡ c → ⊥
-  row_known i l e = none_some not_there (found_at p T.tight.sorted c i l e)
+  row_known i l e = none_some not_there (found_at p P c i l e)
 
 -- ---- a page's rows
 

@@ -22,7 +22,7 @@ use Rattle.partition.specs.declared.Shape.{Shape}
 use Rattle.store.specs.Pages.{size, pages, Page, free, bucket, page, read, contents, as_row, set_page}
 use Rattle.store.specs.Moves.{pick, find, within, pack_from}
 use Rattle.store.proofs.Accepted.Unique.{held}
-use Rattle.store.proofs.Paging.PageTies.{page_needs, page_once, page_order, packed_rows, packed_sorted, read_cleared, read_slotted}
+use Rattle.store.proofs.Paging.PageTies.{page_needs, page_once, page_order, packed_rows, read_cleared, read_slotted}
 use Rattle.store.proofs.Paging.Views.{set_long, set_same, set_other, set_below, set_contents}
 use Rattle.store.proofs.Showing.Shown.{find_passes}
 use Rattle.store.proofs.Showing.Showing.{pages_held}
@@ -52,7 +52,6 @@ unfolding needs
 fresh_taking {p} {d} {q} rs F h = record {
   tight = record {
     page = F.page;
-    sorted = record { ascending = λ i j a b. absurd (omega (arith, F.none)) };
     full = omega (arith, F.none, F.page.empty F.none, page_needs q F.page, F.page.least, ap needs (no_rows q F.none));
   };
   all = subst₂ (λ m x. Housed m (x ++ rs)) (sym F.long) (sym (no_rows q F.none)) h;
@@ -76,7 +75,7 @@ module _ (S : Shape) (h : List ℕ → ℕ) (s : List ℕ) (n x j : ℕ) (c : Li
     all = subst (λ x. Reordered (rows_at g) (x ++ others_in h j v c gs)) (no_rows q F.none) G.all
 
     sorted : rows_at g ≡ in_order (others_in h j v c gs)
-    sorted = sym (page_order g G.tight.sorted) ∙ order_same all (page_once g G.tight.sorted)
+    sorted = sym (page_order g G.tight.page) ∙ order_same all (page_once g G.tight.page)
 
     some : 1 ≤ count g
     unfolding needs
@@ -89,7 +88,7 @@ module _ (S : Shape) (h : List ℕ → ℕ) (s : List ℕ) (n x j : ℕ) (c : Li
         zero_needs z = omega (arith, J.some, needs_same all, ap needs (no_rows g z))
 
     its : BucketPage k
-    its = record { rules = K.page; sorted = packed_sorted g k G.tight.sorted K; some = omega (arith, some, K.counted) }
+    its = record { rules = K.page; some = omega (arith, some, K.counted) }
 
     deep : depth k ≡ j
     deep = K.deep ∙ G.deep ∙ F.deep

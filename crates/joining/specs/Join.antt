@@ -2,7 +2,7 @@
 use Rattle.std.specs.Prelude.{◌≡◌, Bool, true, List, [], ◌∷◌, ◌++◌, map, ℕ, ◌+◌, ◌*◌, ◌≤◌, ◌<◌, length, set, replicate}
 use Rattle.ground.specs.Lists.{byte}
 use Rattle.words.specs.Codes.{GoodCode}
-use Rattle.page.specs.Page.{Slotted, Sorted, Natural, rows, depth, count, code, place, frontier, free as spare}
+use Rattle.page.specs.Page.{Slotted, Natural, rows, depth, count, code, place, frontier, free as spare}
 use Rattle.partition.specs.Bits.{top}
 use Rattle.partition.specs.declared.Shape.{Shape}
 use Rattle.partition.specs.Partition.{Row, needs, Reordered}
@@ -21,10 +21,9 @@ pub record Housed (bytes : ℕ) (rs : List Row) : Type 0 where
   pub once : Once rs
   pub fit : 8 + needs rs ≤ bytes
 
--- a page in order, with no gap between its records
+-- a page with no gap between its records
 pub record Tight (p : List ℕ) : Type 0 where
   pub page : Slotted p
-  pub sorted : Sorted p
   pub full : frontier p + 4 * count p + spare p ≡ length p
 
 abbrev pub rows_at : List ℕ → List Row

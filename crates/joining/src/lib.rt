@@ -1,4 +1,6 @@
 // Buckets joined: how far up a prefix's rows fit, and their rows packed into one page.
+#![tactic(auto)]
+
 mod join;
 mod prefix;
 

@@ -1,43 +1,34 @@
 -- What a line, and a quiet session, leave of the store. Assumes nothing.
-use Rattle.std.proofs.Common.{◌≡◌, ℕ, zero, suc, ◌+◌, ◌-◌, ◌*◌, ◌/◌, ◌<◌, ◌≤◌, Bool, true, false, List, [], ◌∷◌, ◌++◌, length, take, drop, sym, refl, ap, ◌∙◌, subst, ⊎_elim, true≢false, mul-le-mul_right, suc-mul, div-mul-le_self, arith, take-append-drop, length-take-le, take_at}
-use mathlib.Core.Option.{none}
+use Rattle.std.proofs.Common.{◌≡◌, ℕ, suc, ◌+◌, ◌-◌, ◌*◌, ◌/◌, ◌<◌, ◌≤◌, Bool, true, false, List, ◌++◌, length, take, drop, sym, refl, ap, ◌∙◌, subst, ⊎_elim, true≢false, mul-le-mul_right, suc-mul, div-mul-le_self, arith, take-append-drop, length-take-le, take_at}
 use native.Mathlib.Nat.{sub-zero}
-use lib.ListN.{get_elem?}
 use Rattle.commands.specs.declared.Command.{Command}
-use Rattle.commands.specs.declared.Command.TheVariants.{Nothing, Unknown, Format, Put, Lookup, Remove, Count, Row, Listing, Check, Counts, Pack, Resize, Inspect, Report}
+use Rattle.commands.specs.declared.Command.TheVariants.{Nothing, Unknown, Format, Put, Lookup, Remove, Count, Row, Listing, Check, Counts, Inspect, Report}
 use Rattle.ground.specs.Ladder.{Answers}
 use Rattle.ground.proofs.Ladders.{each}
 use Rattle.ground.specs.Says.{Says}
 use Rattle.ground.proofs.Sides.{side}
-use Rattle.ground.proofs.Tests.{none_some, says_true}
+use Rattle.ground.proofs.Tests.{says_true}
 use Rattle.hash.specs.Fnv.{fnv, fnv_lt}
 use Rattle.partition.specs.declared.Shape.{Shape}
-use Rattle.partition.specs.Listing.{listing}
 use Rattle.partition.specs.Sizes.{size, shape_of}
 use Rattle.partition.proofs.Sizes.{sized_of}
 use Rattle.any_size.proofs.Rows.{said_of, short}
 use Rattle.any_size.proofs.Calls.{formats}
 use Rattle.any_size.proofs.Histories.{own_second}
-use Rattle.partition.specs.Partition.{Row as StoredRow}
-use Rattle.partition.proofs.Reorders.{length_same}
 use Rattle.store.specs.Accepted.{Accepted}
 use Rattle.page.specs.declared.Place.{Place}
-use Rattle.store.specs.Demands.{Call, Made, Sized, put, remove, pack as a_pack, ok}
-use Rattle.store.specs.Packing.{pack_table}
-use Rattle.store.specs.Pages.{rows_held}
-use Rattle.store.specs.Tables.{Out, refused, refused_at, formatted, counted, check_table, format_sized, put_table, remove_table}
+use Rattle.store.specs.Demands.{Call, Made, put, remove, ok}
+use Rattle.store.specs.Tables.{Out, refused, refused_at, check_table, format_sized, put_table, remove_table}
 use Rattle.store.proofs.Accepted.Format.{accepted_always}
 use Rattle.store.proofs.Demands.Kept.{refusal_keeps}
-use Rattle.store.proofs.Showing.Walked.{listed_once}
 use Rattle.lots.specs.declared.Outcome.{Outcome}
-use Rattle.lots.specs.declared.Outcome.TheVariants.{Silent, Unknown as NotKnown, Told, Changed, Listed, Format as Formats, Resize as Resizes, Stopped}
+use Rattle.lots.specs.declared.Outcome.TheVariants.{Silent, Unknown as NotKnown, Told, Changed, Listed, Format as Formats, Stopped}
 use Rattle.lots.specs.declared.Session.{Session}
 use Rattle.lots.specs.Known.{Known}
 use Rattle.filling.specs.Filling.{fill_table}
 use Rattle.filling.proofs.Laws.{fill_laws, fill_done}
 use Rattle.lots.specs.Obeys.{Outcomes, Passes, TellsOnly, TellsNumber, Untouched, ListAsked, PageAsked, InspectAsked, Does, Obeys}
 use Rattle.store.proofs.Demands.Unchecked.{check_says}
-use Rattle.store.proofs.Packing.Archives.{pack_archives}
 use Rattle.lots.specs.Sessions.{Leaves, After, Alike, AsRead, Changes, Learnt, SessionHolds, Kept}
 
 -- a check that is no refusal accepts
@@ -62,7 +53,6 @@ counts_room s a = omega (arith, page_inside 0 (size (shape_of s)) (length s) (om
 told_leaves : (a : Out) (o : Outcome) (s t : List ℕ) → (ok a ≡ false → t ≡ s) → Outcomes a o → Leaves o → t ≡ s
 told_leaves a (Told x) s t f r l = f r.1
 told_leaves a (Formats n size) s t f r l = absurd r
-told_leaves a (Resizes n) s t f r l = absurd r
 told_leaves a Silent s t f r l = absurd r
 told_leaves a NotKnown s t f r l = absurd r
 told_leaves a (Listed n) s t f r l = absurd r
@@ -76,8 +66,6 @@ does_leaves : (k : List ℕ) (c : Command) (s : List ℕ) (o : Outcome) (t : Lis
 does_leaves k (Put n p m) s o t d l = made_leaves (put (take n k) p m) s d.answer o t d.made d.told l
 does_leaves k (Remove n) s o t d l = made_leaves (remove (take n k)) s d.answer o t d.made d.told l
 does_leaves k (Format n size) s o t d l = d.1
-does_leaves k (Resize n) s o t d l = d.1
-does_leaves k Pack s o t d l = told_leaves d.answer o s t (refusal_keeps (shape_of s) fnv a_pack s d.answer t d.made) d.told l
 does_leaves k Nothing s o t d l = d.1
 does_leaves k Unknown s o t d l = d.1
 does_leaves k (Lookup n) s o t d l = d.1
@@ -102,13 +90,6 @@ passes_untouched (Told x) p = tt
 passes_untouched (Listed n) p = tt
 passes_untouched (Changed x) p = p
 passes_untouched (Formats n size) p = p
-passes_untouched (Resizes n) p = p
-
--- packing that is not refused answers a number of pages
-pack_told : (S : Shape) (s : List ℕ) (x : Out × List ℕ) → Answers (pack_table S fnv s) x → ok x.0 ≡ true → (n : ℕ) × (x.0 ≡ counted n)
-unfolding pack_table
-pack_told S s = each (λ x. ok x.0 ≡ true → (n : ℕ) × (x.0 ≡ counted n)) (pack_table S fnv s)
-    ((λ _ _ x e f. absurd (true≢false (sym f ∙ ap (λ y. ok y.0) e))), (λ _. ((λ _ _ x e f. absurd (true≢false (sym f ∙ ap (λ y. ok y.0) e))), (λ _ _ x w f. (_, w.0)))))
 
 -- the store that a call leaves of one that is known to be accepted: accepted again, and as long
 pub record Still (s t : List ℕ) : Type 0 where
@@ -136,26 +117,10 @@ still_filled s o t a m = go (ok o) refl
     go true e = still_done s o t m e
     go false e = still_same s t a ((fill_laws (shape_of s) fnv (sized_of s)).kept s o t m e)
 
--- and of one that is packed
-packed_done : (s : List ℕ) (o : Out) (t : List ℕ) → Answers (pack_table (shape_of s) fnv s) (o, t) → ok o ≡ true → Still s t
-packed_done s o t m e =
-    let n = pack_told (shape_of s) s (o, t) m e in
-    let x = pack_archives (shape_of s) fnv (sized_of s) fnv_lt s n.0 t (subst (λ a. Answers (pack_table (shape_of s) fnv s) (a, t)) n.1 m) in
-    record { again = subst (λ S. Accepted S fnv t) (sym (said_of fnv s t x.0.accepted)) x.0.accepted; long = x.2 }
-
-still_packed : (s : List ℕ) (o : Out) (t : List ℕ) → Accepted (shape_of s) fnv s → Answers (pack_table (shape_of s) fnv s) (o, t) → Still s t
-still_packed s o t a m = go (ok o) refl
-  where
-    go : (b : Bool) → ok o ≡ b → Still s t
-    go true e = packed_done s o t m e
-    go false e = still_same s t a (refusal_keeps (shape_of s) fnv a_pack s o t m e)
-
 does_still : (k : List ℕ) (c : Command) (s : List ℕ) (o : Outcome) (t : List ℕ) → Does k c s o t → Accepted (shape_of s) fnv s → Still s t
 does_still k (Put n p m) s o t d a = still_made (put (take n k) p m) s d.answer t a d.made
 does_still k (Remove n) s o t d a = still_made (remove (take n k)) s d.answer t a d.made
 does_still k (Format n size) s o t d a = still_same s t a d.1
-does_still k (Resize n) s o t d a = still_same s t a d.1
-does_still k Pack s o t d a = still_packed s d.answer t a d.made
 does_still k Nothing s o t d a = still_same s t a d.1
 does_still k Unknown s o t d a = still_same s t a d.1
 does_still k (Lookup n) s o t d a = still_same s t a d.1
@@ -173,7 +138,6 @@ told_done : (a : Out) (o : Outcome) → Outcomes a o → Changes o → ok a ≡ 
 told_done a (Changed x) r c = r.1
 told_done a (Told x) r c = absurd c
 told_done a (Formats n size) r c = absurd c
-told_done a (Resizes n) r c = absurd c
 told_done a Silent r c = absurd c
 told_done a NotKnown r c = absurd c
 told_done a (Listed n) r c = absurd c
@@ -183,7 +147,6 @@ unchanged : (o : Outcome) → Untouched o → Changes o → ⊥
 unchanged (Changed x) u c = u
 unchanged (Told x) u c = c
 unchanged (Formats n size) u c = c
-unchanged (Resizes n) u c = c
 unchanged Silent u c = c
 unchanged NotKnown u c = c
 unchanged (Listed n) u c = c
@@ -215,7 +178,6 @@ reads_untouched a (Told x) p = tt
 reads_untouched a (Listed n) p = tt
 reads_untouched a (Changed x) p = p
 reads_untouched a (Formats n size) p = p
-reads_untouched a (Resizes n) p = p
 
 pub numbers_untouched : (n : ℕ) (o : Outcome) → TellsNumber n o → Untouched o
 numbers_untouched n NotKnown p = tt
@@ -225,7 +187,6 @@ numbers_untouched n (Told x) p = tt
 numbers_untouched n (Listed m) p = tt
 numbers_untouched n (Changed x) p = p
 numbers_untouched n (Formats m size) p = p
-numbers_untouched n (Resizes m) p = p
 
 -- inspect changes nothing, whichever of its ways it goes
 page_unchanged : {g : List ℕ} (o : Outcome) → PageAsked g o → Changes o → ⊥
@@ -249,8 +210,6 @@ does_changed k (Remove n) s o t d w =
     still_made (remove (take n k)) s d.answer t (remove_on (shape_of s) s (take n k) (d.answer, t) d.made (told_done d.answer o d.told w)) d.made
 does_changed k Counts s o t d w = still_done s d.answer t d.made (told_done d.answer o d.told w)
 does_changed k (Format n size) s o t d w = absurd (subst Changes d.0 w)
-does_changed k (Resize n) s o t d w = absurd (subst Changes d.0 w)
-does_changed k Pack s o t d w = packed_done s d.answer t d.made (told_done d.answer o d.told w)
 does_changed k Nothing s o t d w = absurd (subst Changes d.0 w)
 does_changed k Unknown s o t d w = absurd (unchanged o (passes_untouched o d.0) w)
 does_changed k (Lookup n) s o t d w = absurd (unchanged o (reads_untouched d.0.answer o d.0.told) w)
@@ -321,7 +280,6 @@ unformatted n s o t m e = ⊎_elim (λ f. absurd (true≢false (sym (ap ok f.1) 
 pub done_loud : (a : Out) (o : Outcome) → Outcomes a o → Leaves o → ok a ≡ true → ⊥
 done_loud a (Told x) r l e = true≢false (sym e ∙ r.1)
 done_loud a (Formats n size) r l e = r
-done_loud a (Resizes n) r l e = r
 done_loud a Silent r l e = r
 done_loud a NotKnown r l e = r
 done_loud a (Listed n) r l e = r
@@ -334,9 +292,9 @@ part_back xs ys a n e = ap (λ l. take a xs ++ (l ++ drop n (drop a xs))) e ∙ 
 
 -- one step after another
 pub then : {z y r : Session} {s t u : List ℕ} → Kept z s y t → Kept y t r u → Kept z s r u
-then {s = s} {t = t} {u = u} a b = record {
+then a b = record {
   quiet = λ q. a.quiet (b.quiet q);
-  same = λ q. subst (λ n. take n u ≡ take n t) (a.long (b.quiet q)) (b.same q) ∙ a.same (b.quiet q);
+  same = λ q. b.same q ∙ a.same (b.quiet q);
   long = λ q. b.long q ∙ a.long (b.quiet q);
   holds = b.holds;
 }
@@ -359,7 +317,7 @@ beside a h = record {
 
 -- what was read is the same twice
 pub as_read : {z y r : Session} → AsRead z y → AsRead y r → AsRead z r
-as_read a b = record { number = b.number ∙ a.number; line = b.line ∙ a.line; quit = b.quit ∙ a.quit }
+as_read a b = record { line = b.line ∙ a.line; quit = b.quit ∙ a.quit }
 
 -- the line is counted first
 pub after_counted : {z y r : Session} {o : Outcome} → Alike z y → AsRead z y → After y o r → After z o r
@@ -373,20 +331,20 @@ after_counted k f a = record {
 
 -- a line's outcome is taken into the session
 pub taken_in : {z r : Session} {o : Outcome} {s t : List ℕ} → After z o r → (Leaves o → t ≡ s) → SessionHolds z t → Kept z s r t
-taken_in {z} a f h = record {
+taken_in a f h = record {
   quiet = a.quiet;
-  same = λ q. ap (take z.len) (f (a.leaves q));
+  same = λ q. f (a.leaves q);
   long = λ q. a.len;
   holds = holds_as a.len a.known h;
 }
 
 -- with what it makes known
 pub learnt_in : {z y r : Session} {o : Outcome} {s t : List ℕ} → Learnt z o y → After y o r → (Leaves o → t ≡ s) → SessionHolds y t → Kept z s r t
-learnt_in {s = s} {t = t} L a f h =
+learnt_in L a f h =
     let k = taken_in a f h in
     record {
       quiet = λ q. let p = k.quiet q in (sym L.changed ∙ p.0, sym L.stopped ∙ p.1);
-      same = λ q. subst (λ n. take n t ≡ take n s) L.len (k.same q);
+      same = k.same;
       long = λ q. k.long q ∙ L.len;
       holds = k.holds;
     }

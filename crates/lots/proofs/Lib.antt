@@ -1,10 +1,8 @@
 pub mod Fields
 pub mod Inspecting
 pub mod Leaving
-pub mod Resizing
 pub mod OneCommand
 pub mod Reporting
 pub mod OneReport
 pub mod Running
 pub mod OneRun
-pub mod InWords

@@ -2,8 +2,8 @@
 use Rattle.std.proofs.Common.{◌≡◌, ℕ, ◌+◌, eqb, ◌⊎◌, List, [], ◌∷◌, ◌++◌, length, sym, refl, ap, ◌∙◌, subst, inl, inr, arith}
 use Rattle.ground.specs.Lists.{byte}
 use Rattle.commands.specs.declared.Command.{Command}
-use Rattle.commands.specs.declared.Command.TheVariants.{Nothing, Unknown, Format, Put, Lookup, Remove, Count, Row, Listing, Check, Counts, Pack, Resize, Inspect, Report}
-use Rattle.commands.specs.Lines.{Paged, format_word, put_word, add_word, move_word, resize_word, PutBy, Asks, AsksNothing, Means, WithinLimits}
+use Rattle.commands.specs.declared.Command.TheVariants.{Nothing, Unknown, Format, Put, Lookup, Remove, Count, Row, Listing, Check, Counts, Inspect, Report}
+use Rattle.commands.specs.Lines.{Paged, format_word, put_word, add_word, move_word, PutBy, Asks, AsksNothing, Means, WithinLimits}
 use Rattle.commands.specs.Numbers.{Decimal}
 use Rattle.commands.proofs.Unread.{split_one, no_space, digits_spaceless}
 use Rattle.store.specs.Moves.{pick}
@@ -22,8 +22,6 @@ kind (Row n) = 6
 kind Listing = 7
 kind Check = 8
 kind Counts = 12
-kind Pack = 13
-kind (Resize n) = 14
 kind (Inspect n) = 9
 kind Report = 11
 kind Unknown = 10
@@ -31,8 +29,8 @@ kind Unknown = 10
 -- the command that the first three bytes begin, with the sixth, which only counts has of those that begin as count does
 sort : ℕ → ℕ → ℕ → ℕ → ℕ
 sort a b c d =
-    pick (eqb a 102) 1 (pick (eqb a 112) (pick (eqb b 97) 13 20) (pick (eqb a 97) 21 (pick (eqb a 109) 22 (pick (eqb a 105) 9
-    (pick (eqb a 108) (pick (eqb b 111) 3 7) (pick (eqb a 114) (pick (eqb b 101) (pick (eqb c 112) 11 (pick (eqb c 115) 14 4)) 6) (pick (eqb a 99) (pick (eqb b 111) (pick (eqb d 115) 12 5) 8) 0)))))))
+    pick (eqb a 102) 1 (pick (eqb a 112) 20 (pick (eqb a 97) 21 (pick (eqb a 109) 22 (pick (eqb a 105) 9
+    (pick (eqb a 108) (pick (eqb b 111) 3 7) (pick (eqb a 114) (pick (eqb b 101) (pick (eqb c 112) 11 4) 6) (pick (eqb a 99) (pick (eqb b 111) (pick (eqb d 115) 12 5) 8) 0)))))))
 
 abbrev sort_of : List ℕ → ℕ
 sort_of l = sort (byte l 0) (byte l 1) (byte l 2) (byte l 5)
@@ -67,8 +65,6 @@ asked_kind l k (Row n) x = sorted_as l 6 _ x.line refl
 asked_kind l k Listing x = sorted_as l 7 _ x refl
 asked_kind l k Check x = sorted_as l 8 _ x refl
 asked_kind l k Counts x = sorted_as l 12 _ x refl
-asked_kind l k Pack x = sorted_as l 13 _ x refl
-asked_kind l k (Resize n) x = sorted_as l 14 _ x.line refl
 asked_kind l k (Inspect n) x = sorted_as l 9 _ x.line refl
 asked_kind l k Report x = sorted_as l 11 _ x.line refl
 asked_kind l k Unknown x = absurd x
@@ -92,13 +88,6 @@ format_one l k j n size m other x y =
     let e : x.rest ≡ y.rest = cc in
     paged_one y.rest n size m other (subst (Paged n size) e x.says) y.says
 
--- and so are the pages that it asks of a resize
-pub resize_one : (l k j : List ℕ) (n m : ℕ) → Asks l k (Resize n) → Asks l j (Resize m) → n ≡ m
-resize_one l k j n m x y =
-    let q : resize_word ++ (32 ∷ x.rest) ≡ resize_word ++ (32 ∷ y.rest) = sym x.line ∙ y.line in
-    let e : x.rest ≡ y.rest = cc in
-    sym (subst (Decimal n) e x.says).is ∙ y.says.is
-
 -- it asks the command, or it is unknown and asks none
 taken : (l k : List ℕ) (c : Command) → Means l k c → ((kind c ≡ 10) × AsksNothing l k) ⊎ Asks l k c
 taken l k Nothing m = inr m
@@ -111,8 +100,6 @@ taken l k (Row n) m = inr m
 taken l k Listing m = inr m
 taken l k Check m = inr m
 taken l k Counts m = inr m
-taken l k Pack m = inr m
-taken l k (Resize n) m = inr m
 taken l k (Inspect n) m = inr m
 taken l k Report m = inr m
 taken l k Unknown m = inl (refl, m)

@@ -12,7 +12,7 @@ use Rattle.sheets.specs.Files.{LinesSay, sheet_rows, other_line}
 use Rattle.sheets.proofs.Read.{says_one}
 use Rattle.text_lines.specs.Ends.{input_lines}
 use Rattle.lots.specs.declared.Outcome.{Outcome}
-use Rattle.lots.specs.declared.Outcome.TheVariants.{Silent, Unknown as NotKnown, Told, Changed, Listed, Format as Formats, Resize as Resizes, Stopped}
+use Rattle.lots.specs.declared.Outcome.TheVariants.{Silent, Unknown as NotKnown, Told, Changed, Listed, Format as Formats, Stopped}
 use Rattle.lots.specs.Obeys.{Passes, TellsNumber, ReportTold, FileReported}
 
 -- the same, unless an answer could not be written
@@ -28,13 +28,11 @@ passes_one NotKnown (Told x) a b = absurd b
 passes_one NotKnown (Listed m) a b = absurd b
 passes_one NotKnown (Changed x) a b = absurd b
 passes_one NotKnown (Formats m size) a b = absurd b
-passes_one NotKnown (Resizes m) a b = absurd b
 passes_one Silent p a b = absurd a
 passes_one (Told x) p a b = absurd a
 passes_one (Listed m) p a b = absurd a
 passes_one (Changed x) p a b = absurd a
 passes_one (Formats m size) p a b = absurd a
-passes_one (Resizes m) p a b = absurd a
 
 numbers_one : (n : ℕ) (o p : Outcome) → TellsNumber n o → TellsNumber n p → AsTold o p
 numbers_one n Stopped p a b = inl refl
@@ -45,13 +43,11 @@ numbers_one n (Listed m) Silent a b = absurd b
 numbers_one n (Listed m) (Told x) a b = absurd b
 numbers_one n (Listed m) (Changed x) a b = absurd b
 numbers_one n (Listed m) (Formats k size) a b = absurd b
-numbers_one n (Listed m) (Resizes k) a b = absurd b
 numbers_one n NotKnown p a b = absurd a
 numbers_one n Silent p a b = absurd a
 numbers_one n (Told x) p a b = absurd a
 numbers_one n (Changed x) p a b = absurd a
 numbers_one n (Formats m size) p a b = absurd a
-numbers_one n (Resizes m) p a b = absurd a
 
 told_one : (n : ℕ) (r : Reported) (o p : Outcome) → ReportTold n r o → ReportTold n r p → AsTold o p
 told_one n (summed x) o p a b = numbers_one n o p a b

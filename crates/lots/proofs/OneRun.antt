@@ -1,31 +1,29 @@
 -- A line makes one store of a store, and so does a run of its input. Assumes nothing.
-use Rattle.std.proofs.Common.{◌≡◌, ℕ, ◌+◌, ◌*◌, Bool, true, false, ◌⊎◌, List, ◌++◌, length, take, sym, refl, ap, ◌∙◌, subst, inl, inr, ⊎_elim, true≢false, append-nil, arith, length-append, take_at}
+use Rattle.std.proofs.Common.{◌≡◌, ℕ, ◌+◌, Bool, true, false, ◌⊎◌, List, ◌++◌, length, take, sym, refl, ap, ◌∙◌, subst, inl, inr, ⊎_elim, true≢false, append-nil, arith, length-append, take_at}
 use Rattle.ground.specs.Ladder.{Answers}
-use Rattle.hash.specs.Fnv.{fnv, fnv_lt}
+use Rattle.hash.specs.Fnv.{fnv}
 use Rattle.page.specs.declared.Place.{Place}
 use Rattle.partition.specs.declared.Shape.{Shape}
-use Rattle.partition.specs.Sizes.{size, shape_for, shape_of}
+use Rattle.partition.specs.Sizes.{shape_for, shape_of}
 use Rattle.partition.proofs.Sizes.{sized_of}
 use Rattle.any_size.proofs.Calls.{Formats as FormatsTo, formats as formats_to}
 use Rattle.commands.specs.declared.Command.{Command}
-use Rattle.commands.specs.declared.Command.TheVariants.{Nothing, Unknown, Format, Put, Lookup, Remove, Count, Row, Listing, Check, Counts, Pack, Resize, Inspect, Report}
+use Rattle.commands.specs.declared.Command.TheVariants.{Nothing, Unknown, Format, Put, Lookup, Remove, Count, Row, Listing, Check, Counts, Inspect, Report}
 use Rattle.commands.specs.Lines.{Means, remove_word}
 use Rattle.commands.specs.Texts.{text}
 use Rattle.filling.proofs.Laws.{fill_settled}
 use Rattle.store.specs.Demands.{ok}
 use Rattle.store.specs.Tables.{Out, formatted, refused, blank, format_table, format_sized, put_table, remove_table}
-use Rattle.store.proofs.Demands.Settled.{put_settled, remove_settled, pack_settled}
-use Rattle.store.proofs.Packing.Back.{given_back}
+use Rattle.store.proofs.Demands.Settled.{put_settled, remove_settled}
 use Rattle.text_lines.specs.Ends.{input_lines}
 use Rattle.lots.specs.declared.Outcome.{Outcome}
-use Rattle.lots.specs.declared.Outcome.TheVariants.{Silent, Format as Formats, Resize as Resizes}
+use Rattle.lots.specs.declared.Outcome.TheVariants.{Silent, Format as Formats}
 use Rattle.lots.specs.declared.Session.{Session}
 use Rattle.lots.specs.Obeys.{PageAsked, Does, Obeys}
-use Rattle.lots.specs.Sessions.{whole_pages, grown, ResizeCall, ResizeTold}
-use Rattle.lots.specs.Runs.{Anew, Without, Done, FormatCall, DueOn, Commanded, obeyed, formats, held, resizes, Did, aside, asked, LineDid, passed, spoken, Chain, none, last, next, Ran}
+use Rattle.lots.specs.Runs.{Anew, Without, Done, FormatCall, DueOn, Commanded, obeyed, formats, held, Did, aside, asked, LineDid, passed, spoken, Chain, none, last, next, Ran}
 use Rattle.lots.proofs.Fields.{SamePlace, code_one, put_one}
 use Rattle.lots.proofs.Leaving.{listed_untouched}
-use Rattle.lots.proofs.OneCommand.{kind, format_one, resize_one, obeys_one}
+use Rattle.lots.proofs.OneCommand.{kind, format_one, obeys_one}
 
 -- ---- commands of one kind
 
@@ -40,8 +38,6 @@ is_put (Row n) m e = absurd (omega (arith, e))
 is_put Listing m e = absurd (omega (arith, e))
 is_put Check m e = absurd (omega (arith, e))
 is_put Counts m e = absurd (omega (arith, e))
-is_put Pack m e = absurd (omega (arith, e))
-is_put (Resize n) m e = absurd (omega (arith, e))
 is_put (Inspect n) m e = absurd (omega (arith, e))
 is_put Report m e = absurd (omega (arith, e))
 is_put Unknown m e = absurd (omega (arith, e))
@@ -57,8 +53,6 @@ is_remove (Row n) e = absurd (omega (arith, e))
 is_remove Listing e = absurd (omega (arith, e))
 is_remove Check e = absurd (omega (arith, e))
 is_remove Counts e = absurd (omega (arith, e))
-is_remove Pack e = absurd (omega (arith, e))
-is_remove (Resize n) e = absurd (omega (arith, e))
 is_remove (Inspect n) e = absurd (omega (arith, e))
 is_remove Report e = absurd (omega (arith, e))
 is_remove Unknown e = absurd (omega (arith, e))
@@ -74,28 +68,9 @@ is_counts Count e = absurd (omega (arith, e))
 is_counts (Row n) e = absurd (omega (arith, e))
 is_counts Listing e = absurd (omega (arith, e))
 is_counts Check e = absurd (omega (arith, e))
-is_counts Pack e = absurd (omega (arith, e))
-is_counts (Resize n) e = absurd (omega (arith, e))
 is_counts (Inspect n) e = absurd (omega (arith, e))
 is_counts Report e = absurd (omega (arith, e))
 is_counts Unknown e = absurd (omega (arith, e))
-
-is_pack : (d : Command) → kind d ≡ 13 → d ≡ Pack
-is_pack Pack e = refl
-is_pack (Put n p o) e = absurd (omega (arith, e))
-is_pack (Remove n) e = absurd (omega (arith, e))
-is_pack Counts e = absurd (omega (arith, e))
-is_pack Nothing e = absurd (omega (arith, e))
-is_pack (Format n size) e = absurd (omega (arith, e))
-is_pack (Lookup n) e = absurd (omega (arith, e))
-is_pack Count e = absurd (omega (arith, e))
-is_pack (Row n) e = absurd (omega (arith, e))
-is_pack Listing e = absurd (omega (arith, e))
-is_pack Check e = absurd (omega (arith, e))
-is_pack (Resize n) e = absurd (omega (arith, e))
-is_pack (Inspect n) e = absurd (omega (arith, e))
-is_pack Report e = absurd (omega (arith, e))
-is_pack Unknown e = absurd (omega (arith, e))
 
 -- ---- the store that a call leaves
 
@@ -121,18 +96,13 @@ module _ (l s : List ℕ) where
   counts_left : (t u k j : List ℕ) (o o' : Outcome) → Does k Counts s o t → Does j Counts s o' u → t ≡ u
   counts_left t u k j o o' x y = ap (λ r. r.1) (fill_settled (shape_of s) fnv (sized_of s) s (x.answer, t) (y.answer, u) x.made y.made)
 
-  pack_left : (t u k j : List ℕ) (o o' : Outcome) → Does k Pack s o t → Does j Pack s o' u → t ≡ u
-  pack_left t u k j o o' x y = ap (λ r. r.1) (pack_settled (shape_of s) fnv (sized_of s) s (x.answer, t) (y.answer, u) x.made y.made)
-
   -- the commands that may write
   abbrev MayWrite : Command → Type 0
   MayWrite (Put n p m) = Unit {0}
   MayWrite (Remove n) = Unit {0}
   MayWrite Counts = Unit {0}
-  MayWrite Pack = Unit {0}
   MayWrite Nothing = ⊥
   MayWrite (Format n size) = ⊥
-  MayWrite (Resize n) = ⊥
   MayWrite (Lookup n) = ⊥
   MayWrite Count = ⊥
   MayWrite (Row n) = ⊥
@@ -146,10 +116,8 @@ module _ (l s : List ℕ) where
   leaves_or_writes k (Put n p m) o t x = inr tt
   leaves_or_writes k (Remove n) o t x = inr tt
   leaves_or_writes k Counts o t x = inr tt
-  leaves_or_writes k Pack o t x = inr tt
   leaves_or_writes k Nothing o t x = inl x.1
   leaves_or_writes k (Format n size) o t x = inl x.1
-  leaves_or_writes k (Resize n) o t x = inl x.1
   leaves_or_writes k (Lookup n) o t x = inl x.1
   leaves_or_writes k Count o t x = inl x.1
   leaves_or_writes k (Row n) o t x = inl x.1
@@ -168,10 +136,8 @@ module _ (l s : List ℕ) where
       let f = is_remove d (sym e) in
       remove_left t u k j o o' n f.0 a (subst (Means l j) f.1 b) x (subst (λ v. Does j v s o' u) f.1 y)
   written t u k j o o' Counts d w e a b x y = counts_left t u k j o o' x (subst (λ v. Does j v s o' u) (is_counts d (sym e)) y)
-  written t u k j o o' Pack d w e a b x y = pack_left t u k j o o' x (subst (λ v. Does j v s o' u) (is_pack d (sym e)) y)
   written t u k j o o' Nothing d w e a b x y = absurd w
   written t u k j o o' (Format n size) d w e a b x y = absurd w
-  written t u k j o o' (Resize n) d w e a b x y = absurd w
   written t u k j o o' (Lookup n) d w e a b x y = absurd w
   written t u k j o o' Count d w e a b x y = absurd w
   written t u k j o o' (Row n) d w e a b x y = absurd w
@@ -204,8 +170,6 @@ is_format k (Format m other) s t n size d = let e : Formats n size ≡ Formats m
 is_format k (Put m p v) s t n size d = absurd d.told
 is_format k (Remove m) s t n size d = absurd d.told
 is_format k Counts s t n size d = absurd d.told
-is_format k Pack s t n size d = absurd d.told
-is_format k (Resize m) s t n size d = absurd (let e : Formats n size ≡ Resizes m = d.0 in let z : ◌≡◌ {A = ℕ} 0 1 = cc in omega (arith, z))
 is_format k Nothing s t n size d = absurd (let e : Formats n size ≡ Silent = d.0 in let z : ◌≡◌ {A = ℕ} 0 1 = cc in omega (arith, z))
 is_format k Unknown s t n size d = absurd d.0
 is_format k (Lookup m) s t n size d = absurd d.0.told
@@ -222,8 +186,6 @@ format_left k (Format m other) a o b e y d = subst Done y.0 d
 format_left k (Put m p v) a o b e y d = omega (arith, e)
 format_left k (Remove m) a o b e y d = omega (arith, e)
 format_left k Counts a o b e y d = omega (arith, e)
-format_left k Pack a o b e y d = omega (arith, e)
-format_left k (Resize m) a o b e y d = omega (arith, e)
 format_left k Nothing a o b e y d = omega (arith, e)
 format_left k Unknown a o b e y d = omega (arith, e)
 format_left k (Lookup m) a o b e y d = omega (arith, e)
@@ -245,80 +207,6 @@ module _ {w a : List ℕ} {n size : ℕ} (x : Obeys w a (Formats n size) a) wher
   sizes_one : {m other : ℕ} → Obeys w a (Formats m other) a → (n ≡ m) × (size ≡ other)
   sizes_one {m} {other} y =
       format_one w x.code y.code n size m other (subst (Means w x.code) the_format x.means) (subst (Means w y.code) (is_format y.code y.command a a m other y.does) y.means)
-
--- ---- a resize
-
-no_page_resized : {g : List ℕ} {n : ℕ} → PageAsked g (Resizes n) → ⊥
-no_page_resized d = d.refused (λ k. d.rows k)
-
-is_resize : (k : List ℕ) (c : Command) (s t : List ℕ) (n : ℕ) → Does k c s (Resizes n) t → c ≡ Resize n
-is_resize k (Resize m) s t n d = let e : Resizes n ≡ Resizes m = d.0 in cc
-is_resize k (Put m p v) s t n d = absurd d.told
-is_resize k (Remove m) s t n d = absurd d.told
-is_resize k Counts s t n d = absurd d.told
-is_resize k Pack s t n d = absurd d.told
-is_resize k Nothing s t n d = absurd (let e : Resizes n ≡ Silent = d.0 in let z : ◌≡◌ {A = ℕ} 0 1 = cc in omega (arith, z))
-is_resize k (Format m other) s t n d = absurd (let e : Resizes n ≡ Formats m other = d.0 in let z : ◌≡◌ {A = ℕ} 0 1 = cc in omega (arith, z))
-is_resize k Unknown s t n d = absurd d.0
-is_resize k (Lookup m) s t n d = absurd d.0.told
-is_resize k Count s t n d = absurd d.0.told
-is_resize k (Row m) s t n d = absurd d.0.asked.told
-is_resize k Listing s t n d = absurd (listed_untouched d.0)
-is_resize k Check s t n d = absurd d.0.told
-is_resize k (Inspect m) s t n d = absurd (d.0.absent (λ h. no_page_resized (d.0.there h)))
-is_resize k Report s t n d = absurd d.0.reads
-
--- a resize is not done by its call
-resize_left : (k : List ℕ) (c : Command) (a : List ℕ) (o : Outcome) (b : List ℕ) → kind c ≡ 14 → Does k c a o b → Done o → ⊥
-resize_left k (Resize m) a o b e y d = subst Done y.0 d
-resize_left k (Put m p v) a o b e y d = omega (arith, e)
-resize_left k (Remove m) a o b e y d = omega (arith, e)
-resize_left k Counts a o b e y d = omega (arith, e)
-resize_left k Pack a o b e y d = omega (arith, e)
-resize_left k Nothing a o b e y d = omega (arith, e)
-resize_left k (Format m other) a o b e y d = omega (arith, e)
-resize_left k Unknown a o b e y d = omega (arith, e)
-resize_left k (Lookup m) a o b e y d = omega (arith, e)
-resize_left k Count a o b e y d = omega (arith, e)
-resize_left k (Row m) a o b e y d = omega (arith, e)
-resize_left k Listing a o b e y d = omega (arith, e)
-resize_left k Check a o b e y d = omega (arith, e)
-resize_left k (Inspect m) a o b e y d = omega (arith, e)
-resize_left k Report a o b e y d = omega (arith, e)
-
-module _ {w a : List ℕ} {n : ℕ} (x : Obeys w a (Resizes n) a) where
-  the_resize : x.command ≡ Resize n
-  the_resize = is_resize x.code x.command a a n x.does
-
-  -- such a command is not done otherwise
-  resize_not_done : {o : Outcome} {b : List ℕ} → Obeys w a o b → Done o → ⊥
-  resize_not_done {o} {b} y d = resize_left y.code y.command a o b (obeys_one y x ∙ ap kind the_resize) y.does d
-
-  -- nor is it a format
-  not_format : {m size : ℕ} → Obeys w a (Formats m size) a → ⊥
-  not_format y = let e : ◌≡◌ {A = ℕ} 14 1 = sym (ap kind the_resize) ∙ obeys_one x y ∙ ap kind (the_format y) in omega (arith, e)
-
-  pages_one : {m : ℕ} → Obeys w a (Resizes m) a → n ≡ m
-  pages_one {m} y =
-      resize_one w x.code y.code n m (subst (Means w x.code) the_resize x.means) (subst (Means w y.code) (is_resize y.code y.command a a m y.does) y.means)
-
-resized_one : (n : ℕ) (a b c : List ℕ) → ResizeCall n a b → ResizeCall n a c → b ≡ c
-resized_one n a b c x y = go (ok x.answer) refl
-  where
-    both : ◌≡◌ {A = Out × List ℕ} (x.answer, x.left) (y.answer, y.left)
-    both = (given_back (shape_of a) fnv (sized_of a) fnv_lt).settled (grown a n) (whole_pages (length a) (size (shape_of a))) n (x.answer, x.left) (y.answer, y.left) x.made y.made
-
-    go : (t : Bool) → ok x.answer ≡ t → b ≡ c
-    go true e = x.done e ∙ ap (λ p. take (n * size (shape_of a)) p.1) both ∙ sym (y.done (sym (ap (λ p. ok p.0) both) ∙ e))
-    go false e = x.refused e ∙ sym (y.refused (sym (ap (λ p. ok p.0) both) ∙ e))
-
-told_one : (room n : ℕ) (a b c : List ℕ) → ResizeTold room n a b → ResizeTold room n a c → b ≡ c
-told_one room n a b c (inl x) (inl y) = resized_one n a b c x.1 y.1
-told_one room n a b c (inl x) (inr y) = absurd (x.0 y.0)
-told_one room n a b c (inr x) (inl y) = absurd (y.0 x.0)
-told_one room n a b c (inr x) (inr y) = x.1 ∙ sym y.1
-
--- ---- a format's bytes
 
 blank_is : (S : Shape) (s : List ℕ) (o : Out) (t : List ℕ) → o ≡ formatted → Answers (format_table S s) (o, t) → t ≡ blank S s
 unfolding format_table
@@ -366,13 +254,6 @@ module _ {room : ℕ} {w a b c : List ℕ} {anew : Bool} where
       let e = sizes_one y z in absurd (v' (subst (λ k. DueOn room k other anew a) e.0 (subst (λ k. DueOn room n k anew a) e.1 v)))
   commanded_one (held m other z v' g') (formats n size y v g) =
       let e = sizes_one y z in absurd (v' (subst (λ k. DueOn room k other anew a) e.0 (subst (λ k. DueOn room n k anew a) e.1 v)))
-  commanded_one (obeyed o x d) (resizes n y g) = absurd (resize_not_done y x d)
-  commanded_one (resizes n y g) (obeyed o x d) = absurd (resize_not_done y x d)
-  commanded_one (formats n size y v g) (resizes m z h) = absurd (not_format z y)
-  commanded_one (resizes m z h) (formats n size y v g) = absurd (not_format z y)
-  commanded_one (held n size y v g) (resizes m z h) = absurd (not_format z y)
-  commanded_one (resizes m z h) (held n size y v g) = absurd (not_format z y)
-  commanded_one (resizes n y g) (resizes m z h) = told_one room m a b c (subst (λ k. ResizeTold room k a b) (pages_one y z) g) h
 
 -- what stands before " anew" is one
 anew_one : (l w v : List ℕ) → Anew l w → Anew l v → w ≡ v

@@ -1,5 +1,5 @@
 -- A run as the chain of its lines: what each step of a session adds to it. Assumes nothing.
-use Rattle.std.proofs.Common.{◌≡◌, ℕ, ◌+◌, ◌-◌, ◌<◌, ◌≤◌, Bool, true, false, ltb, ◌⊎◌, List, [], ◌∷◌, ◌++◌, length, take, drop, sym, refl, ap, ◌∙◌, subst, inl, inr, ⊎_elim, true≢false, append_assoc, append-nil, arith, length-append, length-drop, take-append-drop, length-take, length-take-le, take_all, drop_at}
+use Rattle.std.proofs.Common.{◌≡◌, ℕ, ◌+◌, ◌-◌, ◌<◌, ◌≤◌, Bool, true, false, ltb, List, [], ◌∷◌, ◌++◌, length, take, drop, sym, refl, ap, ◌∙◌, subst, inl, inr, ⊎_elim, true≢false, append_assoc, append-nil, arith, length-append, length-drop, take-append-drop, length-take, length-take-le, take_all, drop_at}
 use native.Mathlib.Nat.{sub-zero}
 use lib.Seq.{take-append-le}
 use Rattle.commands.specs.SheetLines.{words_of}
@@ -13,11 +13,11 @@ use Rattle.text_lines.specs.Reading.{ReadSoFar, ByteRead}
 use Rattle.text_lines.specs.declared.LineRead.{LineRead}
 use Rattle.text_lines.proofs.Ending.{behind_append, ended_append, ended_feed, ended_other, unended_feed, unended_other}
 use Rattle.lots.specs.declared.Outcome.{Outcome}
-use Rattle.lots.specs.declared.Outcome.TheVariants.{Format as Formats, Resize as Resizes}
+use Rattle.lots.specs.declared.Outcome.TheVariants.{Format as Formats}
 use Rattle.lots.specs.declared.Session.{Session}
 use Rattle.lots.specs.Obeys.{Obeys}
-use Rattle.lots.specs.Runs.{Anew, BeforeAnew, Without, Done, FormatCall, Commanded, formats, held, obeyed, resizes, Did, LineDid, passed, spoken, Quits, Chain, none, last, next, WordsTurned, LineTurned, Fed, Feeds, Brought, Ran}
-use Rattle.lots.specs.Sessions.{Leaves, Alike, NextLine, SessionBegins, Quiet, SessionHolds, SessionReads, Kept, FormatAsked, FormatTold, ResizeTold}
+use Rattle.lots.specs.Runs.{Anew, BeforeAnew, Without, Done, FormatCall, Commanded, formats, held, obeyed, Did, LineDid, passed, spoken, Quits, Chain, none, last, next, WordsTurned, LineTurned, Fed, Feeds, Brought, Ran}
+use Rattle.lots.specs.Sessions.{Leaves, Alike, NextLine, SessionBegins, SessionHolds, SessionReads, Kept, FormatAsked, FormatTold}
 use Rattle.lots.proofs.Leaving.{leaves, part_back, front_back, beside, then}
 
 -- a part that is lent to the end
@@ -93,18 +93,6 @@ formats_did {z} {r} {xs} {ys} {t} {o} {n} {size} w anew h y e f =
     let v : Obeys w (take (z.len - 0) (drop 0 xs)) (Formats n size) (take (z.len - 0) (drop 0 xs)) =
     subst (λ u. Obeys w (take (z.len - 0) (drop 0 xs)) u (take (z.len - 0) (drop 0 xs))) e (subst (λ u. Obeys w (take (z.len - 0) (drop 0 xs)) o u) g y) in
     told w anew h (simp sub-zero at v) (subst (λ u. FormatTold n size anew z u r t) b f)
-
--- a line whose command is a resize
-pub resizes_did : {z : Session} {xs ys : List ℕ} {o : Outcome} {n : ℕ} (w : List ℕ) (anew : Bool) (r : Session) (t : List ℕ) → SessionHolds z xs
-    → Obeys w (take (z.len - 0) (drop 0 xs)) o ys → o ≡ Resizes n
-    → ResizeTold (length (take 0 xs ++ (ys ++ drop (z.len - 0) (drop 0 xs)))) n (take z.len (take 0 xs ++ (ys ++ drop (z.len - 0) (drop 0 xs)))) (take r.len t)
-    → Commanded (length xs) w anew (take z.len xs) (take r.len t)
-resizes_did {z} {xs} {ys} {o} {n} w anew r t h y e f =
-    let g : ys ≡ take (z.len - 0) (drop 0 xs) = leaves y (subst Leaves (sym e) tt) in
-    let b : take 0 xs ++ (ys ++ drop (z.len - 0) (drop 0 xs)) ≡ xs = part_back xs ys 0 (z.len - 0) g in
-    let v : Obeys w (take (z.len - 0) (drop 0 xs)) (Resizes n) (take (z.len - 0) (drop 0 xs)) =
-    subst (λ u. Obeys w (take (z.len - 0) (drop 0 xs)) u (take (z.len - 0) (drop 0 xs))) e (subst (λ u. Obeys w (take (z.len - 0) (drop 0 xs)) o u) g y) in
-    resizes n (simp sub-zero at v) (subst (λ u. ResizeTold (length u) n (take z.len u) (take r.len t)) b f)
 
 -- the same text
 pub did_as : {room : ℕ} {l m a b : List ℕ} → l ≡ m → Did room l a b → Did room m a b
@@ -289,13 +277,10 @@ module _ {len : ℕ} {known : Bool} {z y : Session} {s t p q : List ℕ} (o : Se
   from_start : {u : List ℕ} {k : Bool} {ls : List (List ℕ)} → Chain (length s) k ls (take z.len s) u → Chain (length s) k ls (take len s) u
   from_start {u} {k} {ls} c = subst (λ m. Chain (length s) k ls (take m s) u) o.long c
 
-  from_len : {r : Session} {u : List ℕ} → Kept z s r u → Quiet r → take len u ≡ take len s
-  from_len {r} {u} k q = subst (λ m. take m u ≡ take m s) o.long (k.same q)
-
   -- it was stopped
   pub ran_stopped : y.stopped ≡ true → Ran len s y t
   ran_stopped f = record {
-    same = from_len b.feeds.kept;
+    same = b.feeds.kept.same;
     long = λ e. b.feeds.kept.long e ∙ o.long;
     holds = b.feeds.kept.holds;
     input = b.bytes;
@@ -314,7 +299,7 @@ module _ {len : ℕ} {known : Bool} {z y : Session} {s t p q : List ℕ} (o : Se
   -- the line quit was read
   pub ran_quit : y.stopped ≡ false → y.quit ≡ true → Ran len s y t
   ran_quit f k = record {
-    same = from_len b.feeds.kept;
+    same = b.feeds.kept.same;
     long = λ e. b.feeds.kept.long e ∙ o.long;
     holds = b.feeds.kept.holds;
     input = b.bytes;
@@ -331,7 +316,7 @@ module _ {len : ℕ} {known : Bool} {z y : Session} {s t p q : List ℕ} (o : Se
       let a = then b.feeds.kept x.kept in
       let g = fed.begun f k in
       record {
-        same = from_len a;
+        same = a.same;
         long = λ c. a.long c ∙ o.long;
         holds = a.holds;
         input = b.bytes;

@@ -1,11 +1,8 @@
 -- What a run knows of its store. Assumes nothing.
-use Rattle.std.specs.Prelude.{◌≡◌, ℕ, Bool, true, List, length}
+use Rattle.std.specs.Prelude.{◌≡◌, ℕ, Bool, true, List}
 use Rattle.hash.specs.Fnv.{fnv}
 use Rattle.partition.specs.Sizes.{shape_of}
-use Rattle.partition.specs.declared.Shape.{Shape}
 use Rattle.store.specs.Accepted.{Accepted}
-use Rattle.store.specs.Demands.{Sized}
-use Rattle.store.specs.Pages.{rows_held}
 
 -- a store that is known to be accepted is accepted, at the page size that it says
 abbrev pub Known : Bool → List ℕ → Type 0

@@ -3,4 +3,3 @@ pub mod Obeys
 pub mod Reports
 pub mod Runs
 pub mod Sessions
-pub mod InWords

@@ -1,26 +1,22 @@
 -- What a line of the input answers and does to the store. Assumes nothing.
 use Rattle.std.specs.Prelude.{◌≡◌, ℕ, ◌<◌, ◌≤◌, true, false, ◌⊎◌, List, length, take}
-use Rattle.std.proofs.Math.Option.{some}
-use Rattle.std.proofs.Math.ListN.{get_elem?}
 use Rattle.commands.specs.declared.Command.{Command}
-use Rattle.commands.specs.declared.Command.TheVariants.{Nothing, Unknown, Format, Put, Lookup, Remove, Count, Row, Listing, Check, Counts, Pack, Resize, Inspect, Report}
+use Rattle.commands.specs.declared.Command.TheVariants.{Nothing, Unknown, Format, Put, Lookup, Remove, Count, Row, Listing, Check, Counts, Inspect, Report}
 use Rattle.commands.specs.declared.SheetLine.{SheetLine}
 use Rattle.commands.specs.Lines.{Means, WithinLimits}
 use Rattle.ground.specs.Ladder.{Answers}
 use Rattle.hash.specs.Fnv.{fnv}
 use Rattle.partition.specs.Listing.{listing}
-use Rattle.partition.specs.Partition.{Row as StoredRow}
 use Rattle.partition.specs.Sizes.{size, shape_for, shape_of}
 use Rattle.store.specs.Demands.{Call, check, count, lookup, put, remove, row_at, Made, ok}
 use Rattle.store.specs.Pages.{pages, page, read, rows_on, rows_held}
-use Rattle.store.specs.Tables.{Out, refused_at, meaning, giving, PageKeeps, inspect_table}
+use Rattle.store.specs.Tables.{Out, refused_at, meaning, PageKeeps, inspect_table}
 use Rattle.report.specs.Report.{Reported, other, missing, summed, report_table}
 use Rattle.sheets.specs.Files.{LinesSay, sheet_rows, other_line}
 use Rattle.filling.specs.Filling.{fill_table}
-use Rattle.store.specs.Packing.{pack_table}
 use Rattle.text_lines.specs.Ends.{input_lines}
 use Rattle.lots.specs.declared.Outcome.{Outcome}
-use Rattle.lots.specs.declared.Outcome.TheVariants.{Silent, Unknown as NotKnown, Told, Changed, Listed, Format as Formats, Resize as Resizes, Stopped}
+use Rattle.lots.specs.declared.Outcome.TheVariants.{Silent, Unknown as NotKnown, Told, Changed, Listed, Format as Formats, Stopped}
 
 -- a line that only reads
 abbrev pub Untouched : Outcome → Type 0
@@ -31,7 +27,6 @@ Untouched (Listed n) = Unit {0}
 Untouched Stopped = Unit {0}
 Untouched (Changed x) = ⊥
 Untouched (Formats n size) = ⊥
-Untouched (Resizes n) = ⊥
 
 -- an unknown line says so; in each of these Stopped stands for an answer that could not be written
 abbrev pub Passes : Outcome → Type 0
@@ -42,7 +37,6 @@ Passes (Told x) = ⊥
 Passes (Listed n) = ⊥
 Passes (Changed x) = ⊥
 Passes (Formats n size) = ⊥
-Passes (Resizes n) = ⊥
 
 -- a line that reads tells the answer a
 abbrev pub TellsOnly : Out → Outcome → Type 0
@@ -53,7 +47,6 @@ TellsOnly a NotKnown = ⊥
 TellsOnly a (Listed n) = ⊥
 TellsOnly a (Changed x) = ⊥
 TellsOnly a (Formats n size) = ⊥
-TellsOnly a (Resizes n) = ⊥
 
 -- a line that writes tells the answer a, and the store counts as changed exactly where that is no refusal
 abbrev pub Outcomes : Out → Outcome → Type 0
@@ -64,7 +57,6 @@ Outcomes a Silent = ⊥
 Outcomes a NotKnown = ⊥
 Outcomes a (Listed n) = ⊥
 Outcomes a (Formats n size) = ⊥
-Outcomes a (Resizes n) = ⊥
 
 -- n rows, and their number
 abbrev pub TellsNumber : ℕ → Outcome → Type 0
@@ -75,7 +67,6 @@ TellsNumber n NotKnown = ⊥
 TellsNumber n (Told x) = ⊥
 TellsNumber n (Changed x) = ⊥
 TellsNumber n (Formats m size) = ⊥
-TellsNumber n (Resizes m) = ⊥
 
 -- the call c made t of the store s, and its answer is told
 pub record Written (c : Call) (s : List ℕ) (o : Outcome) (t : List ℕ) : Type 0 where
@@ -155,18 +146,11 @@ pub record CountsAsked (s : List ℕ) (o : Outcome) (t : List ℕ) : Type 0 wher
   pub made : Answers (fill_table (shape_of s) fnv s) (answer, t)
   pub told : Outcomes answer o
 
--- the store s is packed, and the answer is told
-pub record PackAsked (s : List ℕ) (o : Outcome) (t : List ℕ) : Type 0 where
-  pub answer : Out
-  pub made : Answers (pack_table (shape_of s) fnv s) (answer, t)
-  pub told : Outcomes answer o
-
 -- a command on the store s; its code begins the buffer k
 abbrev pub Does : List ℕ → Command → List ℕ → Outcome → List ℕ → Type 0
 Does k (Put n p m) s o t = Written (put (take n k) p m) s o t
 Does k (Remove n) s o t = Written (remove (take n k)) s o t
 Does k (Format n size) s o t = (o ≡ Formats n size) × (t ≡ s)
-Does k (Resize n) s o t = (o ≡ Resizes n) × (t ≡ s)
 Does k Nothing s o t = (o ≡ Silent) × (t ≡ s)
 Does k Unknown s o t = Passes o × (t ≡ s)
 Does k (Lookup n) s o t = Asked (lookup (take n k)) s o × (t ≡ s)
@@ -175,7 +159,6 @@ Does k (Row n) s o t = RowAsked n s o × (t ≡ s)
 Does k Listing s o t = ListAsked s o × (t ≡ s)
 Does k Check s o t = Asked check s o × (t ≡ s)
 Does k Counts s o t = CountsAsked s o t
-Does k Pack s o t = PackAsked s o t
 Does k (Inspect n) s o t = InspectAsked n s o × (t ≡ s)
 Does k Report s o t = ReportAsked s o × (t ≡ s)
 

@@ -10,10 +10,10 @@ use Rattle.text_lines.specs.Ends.{ended_after, unended_after, input_lines}
 use Rattle.text_lines.specs.LineText.{spaced, text_of, TooLong}
 use Rattle.text_lines.specs.Reading.{ReadSoFar}
 use Rattle.lots.specs.declared.Outcome.{Outcome}
-use Rattle.lots.specs.declared.Outcome.TheVariants.{Silent, Unknown, Told, Changed, Listed, Format as Formats, Resize as Resizes, Stopped}
+use Rattle.lots.specs.declared.Outcome.TheVariants.{Silent, Unknown, Told, Changed, Listed, Format as Formats, Stopped}
 use Rattle.lots.specs.declared.Session.{Session}
 use Rattle.lots.specs.Obeys.{Obeys}
-use Rattle.lots.specs.Sessions.{Kept, LacksRoom, lent_for, Quiet, ResizeTold, SessionHolds}
+use Rattle.lots.specs.Sessions.{Kept, LacksRoom, lent_for, Quiet, SessionHolds}
 
 -- l is a format, w, with " anew" behind it
 pub record Anew (l w : List ℕ) : Type 0 where
@@ -31,7 +31,7 @@ abbrev pub Without : List ℕ → List ℕ → Bool → Type 0
 Without l w false = (w ≡ l) × ((v : List ℕ) → Anew l v → ⊥)
 Without l w true = Anew l w
 
--- the line is done; a format and a resize are left to the session
+-- the line is done; a format is left to the session
 abbrev pub Done : Outcome → Type 0
 Done Silent = Unit {0}
 Done Unknown = Unit {0}
@@ -40,7 +40,6 @@ Done (Changed x) = Unit {0}
 Done (Listed n) = Unit {0}
 Done Stopped = Unit {0}
 Done (Formats n size) = ⊥
-Done (Resizes n) = ⊥
 
 -- a format of n pages of a size: the call answers on as many bytes, whatever they held, and makes a store of them unless it is refused
 pub record FormatCall (room n size : ℕ) (a b : List ℕ) : Type 0 where
@@ -64,8 +63,6 @@ pub data Commanded (room : ℕ) (w : List ℕ) (anew : Bool) (a b : List ℕ) : 
   formats : (n size : ℕ) → Obeys w a (Formats n size) a → DueOn room n size anew a → FormatCall room n size a b → Commanded room w anew a b
   -- not at all: a format that is not due
   held : (n size : ℕ) → Obeys w a (Formats n size) a → (DueOn room n size anew a → ⊥) → b ≡ a → Commanded room w anew a b
-  -- by another length
-  resizes : (n : ℕ) → Obeys w a (Resizes n) a → ResizeTold room n a b → Commanded room w anew a b
 
 -- quit and help ask nothing of the store
 abbrev pub Aside : List ℕ → Type 0
@@ -133,9 +130,9 @@ pub record Brought (z : Session) (s p : List ℕ) (r : Session) (t q : List ℕ)
   pub bytes : List ℕ
   pub feeds : Feeds bytes z s p r t q
 
--- The whole input on the first len bytes of s: the calls of its lines, up to quit, unless the run was stopped before. Where r is quiet the store is as it was.
+-- The whole input on the first len bytes of s: the calls of its lines, up to quit, unless the run was stopped before. Where r is quiet the bytes are as they were.
 pub record Ran (len : ℕ) (s : List ℕ) (r : Session) (t : List ℕ) : Type 0 where
-  pub same : Quiet r → take len t ≡ take len s
+  pub same : Quiet r → t ≡ s
   pub long : Quiet r → r.len ≡ len
   pub holds : SessionHolds r t
   pub input : List ℕ

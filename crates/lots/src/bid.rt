@@ -11,102 +11,134 @@ use page::Place;
 use partition::Shape;
 use report::{LIMIT, NamedRow, Sums};
 use sheets::Sheet;
+use std::env::Env;
+use std::fs::Files;
 use store::Answer;
 use telling::say;
 
 // A word, a place and its amount on a line; whether it could be written.
-fn tell_amount(word: &[u8], p: Place, z: i64) -> bool
+fn tell_amount<R: Print + Eprint>(rt: &R, word: &[u8], p: Place, z: i64) -> bool
     requires { length word.now ≤ 10 }
 {
     let mut text = [0u8; 100];
     let n = commands::amount_line(word, p, z, &mut text);
-    say::text(&text[0..n])
+    say::text(rt, &text[0..n])
 }
 
-fn tell_sum(word: &[u8], z: i64) -> bool
+fn tell_sum<R: Print + Eprint>(rt: &R, word: &[u8], z: i64) -> bool
     requires { length word.now ≤ 10 }
 {
     let mut text = [0u8; 100];
     let n = commands::sum_line(word, z, &mut text);
-    say::text(&text[0..n])
+    say::text(rt, &text[0..n])
 }
 
-fn tell_many_sum(word: &[u8], n: usize, z: i64) -> bool
+fn tell_many_sum<R: Print + Eprint>(rt: &R, word: &[u8], n: usize, z: i64) -> bool
     requires { length word.now ≤ 10 }
 {
     let mut text = [0u8; 100];
     let k = commands::rows_sum_line(word, n, z, &mut text);
-    say::text(&text[0..k])
+    say::text(rt, &text[0..k])
 }
 
-fn tell_many(word: &[u8], n: usize) -> bool
+fn tell_many<R: Print + Eprint>(rt: &R, word: &[u8], n: usize) -> bool
     requires { length word.now ≤ 10 }
 {
     let mut text = [0u8; 100];
     let k = commands::rows_line(word, n, &mut text);
-    say::text(&text[0..k])
+    say::text(rt, &text[0..k])
 }
 
-fn tell_bad_row(s: &[u8], flat: &[u64], l: usize) -> bool
+fn tell_bad_row<R: Print + Eprint>(rt: &R, s: &[u8], flat: &[u64], l: usize) -> bool
     requires { RowRefused s.now flat.now l }
 {
     let mut text = [0u8; 100];
     let k = commands::bad_row_line(l, &mut text);
-    say::text(&text[0..k])
+    say::text(rt, &text[0..k])
 }
 
-fn tell_not_there(s: &[u8], flat: &[u64], n: usize, p: Place, number: usize) -> bool
+fn tell_not_there<R: Print + Eprint>(
+    rt: &R,
+    s: &[u8],
+    flat: &[u64],
+    n: usize,
+    p: Place,
+    number: usize,
+) -> bool
     requires { Reports s.now flat.now n (missing p) }
 {
     let mut text = [0u8; 140];
     let k = commands::not_there_line(p, number, &mut text);
-    say::text(&text[0..k])
+    say::text(rt, &text[0..k])
 }
 
-fn tell_unread(number: usize) -> bool {
+fn tell_unread<R: Print + Eprint>(rt: &R, number: usize) -> bool {
     let mut text = [0u8; 100];
     let k = commands::unread_line(number, &mut text);
-    say::text(&text[0..k])
+    say::text(rt, &text[0..k])
 }
 
-fn tell_no_row(flat: &[u64], number: usize, l: usize) -> bool
+fn tell_no_row<R: Print + Eprint>(rt: &R, flat: &[u64], number: usize, l: usize) -> bool
     requires { OtherForm flat.now l }
 {
     let mut text = [0u8; 120];
     let k = commands::no_row_line(number, l, &mut text);
-    say::text(&text[0..k])
+    say::text(rt, &text[0..k])
 }
 
 // Row i of n, if no code names it or more than one does; of any other nothing is told.
-fn tell_row(s: &[u8], z: Shape, flat: &[u64], n: usize, i: usize, r: NamedRow) -> bool
+fn tell_row<R: Print + Eprint>(
+    rt: &R,
+    s: &[u8],
+    z: Shape,
+    flat: &[u64],
+    n: usize,
+    i: usize,
+    r: NamedRow,
+) -> bool
     requires { RowGiven z s.now flat.now n i r }
 {
     match r {
-        NamedRow::Hidden(p, c) => tell_amount(b"hidden", p, c),
-        NamedRow::Doubled(p, c) => tell_amount(b"doubled", p, c),
+        NamedRow::Hidden(p, c) => tell_amount(rt, b"hidden", p, c),
+        NamedRow::Doubled(p, c) => tell_amount(rt, b"doubled", p, c),
         NamedRow::Once => true,
     }
 }
 
 // Of n rows the one after the first i by its mark, and how many are told then: no more where it could not be written.
-fn tell_next(s: &[u8], z: Shape, flat: &[u64], counts: &[u8], n: usize, i: usize) -> usize
+fn tell_next<R: Print + Eprint>(
+    rt: &R,
+    s: &[u8],
+    z: Shape,
+    flat: &[u64],
+    counts: &[u8],
+    n: usize,
+    i: usize,
+) -> usize
     requires { MarkedRows z s.now flat.now n counts.now × (i < n) }
     ensures { (i ≤ result) × (result ≤ i + 1) }
 {
     let r = report::named_row(flat, counts, i);
-    if tell_row(s, z, flat, n, i, r) {
+    if tell_row(rt, s, z, flat, n, i, r) {
         return i + 1;
     }
     i
 }
 
 // Every row of the sheet by its mark, in the sheet's order.
-fn tell_rows(s: &[u8], z: Shape, flat: &[u64], counts: &[u8], n: usize) -> bool
+fn tell_rows<R: Print + Eprint>(
+    rt: &R,
+    s: &[u8],
+    z: Shape,
+    flat: &[u64],
+    counts: &[u8],
+    n: usize,
+) -> bool
     requires { MarkedRows z s.now flat.now n counts.now }
 {
     let mut i = 0;
     while i < n {
-        let next = tell_next(s, z, flat, counts, n, i);
+        let next = tell_next(rt, s, z, flat, counts, n, i);
         if next == i {
             return false;
         }
@@ -116,39 +148,46 @@ fn tell_rows(s: &[u8], z: Shape, flat: &[u64], counts: &[u8], n: usize) -> bool
 }
 
 // The rows that a report is about, by a tally of their own into n clear marks.
-fn tell_marked(s: &[u8], z: Shape, flat: &[u64], counts: &mut [u8], n: usize) -> bool
+fn tell_marked<R: Print + Eprint>(
+    rt: &R,
+    s: &[u8],
+    z: Shape,
+    flat: &[u64],
+    counts: &mut [u8],
+    n: usize,
+) -> bool
     requires { Summable z s.now flat.now n × (counts.old ≡ replicate n 0) }
 {
     report::mark_rows(s, z, flat, counts);
-    tell_rows(s, z, flat, counts, n)
+    tell_rows(rt, s, z, flat, counts, n)
 }
 
 // The rows that a report is about told, with marks of their own.
-fn tell_fresh(s: &[u8], z: Shape, flat: &[u64], n: usize) -> bool
+fn tell_fresh<R: Print + Eprint>(rt: &R, s: &[u8], z: Shape, flat: &[u64], n: usize) -> bool
     requires { Summable z s.now flat.now n }
 {
     let mut counts = [0u8; LIMIT];
-    tell_marked(s, z, flat, &mut counts[..n], n)
+    tell_marked(rt, s, z, flat, &mut counts[..n], n)
 }
 
 // The rows that a report is about told, at the page size that the store says.
-fn tell_named(s: &[u8], flat: &[u64], n: usize) -> bool
+fn tell_named<R: Print + Eprint>(rt: &R, s: &[u8], flat: &[u64], n: usize) -> bool
     requires { Summable (shape_of s.now) s.now flat.now n }
 {
     let z = partition::shape_of(s);
-    tell_fresh(s, z, flat, n)
+    tell_fresh(rt, s, z, flat, n)
 }
 
-fn tell_sums(s: &[u8], flat: &[u64], n: usize, x: Sums) -> bool
+fn tell_sums<R: Print + Eprint>(rt: &R, s: &[u8], flat: &[u64], n: usize, x: Sums) -> bool
     requires { Reports s.now flat.now n (summed x) }
 {
-    if !tell_sum(b"total", x.total) {
+    if !tell_sum(rt, b"total", x.total) {
         return false;
     }
-    if !tell_many_sum(b"hidden", x.hidden, x.cents) {
+    if !tell_many_sum(rt, b"hidden", x.hidden, x.cents) {
         return false;
     }
-    tell_many(b"doubled", x.doubled)
+    tell_many(rt, b"doubled", x.doubled)
 }
 
 // A line that is not obeyed was answered, or could not be.
@@ -162,20 +201,20 @@ fn passed(written: bool) -> Outcome
 }
 
 // The report's answer on the rows of a file.
-fn tell(s: &[u8], flat: &[u64], z: Sheet, number: usize) -> Outcome
+fn tell<R: Print + Eprint>(rt: &R, s: &[u8], flat: &[u64], z: Sheet, number: usize) -> Outcome
     requires { FileFormed z flat.now }
     ensures { ReportAsked s.now result }
 {
     let n = z.rows;
     match report::judge(s, flat, n) {
-        report::Outcome::Refused(r) => passed(say::answer(Answer::Refused(r), b"", number)),
-        report::Outcome::BadSheet => passed(tell_bad_row(s, flat, z.bad)),
-        report::Outcome::NotInSheet(p) => passed(tell_not_there(s, flat, n, p, number)),
+        report::Outcome::Refused(r) => passed(say::answer(rt, Answer::Refused(r), b"", number)),
+        report::Outcome::BadSheet => passed(tell_bad_row(rt, s, flat, z.bad)),
+        report::Outcome::NotInSheet(p) => passed(tell_not_there(rt, s, flat, n, p, number)),
         report::Outcome::Summed(x) => {
-            if !tell_named(s, flat, n) {
+            if !tell_named(rt, s, flat, n) {
                 return Outcome::Stopped;
             }
-            if !tell_sums(s, flat, n, x) {
+            if !tell_sums(rt, s, flat, n, x) {
                 return Outcome::Stopped;
             }
             Outcome::Listed(n)
@@ -184,16 +223,16 @@ fn tell(s: &[u8], flat: &[u64], z: Sheet, number: usize) -> Outcome
 }
 
 // The report over the sheet of that name.
-pub fn ask(s: &[u8], name: &[u8], number: usize) -> Outcome
+pub fn ask<R: Env + Files + Print + Eprint>(rt: &R, s: &[u8], name: &[u8], number: usize) -> Outcome
     ensures { ReportAsked s.now result }
 {
     let mut flat = [9223372036854775808u64; 2 * LIMIT];
-    let z = sheet_file::load(name, &mut flat);
+    let z = sheet_file::load(rt, name, &mut flat);
     if z.unread {
-        return passed(tell_unread(number));
+        return passed(tell_unread(rt, number));
     }
     if z.wrong > 0 {
-        return passed(tell_no_row(&flat, number, z.wrong));
+        return passed(tell_no_row(rt, &flat, number, z.wrong));
     }
-    tell(s, &flat, z, number)
+    tell(rt, s, &flat, z, number)
 }

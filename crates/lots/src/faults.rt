@@ -58,9 +58,6 @@ fn takes_number(word: &[u8]) -> bool {
     if same(word, b"row") {
         return true;
     }
-    if same(word, b"resize") {
-        return true;
-    }
     same(word, b"inspect")
 }
 
@@ -75,9 +72,6 @@ fn stands_alone(word: &[u8]) -> bool {
         return true;
     }
     if same(word, b"counts") {
-        return true;
-    }
-    if same(word, b"pack") {
         return true;
     }
     if same(word, b"help") {

@@ -1,93 +1,132 @@
 // The store's file: read whole, and written anew beside itself.
-ghost use Rattle.std.specs.Prelude.{◌+◌, ◌≤◌, length};
+ghost use Rattle.std.specs.Prelude.{◌+◌, ◌≤◌, IfOk, length};
+
+use std::fs::{Files, OpenFile, OpenOptions};
+use std::io::{ErrorKind, Read, Write};
+use std::{fs, io};
+use telling::say;
 
 // A file's length, where it could be read.
-#[derive(Drop)]
+#[derive(Clone, Copy)]
 pub struct Loaded {
     pub len: usize,
     pub good: bool,
 }
 
-// Whether the file has no more than what was read: a read that fails looks like an end until the next one.
-fn at_end(fd: i32) -> bool {
-    let mut byte = [0u8; 1];
-    libc::read(fd, &mut byte) == 0
+// Reads until the buffer is full or the file is at its end: how many bytes there were.
+fn read_full<F: Read>(file: &mut F, store: &mut [u8]) -> io::Result<usize>
+    ensures { IfOk result (λ n. n ≤ length store.new) }
+{
+    let mut done = 0;
+    while done < store.len() {
+        let n = file.read(&mut store[done..])?;
+        if n == 0 {
+            return Ok(done);
+        }
+        done += n;
+    }
+    Ok(done)
+}
+
+// What could not be read is told.
+fn unread<R: Eprint>(rt: &R, path: &str, e: io::Error) -> Loaded
+    ensures { result.len ≤ 0 }
+{
+    say::failure(rt, path, e);
+    Loaded {
+        len: 0,
+        good: false,
+    }
 }
 
 // The first bytes of an open file, as many as the buffer holds.
-fn read_open(fd: i32, store: &mut [u8]) -> Loaded
+fn read_open<R: Files + Eprint>(rt: &R, path: &str, mut file: R::File, store: &mut [u8]) -> Loaded
     ensures { result.len ≤ length store.new }
 {
-    let n = io::read_full(fd, store);
-    if n == store.len() {
-        return Loaded { len: n, good: true };
+    match read_full(&mut file, store) {
+        Ok(n) => Loaded { len: n, good: true },
+        Err(e) => unread(rt, path, e),
     }
+}
+
+// A file whose name is not UTF-8 cannot be opened, which is told.
+fn unnamed<R: Eprint>(rt: &R) -> Loaded
+    ensures { result.len ≤ 0 }
+{
+    let _ = eprintln!(rt; "lots: a file whose name is not UTF-8 cannot be opened");
     Loaded {
-        len: n,
-        good: at_end(fd),
+        len: 0,
+        good: false,
     }
 }
 
 // The file's bytes, as many as the buffer holds; none where there is no file.
-pub fn load(path: &[u8], store: &mut [u8]) -> Loaded
+pub fn load<R: Files + Eprint>(rt: &R, path: &[u8], store: &mut [u8]) -> Loaded
     ensures { result.len ≤ length store.new }
 {
-    let fd = os::open_read(path);
-    if fd < 0 {
-        if os::errno() == libc::ENOENT {
-            return Loaded { len: 0, good: true };
+    match std::str::from_utf8(path) {
+        Ok(path) => load_named(rt, path, store),
+        Err(_) => unnamed(rt),
+    }
+}
+
+// The bytes of the file of that name, as many as the buffer holds; none where there is none.
+fn load_named<R: Files + Eprint>(rt: &R, path: &str, store: &mut [u8]) -> Loaded
+    ensures { result.len ≤ length store.new }
+{
+    match fs::open(rt, path) {
+        Ok(file) => read_open(rt, path, file, store),
+        Err(e) => {
+            if e.kind() == ErrorKind::NotFound {
+                return Loaded { len: 0, good: true };
+            }
+            unread(rt, path, e)
         }
-        os::fail(path);
-        return Loaded {
-            len: 0,
-            good: false,
-        };
     }
-    let f = read_open(fd, store);
-    if !f.good {
-        os::fail(path);
-    }
-    libc::close(fd);
-    f
 }
 
 // Writes an open file to the device.
-fn write_open(fd: i32, store: &[u8]) -> bool {
-    if !io::write_all(fd, store) {
-        return false;
-    }
-    libc::fsync(fd) == 0
+fn write_open<F: Write + OpenFile>(file: &mut F, store: &[u8]) -> io::Result<()> {
+    file.write_all(store)?;
+    file.sync_all()
+}
+
+// A new file of that name, which must be free.
+fn create<R: Files>(rt: &R, path: &str) -> io::Result<R::File> {
+    let mut how = OpenOptions::new();
+    how.write(true).create_new(true);
+    how.open(rt, path)
 }
 
 // Makes a file of the store. The name must be free, and a file that cannot be made whole is removed.
-fn make(path: &[u8], store: &[u8]) -> bool {
-    let fd = os::create(path);
-    if fd < 0 {
-        os::fail(path);
-        return false;
+fn make<R: Files + Eprint>(rt: &R, path: &str, store: &[u8]) -> bool {
+    match create(rt, path) {
+        Ok(file) => fill(rt, path, file, store),
+        Err(e) => {
+            say::failure(rt, path, e);
+            false
+        }
     }
-    if !write_open(fd, store) {
-        os::fail(path);
-        libc::close(fd);
-        os::unlink(path);
-        return false;
-    }
-    if libc::close(fd) != 0 {
-        os::fail(path);
-        os::unlink(path);
+}
+
+// Makes the new file whole, or removes it.
+fn fill<R: Files + Eprint>(rt: &R, path: &str, mut file: R::File, store: &[u8]) -> bool {
+    if let Err(e) = write_open(&mut file, store) {
+        say::failure(rt, path, e);
+        let _ = fs::remove_file(rt, path);
         return false;
     }
     true
 }
 
 // The store goes to a new file, which then takes the old one's name.
-fn replace(path: &[u8], beside: &[u8], store: &[u8]) -> bool {
-    if !make(beside, store) {
+fn replace<R: Files + Eprint>(rt: &R, path: &str, beside: &str, store: &[u8]) -> bool {
+    if !make(rt, beside, store) {
         return false;
     }
-    if os::rename(beside, path) != 0 {
-        os::fail(path);
-        os::unlink(beside);
+    if let Err(e) = fs::rename(rt, beside, path) {
+        say::failure(rt, path, e);
+        let _ = fs::remove_file(rt, beside);
         return false;
     }
     true
@@ -103,11 +142,22 @@ fn name(path: &[u8], out: &mut [u8]) -> usize
     path.len() + 4
 }
 
+// Both names as text, without which std opens no file.
+fn replace_named<R: Files + Eprint>(rt: &R, path: &[u8], beside: &[u8], store: &[u8]) -> bool {
+    match std::str::from_utf8(path) {
+        Ok(path) => match std::str::from_utf8(beside) {
+            Ok(beside) => replace(rt, path, beside, store),
+            Err(_) => unnamed(rt).good,
+        },
+        Err(_) => unnamed(rt).good,
+    }
+}
+
 // Writes the store beside the file and renames it over the file. Whatever fails, the old file is as it was.
-pub fn save(path: &[u8], store: &[u8]) -> bool
+pub fn save<R: Files + Eprint>(rt: &R, path: &[u8], store: &[u8]) -> bool
     requires { length path.now ≤ 4096 }
 {
     let mut beside = [0u8; 4100];
     let n = name(path, &mut beside);
-    replace(path, &beside[0..n], store)
+    replace_named(rt, path, &beside[0..n], store)
 }

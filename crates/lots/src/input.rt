@@ -1,16 +1,16 @@
 // The input taken apart into lines, and what is kept from one to the next.
-ghost use Rattle.std.specs.Prelude.{◌≡◌, ◌+◌, ◌-◌, ◌≤◌, true, ◌⊎◌, [], ◌∷◌, length, take};
+ghost use Rattle.std.specs.Prelude.{◌≡◌, ◌≤◌, true, ◌⊎◌, [], ◌∷◌, length, take};
 ghost use Rattle.ground.specs.Says.{Says};
-ghost use Rattle.store.specs.Tables.{meaning};
 ghost use Rattle.lots.specs.Runs.{Aside, BeforeAnew, Brought, Feeds, LineTurned, Ran, Turned, WordsTurned};
-ghost use Rattle.lots.specs.Sessions.{After, Alike, AsRead, SessionBegins, FormatAsked, FormatTold, Growable, Grows, Kept, LacksRoom, Learnt, lent_for, most_pages, NextLine, ResizeCall, ResizeTold, SessionHolds, SessionReads, SizeFor, whole_pages};
+ghost use Rattle.lots.specs.Sessions.{After, Alike, AsRead, SessionBegins, FormatAsked, FormatTold, Kept, LacksRoom, Learnt, lent_for, most_pages, NextLine, SessionHolds, SessionReads};
 
 use super::{known, obey};
 use crate::{Outcome, Session};
 use check::same;
 use commands::Fault;
-use libc::STDIN_FILENO;
-use store::{Answer, Refusal};
+use std::env::Env;
+use std::fs::Files;
+use std::io::Read;
 use telling::say;
 
 // How many bytes are lent for a store of n pages of a size; none where that is no store, or there is no room.
@@ -44,7 +44,6 @@ fn marked(z: Session, o: Outcome) -> Session
         Outcome::Told(_) => {}
         Outcome::Listed(_) => {}
         Outcome::Format(_, _) => {}
-        Outcome::Resize(_) => {}
     }
     y
 }
@@ -66,13 +65,13 @@ fn after(z: Session, o: Outcome) -> Session
 }
 
 // A store of n pages of a size in the place of the old one, unless that is refused.
-fn format(store: &mut [u8], z: Session, n: usize, size: usize) -> Session
+fn format<R: Print + Eprint>(rt: &R, store: &mut [u8], z: Session, n: usize, size: usize) -> Session
     requires { SessionHolds z store.old }
     ensures { Kept z store.old result store.new × AsRead z result × FormatAsked n size z store.old result store.new }
 {
     let len = length_of(n, size, store.len());
     let a = directory::format(&mut store[0..len], size);
-    let mut y = after(z, obey::wrote(a, z.number));
+    let mut y = after(z, obey::wrote(rt, a, z.number));
     if obey::is_done(a) {
         y.len = len;
         y.known = true;
@@ -121,98 +120,24 @@ fn lacks_room(n: usize, size: usize, most: usize) -> bool
 }
 
 // A format of n pages of a size that a line asks.
-fn ask_format(store: &mut [u8], z: Session, n: usize, size: usize, anew: bool) -> Session
+fn ask_format<R: Print + Eprint>(
+    rt: &R,
+    store: &mut [u8],
+    z: Session,
+    n: usize,
+    size: usize,
+    anew: bool,
+) -> Session
     requires { SessionHolds z store.old }
     ensures { Kept z store.old result store.new × AsRead z result × FormatTold n size anew z store.old result store.new }
 {
     if !may_clear(z.len, anew) {
-        return after(z, obey::unknown(Fault::Filled, z.number));
+        return after(z, obey::unknown(rt, Fault::Filled, z.number));
     }
     if lacks_room(n, size, store.len()) {
-        return after(z, obey::unknown(Fault::Room, z.number));
+        return after(z, obey::unknown(rt, Fault::Room, z.number));
     }
-    format(store, z, n, size)
-}
-
-// The page size of the store s, where it says one and n pages are not too many; else none.
-fn size_for(s: &[u8], n: usize) -> usize
-    ensures { SizeFor s.now n result }
-{
-    if s.len() < 24 {
-        return 0;
-    }
-    let z = partition::shape_of(s);
-    if n > z.entries + 2 {
-        return 0;
-    }
-    8 + z.capacity
-}
-
-// How many pages of a size len bytes are; none where they are not whole.
-fn whole_pages(len: usize, size: usize) -> usize
-    requires { 1 ≤ size }
-    ensures { result ≡ whole_pages len size }
-{
-    if len % size == 0 {
-        return len / size;
-    }
-    0
-}
-
-// The longer of two lengths.
-fn longer(a: usize, b: usize) -> usize
-    ensures { (result ≡ a + (b - a)) × (a ≤ result) × (b ≤ result) }
-{
-    if a < b {
-        return b;
-    }
-    a
-}
-
-// Clears b behind its first len bytes, which are a store of m pages, and changes its length to n pages.
-fn grow(b: &mut [u8], len: usize, m: usize, n: usize) -> Answer
-    requires { len ≤ length b.old }
-    ensures { Grows b.old len m n (meaning result) b.new }
-{
-    let e = b.len();
-    words::clear(b, len, e);
-    packing::resize(b, m as u64, n as u64)
-}
-
-// Changes the length of the store to n pages of its size, unless that is refused. The buffer has room for them.
-fn resize(store: &mut [u8], z: Session, size: usize, n: usize) -> Session
-    requires { SessionHolds z store.old × Growable z store.old size n }
-    ensures { Kept z store.old result store.new × AsRead z result × ResizeCall n (take z.len store.old) (take result.len store.new) }
-{
-    let len = z.len;
-    let new = n * size;
-    let e = longer(len, new);
-    let a = grow(&mut store[0..e], len, whole_pages(len, size), n);
-    let mut y = after(z, obey::resized(a, z.number));
-    if obey::is_done(a) {
-        y.len = new;
-        y.known = true;
-    }
-    y
-}
-
-// A resize to n pages that a line asks.
-fn ask_resize(store: &mut [u8], z: Session, n: usize) -> Session
-    requires { SessionHolds z store.old }
-    ensures { Kept z store.old result store.new × AsRead z result × ResizeTold (length store.old) n (take z.len store.old) (take result.len store.new) }
-{
-    let len = z.len;
-    let size = size_for(&store[0..len], n);
-    if size == 0 {
-        return after(
-            z,
-            obey::resized(Answer::Refused(Refusal::BadLength), z.number),
-        );
-    }
-    if n * size > store.len() {
-        return after(z, obey::unknown(Fault::Grow, z.number));
-    }
-    resize(store, z, size, n)
+    format(rt, store, z, n, size)
 }
 
 // Where ` anew` stands at the end of a format, or the end.
@@ -245,24 +170,31 @@ fn learnt(z: Session, o: Outcome) -> Session
 }
 
 // A command on the store.
-fn command(store: &mut [u8], z: Session, line: &[u8]) -> Session
+fn command<R: Env + Files + Print + Eprint>(
+    rt: &R,
+    store: &mut [u8],
+    z: Session,
+    line: &[u8],
+) -> Session
     requires { SessionHolds z store.old × (Aside line.now → ⊥) }
     ensures { Turned line.now z store.old result store.new }
 {
     let n = before_anew(line);
     let len = z.len;
-    let o = obey::obey(&mut store[0..len], &line[..n], z.number, z.known);
+    let o = obey::obey(rt, &mut store[0..len], &line[..n], z.number, z.known);
     if let Outcome::Format(p, size) = o {
-        return ask_format(store, z, p, size, n < line.len());
-    }
-    if let Outcome::Resize(p) = o {
-        return ask_resize(store, z, p);
+        return ask_format(rt, store, z, p, size, n < line.len());
     }
     after(learnt(z, o), o)
 }
 
 // The text of a line.
-fn turn(store: &mut [u8], z: Session, line: &[u8]) -> Session
+fn turn<R: Env + Files + Print + Eprint>(
+    rt: &R,
+    store: &mut [u8],
+    z: Session,
+    line: &[u8],
+) -> Session
     requires { SessionHolds z store.old }
     ensures { Turned line.now z store.old result store.new }
 {
@@ -272,9 +204,9 @@ fn turn(store: &mut [u8], z: Session, line: &[u8]) -> Session
         return y;
     }
     if same(line, b"help") {
-        return after(z, obey::help());
+        return after(z, obey::help(rt));
     }
-    command(store, z, line)
+    command(rt, store, z, line)
 }
 
 // The session at the start of the next line.
@@ -289,34 +221,51 @@ fn next_line(z: Session) -> Session
 }
 
 // A line whose words stand with one blank between, or as many of them as there was room for.
-fn words_line(store: &mut [u8], z: Session, over: bool, words: &[u8]) -> Session
+fn words_line<R: Env + Files + Print + Eprint>(
+    rt: &R,
+    store: &mut [u8],
+    z: Session,
+    over: bool,
+    words: &[u8],
+) -> Session
     requires { SessionHolds z store.old }
     ensures { WordsTurned over words.now z store.old result store.new }
 {
     let a = text_lines::text_start(words);
     if over {
-        return after(z, obey::too_long(&words[a..], z.number));
+        return after(z, obey::too_long(rt, &words[a..], z.number));
     }
-    turn(store, z, &words[a..])
+    turn(rt, store, z, &words[a..])
 }
 
 // The end of a line: it is obeyed, and the next one begins.
-fn end_line(store: &mut [u8], z: Session, line: &[u8]) -> Session
+fn end_line<R: Env + Files + Print + Eprint>(
+    rt: &R,
+    store: &mut [u8],
+    z: Session,
+    line: &[u8],
+) -> Session
     requires { SessionReads z store.old line.now }
     ensures { LineTurned line.now z store.old result store.new }
 {
     let g = z.line;
     let fill = g.fill;
-    words_line(store, next_line(z), g.over, &line[0..fill])
+    words_line(rt, store, next_line(z), g.over, &line[0..fill])
 }
 
 // One byte of the input.
-fn take(store: &mut [u8], z: Session, line: &mut [u8], b: u8) -> Session
+fn take<R: Env + Files + Print + Eprint>(
+    rt: &R,
+    store: &mut [u8],
+    z: Session,
+    line: &mut [u8],
+    b: u8,
+) -> Session
     requires { SessionReads z store.old line.old }
     ensures { Feeds (b ∷ []) z store.old line.old result store.new line.new }
 {
     if b == 10 {
-        return end_line(store, z, line);
+        return end_line(rt, store, z, line);
     }
     let g = text_lines::read_byte(line, z.line, b);
     let mut y = z;
@@ -325,7 +274,13 @@ fn take(store: &mut [u8], z: Session, line: &mut [u8], b: u8) -> Session
 }
 
 // A piece of the input; nothing of it after the line quit.
-fn feed(store: &mut [u8], z: Session, line: &mut [u8], piece: &[u8]) -> Session
+fn feed<R: Env + Files + Print + Eprint>(
+    rt: &R,
+    store: &mut [u8],
+    z: Session,
+    line: &mut [u8],
+    piece: &[u8],
+) -> Session
     requires { SessionReads z store.old line.old }
     ensures { Feeds piece.now z store.old line.old result store.new line.new }
 {
@@ -338,14 +293,15 @@ fn feed(store: &mut [u8], z: Session, line: &mut [u8], piece: &[u8]) -> Session
         if y.quit {
             return y;
         }
-        y = take(store, y, line, piece[i]);
+        y = take(rt, store, y, line, piece[i]);
         i += 1;
     }
     y
 }
 
 // What a read of the input brought, the first n bytes of the buffer: none at its end, and where it failed.
-fn take_read(
+fn take_read<R: Env + Files + Print + Eprint>(
+    rt: &R,
     store: &mut [u8],
     z: Session,
     line: &mut [u8],
@@ -358,7 +314,6 @@ fn take_read(
 {
     let mut y = z;
     if failed {
-        os::fail(b"standard input");
         y.stopped = true;
         return y;
     }
@@ -366,23 +321,39 @@ fn take_read(
         y.ended = true;
         return y;
     }
-    feed(store, y, line, &piece[0..n])
+    feed(rt, store, y, line, &piece[0..n])
 }
 
 // What one read of the input brings.
-fn read(store: &mut [u8], z: Session, line: &mut [u8]) -> Session
+fn read<R: Env + Files + Print + Eprint, I: Read>(
+    rt: &R,
+    input: &mut I,
+    store: &mut [u8],
+    z: Session,
+    line: &mut [u8],
+) -> Session
     requires { SessionReads z store.old line.old }
     ensures { Brought z store.old line.old result store.new line.new }
 {
-    say::prompt(z.terminal);
+    say::prompt(rt, z.terminal);
     let mut piece = io::buffer();
-    let got = libc::read(STDIN_FILENO, &mut piece);
-    let n = io::count(got, &piece);
-    take_read(store, z, line, &piece, n, got < 0)
+    match input.read(&mut piece) {
+        Ok(n) => take_read(rt, store, z, line, &piece, n, false),
+        Err(e) => {
+            say::failure(rt, "standard input", e);
+            take_read(rt, store, z, line, &piece, 0, true)
+        }
+    }
 }
 
 // The whole input. A proved loop has to end, and nothing says that the input does: it counts down from a number that no run uses up.
-fn read_all(store: &mut [u8], z: Session, line: &mut [u8]) -> Session
+fn read_all<R: Env + Files + Print + Eprint, I: Read>(
+    rt: &R,
+    input: &mut I,
+    store: &mut [u8],
+    z: Session,
+    line: &mut [u8],
+) -> Session
     requires { SessionReads z store.old line.old }
     ensures { Brought z store.old line.old result store.new line.new }
 {
@@ -398,7 +369,7 @@ fn read_all(store: &mut [u8], z: Session, line: &mut [u8]) -> Session
         if y.ended {
             return y;
         }
-        y = read(store, y, line);
+        y = read(rt, input, store, y, line);
         turns -= 1;
     }
     y
@@ -424,13 +395,25 @@ fn begin(len: usize, known: bool, terminal: bool) -> Session
 }
 
 // Every line of the input, on a store that is the first len bytes of the buffer. It is checked once, here.
-pub fn run(store: &mut [u8], len: usize, terminal: bool) -> Session
+pub fn run<R: Env + Files + Input + Print + Eprint>(
+    rt: &R,
+    store: &mut [u8],
+    len: usize,
+    terminal: bool,
+) -> Session
     requires { len ≤ length store.old }
     ensures { Ran len store.old result store.new }
 {
     let mut line = io::buffer();
+    let mut input = rt.reader();
     let known = known::is_accepted(&store[0..len]);
-    let y = read_all(store, begin(len, known, terminal), &mut line);
+    let y = read_all(
+        rt,
+        &mut input,
+        store,
+        begin(len, known, terminal),
+        &mut line,
+    );
     if y.stopped {
         return y;
     }
@@ -438,5 +421,5 @@ pub fn run(store: &mut [u8], len: usize, terminal: bool) -> Session
         return y;
     }
     // what stands behind the last line end
-    end_line(store, y, &line)
+    end_line(rt, store, y, &line)
 }

@@ -1,6 +1,9 @@
 // The lot index from a shell: commands from standard input, one a line, on the store in the file that the argument names.
+#![tactic(auto)]
+
 ghost use Rattle.std.specs.Prelude.{◌≤◌, length};
 
+mod arguments;
 mod bid;
 mod faults;
 mod files;
@@ -10,12 +13,13 @@ mod obey;
 mod sheet_file;
 
 use check::same;
-use libc::STDERR_FILENO;
+use std::env::Env;
+use std::fs::Files;
 use store::Answer;
 use text_lines::LineRead;
 
-// What a line said, and whether it changed the store. Listed: so many rows, and their number. Format and Resize are still to be done, so many pages, of that size; Stopped: an answer could not be written.
-#[derive(Drop)]
+// What a line said, and whether it changed the store. Listed: so many rows, and their number. Format is still to be done, so many pages of that size; Stopped: an answer could not be written.
+#[derive(Clone, Copy)]
 pub enum Outcome {
     Silent,
     Unknown,
@@ -23,11 +27,10 @@ pub enum Outcome {
     Changed(Answer),
     Listed(usize),
     Format(usize, usize),
-    Resize(usize),
     Stopped,
 }
 
-#[derive(Drop)]
+#[derive(Clone, Copy)]
 pub struct Session {
     // the store: its length, whether it has changed since it was read, and whether it is known to be accepted
     pub len: usize,
@@ -45,41 +48,45 @@ pub struct Session {
     pub stopped: bool,
 }
 
-fn main() {
+fn main(rt: HostRuntime) {
     let mut path = io::buffer();
-    let n = os::arg(1, &mut path);
-    let words = os::arg_count();
+    let n = arguments::word(&rt, 1, &mut path);
+    let words = arguments::count(&rt);
     if words < 2 {
-        usage();
+        usage(&rt);
         return;
     }
     if words > 5 {
-        usage();
+        usage(&rt);
         return;
     }
     if n == 0 {
-        usage();
+        usage(&rt);
         return;
     }
-    if words == 5 {
-        in_large_room(&path[0..n], is_typed(), turns_left(words));
-        return;
-    }
-    in_small_room(&path[0..n], is_typed());
+    in_room(&rt, &path[0..n], words);
 }
 
-fn usage() {
-    io::write_all(
-        STDERR_FILENO,
-        b"usage: lots FILE [terminal | lines [FOLDER [large]]]\n",
-    );
+fn usage<R: Eprint>(rt: &R) {
+    let _ = eprintln!(rt; "usage: lots FILE [terminal | lines [FOLDER [large]]]");
 }
 
 // Whether the second word says that lines are typed at a terminal.
-fn is_typed() -> bool {
+fn is_typed<R: Env>(rt: &R) -> bool {
     let mut word = [0u8; 16];
-    let n = os::arg(2, &mut word);
+    let n = arguments::word(rt, 2, &mut word);
     same(&word[0..n], b"terminal")
+}
+
+// The fourth word asks for the larger room.
+fn in_room<R: Env + Files + Input + Print + Eprint>(rt: &R, path: &[u8], words: usize)
+    requires { length path.now ≤ 4096 }
+{
+    if words == 5 {
+        in_large_room(rt, path, is_typed(rt), turns_left(rt, words));
+        return;
+    }
+    in_small_room(rt, path, is_typed(rt));
 }
 
 // 258 pages of 1,024 bytes and one byte more, so that a longer file shows refusal 1.
@@ -92,57 +99,63 @@ fn large_room() -> [u8; 67141633] {
     [0u8; 67141633]
 }
 
-fn in_small_room(path: &[u8], terminal: bool)
+fn in_small_room<R: Env + Files + Input + Print + Eprint>(rt: &R, path: &[u8], terminal: bool)
     requires { length path.now ≤ 4096 }
 {
     let mut store = small_room();
-    work(path, &mut store, terminal);
+    work(rt, path, &mut store, terminal);
 }
 
 // None is left: the words of a run do not change. The compiler cannot tell, so that it keeps a function that may call itself apart from `main`, in
 // whose frame its room would else stand in every run.
-fn turns_left(words: usize) -> usize {
-    if os::arg_count() == words { 0 } else { 1 }
+fn turns_left<R: Env>(rt: &R, words: usize) -> usize {
+    if arguments::count(rt) == words { 0 } else { 1 }
 }
 
-fn in_large_room(path: &[u8], terminal: bool, turns: usize)
+fn in_large_room<R: Env + Files + Input + Print + Eprint>(
+    rt: &R,
+    path: &[u8],
+    terminal: bool,
+    turns: usize,
+)
     requires { length path.now ≤ 4096 }
 {
     let mut store = large_room();
-    work(path, &mut store, terminal);
+    work(rt, path, &mut store, terminal);
     if turns > 0 {
-        in_large_room(path, terminal, turns - 1);
+        in_large_room(rt, path, terminal, turns - 1);
     }
 }
 
 // How many lines were not obeyed.
-fn tell_refused(n: usize) {
+fn tell_refused<R: Eprint>(rt: &R, n: usize) {
     if n > 0 {
-        io::write_all(STDERR_FILENO, b"lots: ");
-        io::print_decimal(STDERR_FILENO, n as u64);
-        io::write_all(STDERR_FILENO, b" lines refused or unknown\n");
+        let _ = eprintln!(rt; "lots: {n} lines refused or unknown");
     }
 }
 
 // How many rows the file has now.
-fn tell_saved(a: Answer) {
+fn tell_saved<R: Eprint>(rt: &R, a: Answer) {
     if let Answer::Rows(n) = a {
-        io::write_all(STDERR_FILENO, b"saved ");
-        io::print_decimal(STDERR_FILENO, n as u64);
-        io::write_all(STDERR_FILENO, b" rows\n");
+        let _ = eprintln!(rt; "saved {n} rows");
     }
 }
 
 // Reads the file, if it is there; obeys the input; writes a changed store.
-fn work(path: &[u8], store: &mut [u8], terminal: bool)
+fn work<R: Env + Files + Input + Print + Eprint>(
+    rt: &R,
+    path: &[u8],
+    store: &mut [u8],
+    terminal: bool,
+)
     requires { length path.now ≤ 4096 }
 {
-    let f = files::load(path, store);
+    let f = files::load(rt, path, store);
     if !f.good {
         return;
     }
-    let z = input::run(store, f.len, terminal);
-    tell_refused(z.refused);
+    let z = input::run(rt, store, f.len, terminal);
+    tell_refused(rt, z.refused);
     if z.stopped {
         return;
     }
@@ -150,7 +163,7 @@ fn work(path: &[u8], store: &mut [u8], terminal: bool)
         return;
     }
     let len = z.len;
-    if files::save(path, &store[0..len]) {
-        tell_saved(known::count_known(&store[0..len], z.known));
+    if files::save(rt, path, &store[0..len]) {
+        tell_saved(rt, known::count_known(&store[0..len], z.known));
     }
 }

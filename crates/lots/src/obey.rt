@@ -11,43 +11,45 @@ use super::known::{check_known, count_known, lookup_known, put_known, remove_kno
 use super::{bid, faults};
 use crate::Outcome;
 use commands::{Command, Fault};
+use std::env::Env;
+use std::fs::Files;
 use store::{Answer, Refusal};
 use telling::{ToldRows, say};
 
 // A line that reads: its answer was written, or could not be. Of a row the code stands in the buffer.
-fn tell(a: Answer, code: &[u8], number: usize) -> Outcome
+fn tell<R: Print + Eprint>(rt: &R, a: Answer, code: &[u8], number: usize) -> Outcome
     requires { length code.now ≤ 64 }
     ensures { TellsOnly (meaning a) result }
 {
-    if !say::answer(a, code, number) {
+    if !say::answer(rt, a, code, number) {
         return Outcome::Stopped;
     }
     Outcome::Told(a)
 }
 
-fn told(a: Answer, number: usize) -> Outcome
+fn told<R: Print + Eprint>(rt: &R, a: Answer, number: usize) -> Outcome
     ensures { TellsOnly (meaning a) result }
 {
-    tell(a, b"", number)
+    tell(rt, a, b"", number)
 }
 
 // A line that asks no call.
-pub fn unknown(f: Fault, number: usize) -> Outcome
+pub fn unknown<R: Print + Eprint>(rt: &R, f: Fault, number: usize) -> Outcome
     ensures { Passes result }
 {
-    if !say::fault(f, number) {
+    if !say::fault(rt, f, number) {
         return Outcome::Stopped;
     }
     Outcome::Unknown
 }
 
 // The number of rows, after they are told.
-fn listed(t: ToldRows) -> Outcome
+fn listed<R: Print + Eprint>(rt: &R, t: ToldRows) -> Outcome
     ensures { (n : ℕ) → AllTold n t → TellsNumber n result }
 {
     match t {
         ToldRows::All(n) => {
-            if !say::number(b"rows", n) {
+            if !say::number(rt, b"rows", n) {
                 return Outcome::Stopped;
             }
             Outcome::Listed(n)
@@ -81,7 +83,6 @@ pub fn faults_in(o: Outcome) -> usize {
         Outcome::Changed(_) => 0,
         Outcome::Listed(_) => 0,
         Outcome::Format(_, _) => 0,
-        Outcome::Resize(_) => 0,
         Outcome::Stopped => 0,
     }
 }
@@ -90,11 +91,11 @@ fn refusals_in(a: Answer) -> usize {
     if is_done(a) { 0 } else { 1 }
 }
 
-// The answer of a call that writes was written, or could not be.
-fn ended(a: Answer, written: bool) -> Outcome
+// The answer of a call that writes.
+pub fn wrote<R: Print + Eprint>(rt: &R, a: Answer, number: usize) -> Outcome
     ensures { Outcomes (meaning a) result }
 {
-    if !written {
+    if !say::answer(rt, a, b"", number) {
         return Outcome::Stopped;
     }
     if is_done(a) {
@@ -103,77 +104,28 @@ fn ended(a: Answer, written: bool) -> Outcome
     Outcome::Told(a)
 }
 
-// The answer of a call that writes.
-pub fn wrote(a: Answer, number: usize) -> Outcome
-    ensures { Outcomes (meaning a) result }
-{
-    ended(a, say::answer(a, b"", number))
-}
-
-// Says how many pages would hold a store that is packed now, or why it is not.
-fn say_packed(a: Answer, number: usize) -> bool {
-    if let Answer::Rows(n) = a {
-        return say::number(b"pages", n);
-    }
-    say::answer(a, b"", number)
-}
-
-// The answer of packing.
-fn packed(a: Answer, number: usize) -> Outcome
-    ensures { Outcomes (meaning a) result }
-{
-    ended(a, say_packed(a, number))
-}
-
-// Whether an answer is refusal 7.
-fn is_seven(a: Answer) -> bool {
-    if let Answer::Refused(f) = a {
-        let n = store::numbers_of(f);
-        return n.number == 7;
-    }
-    false
-}
-
-// Says that a store has its new length, or why it has not.
-fn say_resized(a: Answer, number: usize) -> bool {
-    if is_done(a) {
-        return say::answer(Answer::Formatted, b"", number);
-    }
-    if is_seven(a) {
-        return say::fault(Fault::Cut, number);
-    }
-    say::answer(a, b"", number)
-}
-
-// The answer of another length.
-pub fn resized(a: Answer, number: usize) -> Outcome
-    ensures { Outcomes (meaning a) result }
-{
-    ended(a, say_resized(a, number))
-}
-
-fn row(s: &[u8], n: usize, known: bool, number: usize) -> Outcome
+fn row<R: Print + Eprint>(rt: &R, s: &[u8], n: usize, known: bool, number: usize) -> Outcome
     requires { Known known s.now }
     ensures { RowAsked n s.now result }
 {
     let mut code = [0u8; 64];
     let a = row_known(s, n, &mut code, known);
-    tell(a, &code, number)
+    tell(rt, a, &code, number)
 }
 
 // Every row, or why the store is refused.
-fn list(s: &[u8], known: bool, number: usize) -> Outcome
+fn list<R: Print + Eprint>(rt: &R, s: &[u8], known: bool, number: usize) -> Outcome
     requires { Known known s.now }
     ensures { ListAsked s.now result }
 {
     let a = check_known(s, known);
     if !is_done(a) {
-        return told(a, number);
+        return told(rt, a, number);
     }
     let z = partition::shape_of(s);
     let n = counts::rows_counted(s);
     let mut lines = io::buffer();
-    listed(telling::list_rows(s, z, n, &mut lines))
+    listed(rt, telling::list_rows(rt, s, z, n, &mut lines))
 }
 
 // What inspection says of a page's first slot.
@@ -185,18 +137,18 @@ fn first_slot(page: &[u8]) -> Answer
 }
 
 // The rows of a page and their number, or why inspection refuses it. A free page has none.
-fn list_page(page: &[u8], number: usize) -> Outcome
+fn list_page<R: Print + Eprint>(rt: &R, page: &[u8], number: usize) -> Outcome
     requires { length page.now ≡ size (shape_for (length page.now)) }
     ensures { PageAsked page.now result }
 {
     if words::all_zero(page) {
-        return listed(ToldRows::All(0));
+        return listed(rt, ToldRows::All(0));
     }
     let a = first_slot(page);
     if !is_done(a) {
-        return told(a, number);
+        return told(rt, a, number);
     }
-    listed(telling::page_rows(page, words::get16(page, 2)))
+    listed(rt, telling::page_rows(rt, page, words::get16(page, 2)))
 }
 
 // The length of the store's pages, as it says itself; one too short to say it has no page.
@@ -212,20 +164,26 @@ fn page_size(s: &[u8]) -> usize
 }
 
 // The rows of page p, if the store has it.
-fn inspect(s: &[u8], p: usize, number: usize) -> Outcome
+fn inspect<R: Print + Eprint>(rt: &R, s: &[u8], p: usize, number: usize) -> Outcome
     ensures { InspectAsked p s.now result }
 {
     let size = page_size(s);
     if p >= s.len() / size {
-        return unknown(Fault::Range, number);
+        return unknown(rt, Fault::Range, number);
     }
     let a = p * size;
     let e = a + size;
-    list_page(&s[a..e], number)
+    list_page(rt, &s[a..e], number)
 }
 
-// The line's command on the store. Format and resize are left to the session, which has room for another length.
-pub fn obey(s: &mut [u8], line: &[u8], number: usize, known: bool) -> Outcome
+// The line's command on the store. Format is left to the session, which has room for another length.
+pub fn obey<R: Env + Files + Print + Eprint>(
+    rt: &R,
+    s: &mut [u8],
+    line: &[u8],
+    number: usize,
+    known: bool,
+) -> Outcome
     requires { Known known s.old }
     ensures { Obeys line.now s.old result s.new }
 {
@@ -233,28 +191,27 @@ pub fn obey(s: &mut [u8], line: &[u8], number: usize, known: bool) -> Outcome
     let c = commands::parse(line, &mut code);
     match c {
         Command::Nothing => Outcome::Silent,
-        Command::Unknown => unknown(faults::fault_of(line), number),
+        Command::Unknown => unknown(rt, faults::fault_of(line), number),
         Command::Format(n, size) => Outcome::Format(n, size),
         Command::Put(k, place, mode) => wrote(
+            rt,
             put_known(s, &code[0..k], place, mode, known),
             number,
         ),
-        Command::Lookup(k) => told(lookup_known(s, &code[0..k], known), number),
-        Command::Remove(k) => wrote(remove_known(s, &code[0..k], known), number),
-        Command::Count => told(count_known(s, known), number),
-        Command::Row(n) => row(s, n, known, number),
-        Command::Listing => list(s, known, number),
-        Command::Check => told(check_known(s, known), number),
-        Command::Inspect(p) => inspect(s, p, number),
-        Command::Report => bid::ask(s, &line[7..], number),
-        Command::Counts => wrote(filling::fill_counts(s), number),
-        Command::Pack => packed(packing::pack(s), number),
-        Command::Resize(n) => Outcome::Resize(n),
+        Command::Lookup(k) => told(rt, lookup_known(s, &code[0..k], known), number),
+        Command::Remove(k) => wrote(rt, remove_known(s, &code[0..k], known), number),
+        Command::Count => told(rt, count_known(s, known), number),
+        Command::Row(n) => row(rt, s, n, known, number),
+        Command::Listing => list(rt, s, known, number),
+        Command::Check => told(rt, check_known(s, known), number),
+        Command::Inspect(p) => inspect(rt, s, p, number),
+        Command::Report => bid::ask(rt, s, &line[7..], number),
+        Command::Counts => wrote(rt, filling::fill_counts(s), number),
     }
 }
 
 // A line that the session has no room for: a comment is passed over, any other is unknown.
-pub fn too_long(line: &[u8], number: usize) -> Outcome
+pub fn too_long<R: Print + Eprint>(rt: &R, line: &[u8], number: usize) -> Outcome
     ensures { Untouched result }
 {
     if line.len() > 0 {
@@ -262,12 +219,12 @@ pub fn too_long(line: &[u8], number: usize) -> Outcome
             return Outcome::Silent;
         }
     }
-    unknown(Fault::Long, number)
+    unknown(rt, Fault::Long, number)
 }
 
 // The lines that there are.
-pub fn help() -> Outcome {
-    if !say::help() {
+pub fn help<R: Print + Eprint>(rt: &R) -> Outcome {
+    if !say::help(rt) {
         return Outcome::Stopped;
     }
     Outcome::Silent

@@ -1,6 +1,4 @@
-pub mod PackSaid
+pub mod Plains
 pub mod OneToOne
-pub mod IndexOne
 pub mod WordPlaces
 pub mod ReportSettled
-pub mod LoadTold

@@ -3,7 +3,7 @@
 use mathlib.Core.Path.{◌≡◌, refl, sym, ap, subst, ◌∙◌}
 use mathlib.Core.Bool.{cond}
 use mathlib.Core.List.{List}
-use mathlib.Core.Logic.{◌⊎◌, inl, inr, ⊎_elim}
+use mathlib.Core.Logic.{inl, inr, ⊎_elim}
 use Prim.Native.Nat.{ℕ, ◌+◌, ◌*◌, ◌/◌, ◌%◌, ◌^◌, ◌≤◌, ◌<◌}
 use native.Mathlib.Omega.{arith}
 use borrow.Author.Tests.{lt-ltb, le-ltb, ne_eqb}
@@ -20,41 +20,34 @@ use Rattle.store.specs.Tables.{Out, refused, refused_at, formatted, accepted, ne
 use Rattle.store.proofs.Demands.Said.{RefusedBelow, Placed, Rowed, Counted, Kept, Said, format_said, check_said, count_said, lookup_said, put_said, remove_said, row_said, inspect_said}
 use Rattle.batch.specs.Batch.{Runs, batch_table}
 use Rattle.batch.proofs.Settled.{batch_said}
-use Rattle.lookups.specs.Lookups.{lookups_table}
-use Rattle.lookups.proofs.Settled.{lookups_said}
-use Rattle.stretches.specs.Stretches.{OutRuns, stretch_table}
-use Rattle.stretches.proofs.Settled.{stretch_said}
 use Rattle.filling.specs.Filling.{fill_table}
 use Rattle.filling.proofs.Laws.{fill_said}
-use Rattle.store.specs.Packing.{pack_table, resize_table}
-use Rattle.lots_c.proofs.PackSaid.{pack_said, resize_said}
 use Rattle.lots_c.specs.Words.{plain, place_word, refusal_word, answer_word, length_after, Tells, TellsAnd, TellsAll, TellsRow}
-use Rattle.lots_c.specs.Many.{TellsRows}
 
 -- ---- what a caller reads off a word
 
-abbrev pub place_in : ℕ → Place
+abbrev place_in : ℕ → Place
 place_in w = record { page = pos (w % 2 ^ 32); slot = pos (w / 2 ^ 32 % 2 ^ 16); volume = pos (w / 2 ^ 48) }
 
 abbrev refusal_in : ℕ → Out
 refusal_in w = cond (eqb (w % 256) 2) (refused_at 2 (w / 256 % 2 ^ 32)) (refused (w % 256))
 
-abbrev pub put_in : ℕ → Out
+abbrev put_in : ℕ → Out
 put_in w = cond (eqb w (2 ^ 31)) new (replaced (place_in w))
 
 -- bit 63 says whether it is a refusal
-abbrev pub read_off : (ℕ → Out) → ℕ → Out
+abbrev read_off : (ℕ → Out) → ℕ → Out
 read_off value w = cond (ltb w (2 ^ 63)) (value w) (refusal_in w)
 
 -- ---- it is the answer
 
-pub large : (value : ℕ → Out) (w : ℕ) → 2 ^ 63 ≤ w → read_off value w ≡ refusal_in w
+large : (value : ℕ → Out) (w : ℕ) → 2 ^ 63 ≤ w → read_off value w ≡ refusal_in w
 large value w h = rw (le-ltb w (2 ^ 63) h) refl
 
 low : (value : ℕ → Out) (w : ℕ) → w < 2 ^ 63 → read_off value w ≡ value w
 low value w h = rw (lt-ltb w (2 ^ 63) h) refl
 
-pub numbered : (w n : ℕ) → w % 256 ≡ n → (n ≡ 2 → ⊥) → refusal_in w ≡ refused n
+numbered : (w n : ℕ) → w % 256 ≡ n → (n ≡ 2 → ⊥) → refusal_in w ≡ refused n
 numbered w n e d = rw (e, ne_eqb n 2 d) refl
 
 paged : (w p : ℕ) → w % 256 ≡ 2 → w / 256 % 2 ^ 32 ≡ p → refusal_in w ≡ refused_at 2 p
@@ -96,19 +89,19 @@ module _ (b : List ℕ) (r : InRange (place_from b)) where
   not_new : place_word (place_from b) ≡ 2 ^ 31 → ⊥
   not_new e = omega (arith, r.page, r.slot, r.volume)
 
-pub place_off : (value : Place → Out) → ((p : Place) → answer_word (value p) ≡ place_word p) → (o : Out) → Placed value o → read_off (λ w. value (place_in w)) (answer_word o) ≡ o
+place_off : (value : Place → Out) → ((p : Place) → answer_word (value p) ≡ place_word p) → (o : Out) → Placed value o → read_off (λ w. value (place_in w)) (answer_word o) ≡ o
 place_off value is o (b, (r, e)) =
     let w : answer_word o ≡ place_word (place_from b) = ap answer_word e ∙ is (place_from b) in
     rw w (low (λ w. value (place_in w)) (place_word (place_from b)) (small b r) ∙ ap value (back b r) ∙ sym e)
 
-pub put_off : (o : Out) → Kept o → read_off put_in (answer_word o) ≡ o
+put_off : (o : Out) → Kept o → read_off put_in (answer_word o) ≡ o
 put_off o (inl e) = subst (λ x. read_off put_in (answer_word x) ≡ x) (sym e) refl
 put_off o (inr (b, (r, e))) =
     let w : answer_word o ≡ place_word (place_from b) = ap answer_word e in
     let v : put_in (place_word (place_from b)) ≡ replaced (place_from b) = rw (ne_eqb (place_word (place_from b)) (2 ^ 31) (not_new b r)) (ap replaced (back b r)) in
     rw w (low put_in (place_word (place_from b)) (small b r) ∙ v ∙ sym e)
 
-pub count_off : (o : Out) {most : ℕ} → most < 2 ^ 63 → Counted most o → read_off counted (answer_word o) ≡ o
+count_off : (o : Out) {most : ℕ} → most < 2 ^ 63 → Counted most o → read_off counted (answer_word o) ≡ o
 count_off o m (n, (l, e)) = subst (λ x. read_off counted (answer_word x) ≡ x) (sym e) (low counted n (omega arith))
 
 -- ---- one word, one answer
@@ -118,14 +111,14 @@ same : (value : ℕ → Out) {a b : Out} {r : ℕ} → r ≡ answer_word a → r
 same value e f x y = sym x ∙ ap (read_off value) (sym e ∙ f) ∙ y
 
 module _ (value : ℕ → Out) (Values : Out → Type 0) (off : (o : Out) → Values o → read_off value (answer_word o) ≡ o) where
-  pub one : {a b : Out} {r i j : ℕ} → i ≤ 2 ^ 32 → j ≤ 2 ^ 32 → r ≡ answer_word a → r ≡ answer_word b → Said i Values a → Said j Values b → a ≡ b
+  one : {a b : Out} {r i j : ℕ} → i ≤ 2 ^ 32 → j ≤ 2 ^ 32 → r ≡ answer_word a → r ≡ answer_word b → Said i Values a → Said j Values b → a ≡ b
   one {a} {b} k l e f s t = same value e f (read a k s) (read b l t)
     where
       read : (o : Out) {most : ℕ} → most ≤ 2 ^ 32 → Said most Values o → read_off value (answer_word o) ≡ o
       read o m s = ⊎_elim (refusal_off value o m) (off o) s
 
 -- a store of any of the sizes has fewer pages than a word has room for
-pub few : (s : List ℕ) → (shape_of s).entries + 2 ≤ 2 ^ 32
+few : (s : List ℕ) → (shape_of s).entries + 2 ≤ 2 ^ 32
 few s = omega (arith, (sized_of s).whole, (sized_of s).most)
 
 module _ (s : List ℕ) where
@@ -147,17 +140,6 @@ format_one s t u v m n r a b = one (λ _. formatted) (λ o. o ≡ formatted) (λ
 pub fill_one : (s t u v : List ℕ) (r : ℕ) (a : TellsAnd (fill_table (shape_of s) fnv s) u r) (b : TellsAnd (fill_table (shape_of t) fnv t) v r) → a.out ≡ b.out
 fill_one s t u v r a b = one (λ _. formatted) (λ o. o ≡ formatted) (λ o e. subst (λ x. read_off (λ _. formatted) (answer_word x) ≡ x) (sym e) refl) (few s) (few t) a.is b.is
     (fill_said (shape_of s) fnv (sized_of s) s (a.out, u) a.allowed) (fill_said (shape_of t) fnv (sized_of t) t (b.out, v) b.allowed)
-
--- the number of pages that a packed store needs
-pub pack_one : (s t u v : List ℕ) (r : ℕ) (a : TellsAnd (pack_table (shape_of s) fnv s) u r) (b : TellsAnd (pack_table (shape_of t) fnv t) v r) → a.out ≡ b.out
-pack_one s t u v r a b = one counted (Counted (2 ^ 62)) (λ o. count_off o (omega arith)) (few s) (few t) a.is b.is (pages s u a) (pages t v b)
-  where
-    pages : (s u : List ℕ) (a : TellsAnd (pack_table (shape_of s) fnv s) u r) → Said ((shape_of s).entries + 2) (Counted (2 ^ 62)) a.out
-    pages s u a = ⊎_elim inl (λ c. inr (c.0, (omega (arith, c.1.0, few s), c.1.1))) (pack_said (shape_of s) fnv (sized_of s) fnv_lt s (a.out, u) a.allowed)
-
-pub resize_one : (b c d e : List ℕ) (k l m n r : ℕ) (x : TellsAnd (resize_table (shape_of b) fnv b k l) d r) (y : TellsAnd (resize_table (shape_of c) fnv c m n) e r) → x.out ≡ y.out
-resize_one b c d e k l m n r x y = one (λ _. accepted) (λ o. o ≡ accepted) (λ o e. subst (λ x. read_off (λ _. accepted) (answer_word x) ≡ x) (sym e) refl) (few b) (few c) x.is y.is
-    (resize_said (shape_of b) fnv (sized_of b) b k l (x.out, d) x.allowed) (resize_said (shape_of c) fnv (sized_of c) c m n (y.out, e) y.allowed)
 
 pub check_one : (s t : List ℕ) (r : ℕ) (a : Tells (check_table (shape_of s) fnv s) r) (b : Tells (check_table (shape_of t) fnv t) r) → a.out ≡ b.out
 check_one s t r a b = one (λ _. accepted) (λ o. o ≡ accepted) (λ o e. subst (λ x. read_off (λ _. accepted) (answer_word x) ≡ x) (sym e) refl) (few s) (few t) a.is b.is
@@ -184,15 +166,15 @@ all_one s t u v ns ks d e m n r a b = one (λ _. accepted) (λ o. o ≡ accepted
     (batch_said (shape_of s) fnv s d m (a.out, (u, ns)) a.allowed) (batch_said (shape_of t) fnv t e n (b.out, (v, ks)) b.allowed)
 
 -- a row, with the code's length
-abbrev pub Sized : ℕ → Out → Type 0
+abbrev Sized : ℕ → Out → Type 0
 Sized len o = (old : ℕ) × ((len ≡ length_after o old) × Rowed o)
 
-pub row_off : (len : ℕ) (o : Out) → Sized len o → read_off (λ w. row len (place_in w)) (answer_word o) ≡ o
+row_off : (len : ℕ) (o : Out) → Sized len o → read_off (λ w. row len (place_in w)) (answer_word o) ≡ o
 row_off len o (old, (z, (l, (h, (b, (r, e)))))) =
     let n : len ≡ l = z ∙ ap (λ x. length_after x old) e ∙ omega arith in
     place_off (row len) (λ p. refl) o (b, (r, e ∙ ap (λ k. row k (place_from b)) (sym n)))
 
-pub sized : (len old : ℕ) {most : ℕ} (o : Out) → len ≡ length_after o old → Said most Rowed o → Said most (Sized len) o
+sized : (len old : ℕ) {most : ℕ} (o : Out) → len ≡ length_after o old → Said most Rowed o → Said most (Sized len) o
 sized len old o z s = ⊎_elim inl (λ r. inr (old, (z, r))) s
 
 pub row_one : (s t u v out out' : List ℕ) (m n old old' len r : ℕ) (a : TellsRow (row_table (shape_of s) fnv s m out) u old len r) (b : TellsRow (row_table (shape_of t) fnv t n out') v old' len r)
@@ -206,12 +188,3 @@ pub inspect_one : (g k u v out out' : List ℕ) (m n old old' len r : ℕ) (a : 
 inspect_one g k u v out out' m n old old' len r a b = one (λ w. row len (place_in w)) (Sized len) (row_off len) (omega arith) (omega arith) a.is b.is
     (sized len old a.out a.size (inspect_said (shape_for (length g)) fnv g m out (a.out, u) a.allowed))
     (sized len old' b.out b.size (inspect_said (shape_for (length k)) fnv k n out' (b.out, v) b.allowed))
-
--- many lookups, and a stretch of the listing
-pub lookups_one : (s t c d l k u v old old' : List ℕ) (r : ℕ) (a : TellsAnd (lookups_table (shape_of s) fnv s c l old) u r) (b : TellsAnd (lookups_table (shape_of t) fnv t d k old') v r) → a.out ≡ b.out
-lookups_one s t c d l k u v old old' r a b = one (λ _. accepted) (λ o. o ≡ accepted) (λ o e. subst (λ x. read_off (λ _. accepted) (answer_word x) ≡ x) (sym e) refl) (few s) (few t) a.is b.is
-    (lookups_said (shape_of s) fnv s c l old (a.out, u) a.allowed) (lookups_said (shape_of t) fnv t d k old' (b.out, v) b.allowed)
-
-pub stretch_one : (s t : List ℕ) (m n : ℕ) (x y x' y' : OutRuns) (r : ℕ) (a : TellsRows (stretch_table (shape_of s) fnv s m x) x' r) (b : TellsRows (stretch_table (shape_of t) fnv t n y) y' r) → a.out ≡ b.out
-stretch_one s t m n x y x' y' r a b = one counted (Counted (2 ^ 62)) (λ o. count_off o (omega arith)) (few s) (few t) a.is b.is
-    (widely s a.out (stretch_said (shape_of s) fnv s m x (sized_of s) fnv_lt (a.out, x') a.allowed)) (widely t b.out (stretch_said (shape_of t) fnv t n y (sized_of t) fnv_lt (b.out, y') b.allowed))

@@ -1,4 +1,1 @@
 pub mod Words
-pub mod IndexWords
-pub mod Loads
-pub mod Many

@@ -1,7 +1,7 @@
 -- An insertion leaves a page that satisfies the rules, with the row put in. Assumes nothing.
 use Prim.Native.Nat.{ℕ, suc, ◌+◌, ◌*◌, ◌-◌, ◌/◌, ◌%◌, ◌≤◌, ◌<◌}
 use mathlib.Core.Path.{◌≡◌, ap, ◌∙◌}
-use mathlib.Core.Logic.{◌⊎◌, ⊎_elim}
+use mathlib.Core.Logic.{⊎_elim}
 use mathlib.Core.List.{List}
 use native.Mathlib.Omega.{arith}
 use native.Mathlib.Numerals.{add-one}
@@ -9,7 +9,7 @@ use lib.ListN.{length}
 use Rattle.ground.specs.Lists.{byte, tab, total, insert_at}
 use Rattle.ground.proofs.Sides.{side}
 use Rattle.ground.proofs.Parts.{part_same}
-use Rattle.partition.proofs.Rows.{body_short}
+use Rattle.words.specs.Codes.{Before}
 use Rattle.page.specs.Page.{Natural, In, Record, rows, row_at, slot_need, word, off, len, kind, place, code, count, frontier}
 use Rattle.page.specs.Steps.{Insertable, Inserted}
 use Rattle.ground.proofs.Tables.{tab_insert, total_insert}
@@ -42,6 +42,9 @@ same_in {p} {q} {i} {j} {k} e h = record { from = omega (arith, e.off_is, h.from
 pub in_same : {p q : List ℕ} {i j k : ℕ} → Same q i p j → In p j k → In q i k
 in_same {p} {q} {i} {j} {k} e h = record { from = omega (arith, e.off_is, h.from); to = omega (arith, e.off_is, e.len_is, h.to) }
 
+pub same_before : {p q : List ℕ} {i j i' j' : ℕ} → Same q i p j → Same q i' p j' → Before (code p j) (code p j') → Before (code q i) (code q i')
+same_before e e' h = rw (e.code_is, e'.code_is) h
+
 pub row_same : {p q : List ℕ} (i j : ℕ) → Same q i p j → row_at q i ≡ row_at p j
 row_same i j e = λ k. record { start = e.off_is k; place = e.place_is k; code = e.code_is k }
 
@@ -68,7 +71,7 @@ module _ (p : List ℕ) (s : ℕ) (c pl q : List ℕ) (I : Insertable p s c pl) 
   same_of i j h e = let l : Lies p j = lies j I.page h in same_word e P.len (omega arith) (omega arith) (λ k m. old_bytes j k h m)
 
   lower : (i : ℕ) → i < s → Same q i p i
-  lower i h = same_of i i (omega (arith, I.within)) (P.lower i h)
+  lower i h = same_of i i (omega (arith, I.belongs.within)) (P.lower i h)
 
   upper : (j : ℕ) → s ≤ j → j < count p → Same q (j + 1) p j
   upper j h m = same_of (j + 1) j m (P.upper j h m)
@@ -121,7 +124,7 @@ module _ (p : List ℕ) (s : ℕ) (c pl q : List ℕ) (I : Insertable p s c pl) 
   }
 
   fine : (i : ℕ) → From p s q i → SlotNumbers (frontier q) (off q i) (len q i) (kind q i) (place q i)
-  fine i (below h e) = fine_old i i (omega (arith, I.within)) e
+  fine i (below h e) = fine_old i i (omega (arith, I.belongs.within)) e
   fine i (here e) = rw e fine_new
   fine i (above j f h m e) = fine_old i j m e
 
@@ -134,15 +137,26 @@ module _ (p : List ℕ) (s : ℕ) (c pl q : List ℕ) (I : Insertable p s c pl) 
   one_old i i' j j' k h h' e e' a b = I.page.apart j j' k h h' (same_in e a) (same_in e' b)
 
   apart : (i i' k : ℕ) → From p s q i → From p s q i' → In q i k → In q i' k → i ≡ i'
-  apart i i' k (below h e) (below h' e') a b = one_old i i' i i' k (omega (arith, I.within)) (omega (arith, I.within)) e e' a b
-  apart i i' k (below h e) (here f') a b = absurd (clash i i k (omega (arith, I.within)) e a (rw f' at b))
-  apart i i' k (below h e) (above j' f' h' m' e') a b = omega (arith, one_old i i' i j' k (omega (arith, I.within)) m' e e' a b)
-  apart i i' k (here f) (below h' e') a b = absurd (clash i' i' k (omega (arith, I.within)) e' b (rw f at a))
+  apart i i' k (below h e) (below h' e') a b = one_old i i' i i' k (omega (arith, I.belongs.within)) (omega (arith, I.belongs.within)) e e' a b
+  apart i i' k (below h e) (here f') a b = absurd (clash i i k (omega (arith, I.belongs.within)) e a (rw f' at b))
+  apart i i' k (below h e) (above j' f' h' m' e') a b = omega (arith, one_old i i' i j' k (omega (arith, I.belongs.within)) m' e e' a b)
+  apart i i' k (here f) (below h' e') a b = absurd (clash i' i' k (omega (arith, I.belongs.within)) e' b (rw f at a))
   apart i i' k (here f) (here f') a b = omega arith
   apart i i' k (here f) (above j' f' h' m' e') a b = absurd (clash i' j' k m' e' b (rw f at a))
-  apart i i' k (above j f h m e) (below h' e') a b = omega (arith, one_old i i' j i' k m (omega (arith, I.within)) e e' a b)
+  apart i i' k (above j f h m e) (below h' e') a b = omega (arith, one_old i i' j i' k m (omega (arith, I.belongs.within)) e e' a b)
   apart i i' k (above j f h m e) (here f') a b = absurd (clash i j k m e a (rw f' at b))
   apart i i' k (above j f h m e) (above j' f' h' m' e') a b = omega (arith, one_old i i' j j' k m m' e e' a b)
+
+  ascending : (i i' : ℕ) → i < i' → From p s q i → From p s q i' → Before (code q i) (code q i')
+  ascending i i' l (below h e) (below h' e') = same_before e e' (I.page.ascending i i' l (omega (arith, I.belongs.within)))
+  ascending i i' l (below h e) (here f') = rw (e.code_is, f', new_code) (I.belongs.left i h)
+  ascending i i' l (below h e) (above j' f' h' m' e') = same_before e e' (I.page.ascending i j' (omega arith) m')
+  ascending i i' l (here f) (below h' e') = absurd (omega arith)
+  ascending i i' l (here f) (here f') = absurd (omega arith)
+  ascending i i' l (here f) (above j' f' h' m' e') = rw (e'.code_is, f, new_code) (I.belongs.right j' h' m')
+  ascending i i' l (above j f h m e) (below h' e') = absurd (omega arith)
+  ascending i i' l (above j f h m e) (here f') = absurd (omega arith)
+  ascending i i' l (above j f h m e) (above j' f' h' m' e') = same_before e e' (I.page.ascending j j' (omega arith) m')
 
   -- each old slot is a slot of q
   still : (j k : ℕ) → j < count p → ((i : ℕ) → i < count q → In q i k → ⊥) → In p j k → ⊥
@@ -156,7 +170,7 @@ module _ (p : List ℕ) (s : ℕ) (c pl q : List ℕ) (I : Insertable p s c pl) 
       let was : byte p k ≡ 0 = I.page.clear k h (omega (arith, P.counted, P.len)) (λ j n a. still j k n out a) in
       ⊎_elim (λ lt. P.kept k h lt ∙ was)
       (λ ge. ⊎_elim
-      (λ lt. absurd (out s (omega (arith, P.counted, I.within)) (record { from = omega (arith, new_off); to = omega (arith, new_off, new_len) })))
+      (λ lt. absurd (out s (omega (arith, P.counted, I.belongs.within)) (record { from = omega (arith, new_off); to = omega (arith, new_off, new_len) })))
       (λ ge'. P.gap k ge' (omega (arith, P.counted, P.len)) ∙ was)
       (side k (frontier p + 8 + length c)))
       (side k (frontier p))
@@ -167,7 +181,7 @@ module _ (p : List ℕ) (s : ℕ) (c pl q : List ℕ) (I : Insertable p s c pl) 
   needs_sum : total (slot_need q) (count q) ≡ 12 + length c + total (slot_need p) (count p)
   needs_sum =
       let t : total (slot_need q) (suc (count p)) ≡ slot_need q s + total (slot_need p) (count p) =
-      total_insert (slot_need p) (slot_need q) (count p) s I.within
+      total_insert (slot_need p) (slot_need q) (count p) s I.belongs.within
       (λ i h. omega (arith, (lower i h).len_is))
       (λ i h m. let e : i + 1 ≡ suc i = add-one i in omega (arith, rw e at (upper i h m).len_is)) in
       rw count_suc (omega (arith, t, new_len))
@@ -175,7 +189,7 @@ module _ (p : List ℕ) (s : ℕ) (c pl q : List ℕ) (I : Insertable p s c pl) 
   rows_are : rows q ≡ insert_at s (record { start = frontier p; place = pl; code = c }) (rows p)
   rows_are =
       let t : tab (row_at q) (suc (count p)) ≡ insert_at s (row_at q s) (rows p) =
-      tab_insert (row_at p) (row_at q) (count p) s I.within
+      tab_insert (row_at p) (row_at q) (count p) s I.belongs.within
       (λ i h. row_same i i (lower i h))
       (λ i h m. let e : i + 1 ≡ suc i = add-one i in row_same (suc i) i (rw e at (upper i h m))) in
       let r : ◌≡◌ {A = Record} (row_at q s) (record { start = frontier p; place = pl; code = c }) = λ k. record { start = new_off k; place = new_place k; code = new_code k } in
@@ -196,10 +210,11 @@ module _ (p : List ℕ) (s : ℕ) (c pl q : List ℕ) (I : Insertable p s c pl) 
       inside = λ i h. (fine i (from i h)).inside;
       start = omega (arith, P.fronted, I.page.start);
       empty = λ h. absurd (omega (arith, P.counted));
-      top = λ h. (s, omega (arith, P.counted, I.within), omega (arith, new_off, new_len, P.fronted));
+      top = λ h. (s, omega (arith, P.counted, I.belongs.within), omega (arith, new_off, new_len, P.fronted));
       places = λ i h. (fine i (from i h)).natural;
       apart = λ i j k h m a b. apart i j k (from i h) (from j m) a b;
-      unused = omega (arith, needs_sum, P.freed, P.len, I.fits, body_short (length c) I.good.most, I.page.unused);
+      ascending = λ i j l h. ascending i j l (from i (omega arith)) (from j h);
+      unused = omega (arith, needs_sum, P.freed, P.len, I.fits, I.page.unused);
       clear = clear;
     };
     long = P.len;

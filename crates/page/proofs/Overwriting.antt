@@ -121,6 +121,7 @@ module _ (p : List ℕ) (s : ℕ) (pl q : List ℕ) (O : Overwritable p s pl) (C
           (t.0, omega (arith, counted, t.1), omega (arith, offs t.0 t.1, lens t.0 t.1, fronted, t.2));
       places = λ i h. natural i (was i h);
       apart = λ i j k h m a b. O.page.apart i j k (was i h) (was j m) (in_p i k (was i h) a) (in_p j k (was j m) b);
+      ascending = λ i j l h. rw (codes i (omega (arith, was j h)), codes j (was j h)) (O.page.ascending i j l (was j h));
       unused = rw counted (omega (arith, needs_sum, freed, old.len, O.page.unused));
       clear = clear;
     };

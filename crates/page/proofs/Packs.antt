@@ -10,7 +10,6 @@ use Rattle.ground.specs.Lists.{byte, tab, insert_at, total}
 use Rattle.words.specs.Moves.{Cleared}
 use Rattle.ground.proofs.Sides.{side}
 use Rattle.words.proofs.Bytes.{byte_set, byte_other}
-use Rattle.partition.proofs.Rows.{body_short}
 use Rattle.page.specs.Page.{Slotted, Record, row_at, count, frontier, free, off, len, code, place, slot_need}
 use Rattle.page.specs.Steps.{Headed, Insertable, Inserted}
 use Rattle.page.proofs.Slots.{Lies, lies}
@@ -50,6 +49,7 @@ fresh {p} {q₁} {q} {d} lo hi a b bytes =
         top = λ h. absurd (omega (arith, b.counted));
         places = λ i h. absurd (omega (arith, b.counted));
         apart = λ i j k h. absurd (omega (arith, b.counted));
+        ascending = λ i j h m. absurd (omega (arith, b.counted));
         unused = rw b.counted (omega (arith, b.freed, total_none (slot_need q)));
         clear = λ k h m out. zero_at k h (omega arith);
       };
@@ -92,10 +92,14 @@ module _ (p : List ℕ) (i : ℕ) (q : List ℕ) (P : Slotted p) (K : PackedTo p
   pub insertable : Insertable q i (code p i) (place p i)
   insertable = let y : Lies p i = lies i P h in record {
     page = K.page;
-    within = omega (arith, K.counted);
+    belongs = record {
+      within = omega (arith, K.counted);
+      left = λ j m. rw (K.each j m).coded (P.ascending j i m h);
+      right = λ j m n. absurd (omega (arith, K.counted));
+    };
     natural = P.places i h;
     good = slot_code p i P h;
-    fits = omega (arith, len_of_code p i P h, body_short (length (code p i)) (slot_code p i P h).most, needs_fit p i P h, needs_are p i q K, K.page.unused, K.long);
+    fits = omega (arith, len_of_code p i P h, needs_fit p i P h, needs_are p i q K, K.page.unused, K.long);
     room = omega (arith, len_of_code p i P h, needs_fit p i P h, frontier_is p i q K, total_need p i, K.long, K.counted, P.least);
   }
 
@@ -137,31 +141,31 @@ module _ (p : List ℕ) (i : ℕ) (q : List ℕ) (P : Slotted p) (K : PackedTo p
 pub once_packed : {p c pl q : List ℕ} {s : ℕ} → Fitting p s c pl → Packed p q → Insertable q s c pl
 once_packed {p} {c} {pl} {q} {s} F K = record {
   page = K.page;
-  within = omega (arith, K.counted, F.within);
+  belongs = record {
+    within = omega (arith, K.counted, F.belongs.within);
+    left = λ j m. rw (K.each j (omega (arith, F.belongs.within))).coded (F.belongs.left j m);
+    right = λ j m n. let l : j < count p = omega (arith, K.counted) in rw (K.each j l).coded (F.belongs.right j m l);
+  };
   natural = F.natural;
   good = F.good;
   fits = omega (arith, F.fits, F.page.unused, K.page.unused, K.long, needs_are p (count p) q K);
-  room = omega (arith, F.fits, body_short (length c) F.good.most, F.page.unused, F.page.least, K.long, K.counted, frontier_is p (count p) q K, total_need p (count p));
+  room = omega (arith, F.fits, F.page.unused, F.page.least, K.long, K.counted, frontier_is p (count p) q K, total_need p (count p));
 }
 
 pub first : {p c pl q : List ℕ} {d : ℕ} → Startable p c pl → Fresh p d q → Insertable q 0 c pl
 first {p} {c} {pl} {q} {d} S F = record {
   page = F.page;
-  within = omega arith;
+  belongs = record { within = omega arith; left = λ i h. absurd (omega arith); right = λ i h m. absurd (omega (arith, F.none)) };
   natural = S.natural;
   good = S.good;
   fits = let u : free q + total (slot_need q) 0 ≡ length q - 8 = rw F.none at F.page.unused in omega (arith, u, total_none (slot_need q), F.long, S.room);
-  room = omega (arith, F.page.empty F.none, F.none, F.long, body_short (length c) S.good.most, S.room);
+  room = omega (arith, F.page.empty F.none, F.none, F.long, S.room);
 }
 
 pub started : {p c pl q r : List ℕ} {d : ℕ} → Startable p c pl → Fresh p d q → Inserted q 0 c pl r → Started p d c pl r
 unfolding insert_at tab
 started {p} {c} {pl} {q} {r} {d} S F I = record {
-  page = record {
-    rules = I.page;
-    sorted = record { ascending = λ i j l h. absurd (omega (arith, count_more q 0 c pl r I (omega arith), F.none)) };
-    some = omega (arith, count_more q 0 c pl r I (omega arith));
-  };
+  page = record { rules = I.page; some = omega (arith, count_more q 0 c pl r I (omega arith)) };
   long = I.long ∙ F.long;
   deep = I.deep ∙ F.deep;
   rows_of = rw (F.none, F.page.empty F.none) at I.rows_of;

@@ -8,7 +8,6 @@ use Rattle.ground.specs.Lists.{byte, part}
 use Rattle.words.specs.Le.{le32}
 use Rattle.words.proofs.Bytes.{le32_above}
 use Rattle.ground.proofs.Parts.{part_same}
-use Rattle.partition.specs.Partition.{row_need}
 use Rattle.page.specs.Page.{slot_at, word, count, frontier, free}
 use Rattle.page.specs.Steps.{Recorded, Opened, Headed, Insertable}
 
@@ -18,7 +17,7 @@ pub record Painted (p : List ℕ) (s : ℕ) (c pl q : List ℕ) : Type 0 where
   pub low : (k : ℕ) → k < 2 → byte q k ≡ byte p k
   pub counted : count q ≡ count p + 1
   pub fronted : frontier q ≡ frontier p + 8 + length c
-  pub freed : free q ≡ free p - row_need c
+  pub freed : free q ≡ free p - (12 + length c)
   pub kept : (k : ℕ) → 8 ≤ k → k < frontier p → byte q k ≡ byte p k
   pub gap : (k : ℕ) → frontier p + 8 + length c ≤ k → k + 4 * (count p + 1) < length p → byte q k ≡ byte p k
   pub placed : part q (frontier p) 8 ≡ pl
@@ -35,7 +34,7 @@ word_at p q i x e h = rw e h
 pub painted : {p q₁ q₂ q c pl : List ℕ} {s : ℕ} → Insertable p s c pl
     → Recorded p (frontier p) pl c q₁
     → Opened q₁ (count p) s (frontier p + 16384 * (8 + length c) + 268435456) q₂
-    → Headed q₂ (count p + 1) (frontier p + 8 + length c) (free p - row_need c) q
+    → Headed q₂ (count p + 1) (frontier p + 8 + length c) (free p - (12 + length c)) q
     → Painted p s c pl q
 unfolding word
 painted {p} {q₁} {q₂} {q} {c} {pl} {s} I a b d =
@@ -46,7 +45,7 @@ painted {p} {q₁} {q₂} {q} {c} {pl} {s} I a b d =
     let e₂ : length q₂ ≡ length p = l₂ ∙ l₁ in
     let f8 : 8 ≤ frontier p = I.page.start in
     let room : frontier p + 8 + length c + 4 * (count p + 1) ≤ length p = I.room in
-    let sn : s ≤ count p = I.within in
+    let sn : s ≤ count p = I.belongs.within in
     record {
       len = e;
       low = λ k h. d.old.below k h ∙ b.old.below k (omega arith) ∙ a.old.below k (omega arith);

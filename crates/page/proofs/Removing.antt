@@ -1,7 +1,7 @@
 -- A removal leaves a page that satisfies the rules, without the row. Assumes nothing.
 use Prim.Native.Nat.{ℕ, suc, ◌+◌, ◌*◌, ◌-◌, ◌≤◌, ◌<◌}
 use mathlib.Core.Path.{◌≡◌, ◌∙◌}
-use mathlib.Core.Logic.{◌⊎◌, ⊎_elim}
+use mathlib.Core.Logic.{⊎_elim}
 use mathlib.Core.List.{List}
 use native.Mathlib.Omega.{arith}
 use native.Mathlib.Numerals.{add-one}
@@ -10,12 +10,13 @@ use Rattle.ground.specs.Lists.{byte, total, remove_at}
 use Rattle.words.specs.Moves.{Frame, Cleared}
 use Rattle.ground.proofs.Sides.{side}
 use Rattle.words.proofs.Bytes.{span_frame, le32_above}
+use Rattle.words.specs.Codes.{Before}
 use Rattle.page.specs.Page.{In, rows, row_at, slot_need, word, off, len, kind, place, code, count, frontier, free, slot_at}
 use Rattle.page.specs.Steps.{Removable, Removed, Closed, Headed, Top}
 use Rattle.ground.proofs.Tables.{tab_remove, total_insert}
 use Rattle.page.proofs.Slots.{Lies, lies}
 use Rattle.page.proofs.Painted.{word_at}
-use Rattle.page.proofs.Inserting.{Same, same_word, same_in, in_same, SlotNumbers, row_same}
+use Rattle.page.proofs.Inserting.{Same, same_word, same_in, in_same, same_before, SlotNumbers, row_same}
 
 -- q against p
 pub record Erased (p : List ℕ) (s : ℕ) (q : List ℕ) : Type 0 where
@@ -120,6 +121,12 @@ module _ (p : List ℕ) (s : ℕ) (q : List ℕ) (I : Removable p s) (E : Erased
   apart i i' k (above h m e) (below h' e') a b = omega (arith, one_old i i' (i + 1) i' k m (omega (arith, I.within)) e e' a b)
   apart i i' k (above h m e) (above h' m' e') a b = omega (arith, one_old i i' (i + 1) (i' + 1) k m m' e e' a b)
 
+  ascending : (i i' : ℕ) → i < i' → Kept p s q i → Kept p s q i' → Before (code q i) (code q i')
+  ascending i i' l (below h e) (below h' e') = same_before e e' (I.page.ascending i i' l (omega (arith, I.within)))
+  ascending i i' l (below h e) (above h' m' e') = same_before e e' (I.page.ascending i (i' + 1) (omega arith) m')
+  ascending i i' l (above h m e) (below h' e') = absurd (omega arith)
+  ascending i i' l (above h m e) (above h' m' e') = same_before e e' (I.page.ascending (i + 1) (i' + 1) (omega arith) m')
+
   -- a slot other than s is a slot of q
   still : (j k : ℕ) → j < count p → ((i : ℕ) → i < count q → In q i k → ⊥) → (In p s k → ⊥) → In p j k → ⊥
   still j k h out nope a = ⊎_elim
@@ -183,6 +190,7 @@ module _ (p : List ℕ) (s : ℕ) (q : List ℕ) (I : Removable p s) (E : Erased
       top = λ h. E.top.reached (omega (arith, (fine 0 h (from 0 h)).short, (fine 0 h (from 0 h)).inside));
       places = λ i h. (fine i h (from i h)).natural;
       apart = λ i j k h m a b. apart i j k (from i h) (from j m) a b;
+      ascending = λ i j l h. ascending i j l (from i (omega arith)) (from j h);
       unused = omega (arith, needs_sum, E.freed, E.len_is, I.page.unused);
       clear = clear;
     };

@@ -4,8 +4,7 @@ use mathlib.Core.Path.{◌≡◌, refl, sym, ap, ◌∙◌}
 use mathlib.Core.List.{List}
 use native.Mathlib.Omega.{arith}
 use Rattle.ground.specs.Lists.{tab}
-use Rattle.partition.specs.Partition.{row_need}
-use Rattle.page.specs.Page.{Sorted, Belongs, row_at, count, frontier, off, len, code}
+use Rattle.page.specs.Page.{Slotted, Belongs, row_at, count, frontier, off, len, code}
 use Rattle.page.specs.Found.{FoundIn}
 use Rattle.page.specs.declared.Found.{Found}
 use Rattle.page.specs.declared.Found.TheVariants.{At, Absent}
@@ -47,7 +46,7 @@ added_one {p} {c} {pl} {t} {q} {t₁} {r} {t₂} {s} a b = ⊎_elim
     let e : x.0.0 ≡ y.0.0 = packed_one x.0.1 y.0.1 in
     (inserted_one x.0.2 (rw e y.0.2), x.1 ∙ sym y.1))
     (λ g. let x = a.roomy g in let y = b.roomy g in (inserted_one x.0 y.0, x.1 ∙ sym y.1))
-    (side (length p) (frontier p + 4 * count p + row_need c))
+    (side (length p) (frontier p + 4 * count p + (12 + length c)))
 
 pub fresh_one : {p q r : List ℕ} {d : ℕ} → Fresh p d q → Fresh p d r → q ≡ r
 unfolding tab
@@ -59,7 +58,7 @@ started_one {p} {c} {pl} {q} {r} {d} a b =
     unique q r a.page.rules b.page.rules (a.long ∙ sym b.long) (a.deep ∙ sym b.deep) (a.rows_of ∙ sym b.rows_of)
 
 -- a code that stands at two slots, stands at one and belongs at another, or belongs at two
-module _ (p c : List ℕ) (P : Sorted p) where
+module _ (p c : List ℕ) (P : Slotted p) where
   not_later : (i j : ℕ) → j < count p → code p i ≡ c → code p j ≡ c → i < j → ⊥
   not_later i j h e f l = irrefl c (rw (e, f) at (P.ascending i j l h))
 

@@ -11,7 +11,7 @@ use Rattle.ground.proofs.Parts.{length_part, byte_part}
 use Rattle.ground.proofs.Sides.{side}
 use Rattle.words.specs.Codes.{Before}
 use Rattle.words.proofs.Orders.{before_trans}
-use Rattle.page.specs.Page.{Slotted, Sorted, Belongs, count, frontier, word, off, len, kind, code}
+use Rattle.page.specs.Page.{Slotted, Belongs, count, frontier, word, off, len, kind, code}
 
 -- slot i of a page, in numbers
 pub record Lies (p : List ℕ) (i : ℕ) : Type 0 where
@@ -52,7 +52,7 @@ code_first {p} i b h =
     (omega (arith, l, length_part p (off p i + 8) (len p i - 8) (omega (arith, l))), rw add-zero at (byte_part p (off p i + 8) (len p i - 8) 0 (omega (arith, l))))
 
 -- a code that comes after all before slot s and before slot s's belongs there
-pub belongs : {p c : List ℕ} → Sorted p → (s : ℕ) → s ≤ count p → ((i : ℕ) → i < s → Before (code p i) c) → (s < count p → Before c (code p s)) → Belongs p s c
+pub belongs : {p c : List ℕ} → Slotted p → (s : ℕ) → s ≤ count p → ((i : ℕ) → i < s → Before (code p i) c) → (s < count p → Before c (code p s)) → Belongs p s c
 belongs {p} {c} b s h lo hi = record {
   within = h;
   left = lo;

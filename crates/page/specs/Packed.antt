@@ -2,8 +2,7 @@
 use Rattle.std.specs.Prelude.{ℕ, ◌+◌, ◌*◌, ◌≤◌, ◌<◌, ◌≡◌, List, [], ◌∷◌, length}
 use Rattle.ground.specs.Lists.{total}
 use Rattle.words.specs.Codes.{GoodCode}
-use Rattle.partition.specs.Partition.{row_need}
-use Rattle.page.specs.Page.{Slotted, BucketPage, Natural, rows, depth, count, frontier, free, off, len, place, code}
+use Rattle.page.specs.Page.{Slotted, BucketPage, Belongs, Natural, rows, depth, count, frontier, free, off, len, place, code}
 use Rattle.page.specs.Steps.{Inserted}
 
 -- a page of no rows
@@ -37,19 +36,19 @@ pub record PackingAt (p : List ℕ) (i : ℕ) (q : List ℕ) : Type 0 where
 abbrev pub Packed : List ℕ → List ℕ → Type 0
 Packed p q = PackedTo p (count p) q
 
--- a row of code c fits p, and slot s is one of p's or the next
+-- a row of code c, which belongs at slot s, fits p
 pub record Fitting (p : List ℕ) (s : ℕ) (c pl : List ℕ) : Type 0 where
   pub page : Slotted p
-  pub within : s ≤ count p
+  pub belongs : Belongs p s c
   pub natural : Natural pl
   pub good : GoodCode c
-  pub fits : row_need c ≤ free p
+  pub fits : 12 + length c ≤ free p
 
 -- If the room between frontier and slots is at least the need, the record goes at the frontier. Else the page is packed first, then the same.
 -- t is a scratch page, which then gets what the page held.
 pub record Added (p : List ℕ) (s : ℕ) (c pl t q t' : List ℕ) : Type 0 where
-  pub roomy : frontier p + 4 * count p + row_need c ≤ length p → Inserted p s c pl q × (t' ≡ t)
-  pub tight : length p < frontier p + 4 * count p + row_need c → ((g : List ℕ) × Packed p g × Inserted g s c pl q) × (t' ≡ p)
+  pub roomy : frontier p + 4 * count p + (12 + length c) ≤ length p → Inserted p s c pl q × (t' ≡ t)
+  pub tight : length p < frontier p + 4 * count p + (12 + length c) → ((g : List ℕ) × Packed p g × Inserted g s c pl q) × (t' ≡ p)
 
 -- a row that may be a page's first
 pub record Startable (p : List ℕ) (c pl : List ℕ) : Type 0 where
@@ -57,7 +56,7 @@ pub record Startable (p : List ℕ) (c pl : List ℕ) : Type 0 where
   pub most : length p ≤ 16384
   pub natural : Natural pl
   pub good : GoodCode c
-  pub room : 8 + row_need c ≤ length p
+  pub room : 20 + length c ≤ length p
 
 -- a page of one row
 pub record Started (p : List ℕ) (d : ℕ) (c pl q : List ℕ) : Type 0 where

@@ -67,7 +67,7 @@ pub record Natural (s : List ℕ) : Type 0 where
   pub slot : byte s 5 < 128
   pub volume : byte s 7 < 128
 
--- the layout rules of one page, of any number of rows; its codes' order and their hashes' shared bits are rules apart
+-- the rules of one page, of any number of rows (but for the hashes' shared bits)
 pub record Slotted (p : List ℕ) : Type 0 where
   pub least : 16 ≤ length p
   pub most : length p ≤ 16384
@@ -84,17 +84,13 @@ pub record Slotted (p : List ℕ) : Type 0 where
   pub top : 1 ≤ count p → (i : ℕ) × (i < count p) × (off p i + len p i ≡ frontier p)
   pub places : (i : ℕ) → i < count p → Natural (place p i)
   pub apart : (i j k : ℕ) → i < count p → j < count p → In p i k → In p j k → i ≡ j
+  pub ascending : (i j : ℕ) → i < j → j < count p → Before (code p i) (code p j)
   pub unused : free p + total (slot_need p) (count p) ≡ length p - 8
   pub clear : (k : ℕ) → 8 ≤ k → k + 4 * count p < length p → ((i : ℕ) → i < count p → In p i k → ⊥) → byte p k ≡ 0
 
--- the slots are in code order, no code twice
-pub record Sorted (p : List ℕ) : Type 0 where
-  pub ascending : (i j : ℕ) → i < j → j < count p → Before (code p i) (code p j)
-
--- a bucket page is in order and has a row
+-- a bucket page has a row
 pub record BucketPage (p : List ℕ) : Type 0 where
   pub rules : Slotted p
-  pub sorted : Sorted p
   pub some : 1 ≤ count p
 
 -- c belongs at slot s of p

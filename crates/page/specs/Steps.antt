@@ -3,8 +3,7 @@ use Rattle.std.specs.Prelude.{ℕ, ◌+◌, ◌*◌, ◌-◌, ◌≤◌, ◌<◌
 use Rattle.ground.specs.Lists.{byte, part, insert_at, remove_at}
 use Rattle.words.specs.Codes.{GoodCode}
 use Rattle.words.specs.Moves.{Frame}
-use Rattle.partition.specs.Partition.{row_need}
-use Rattle.page.specs.Page.{Slotted, Natural, rows, count, frontier, free, depth, slot_at, word, off, len, code}
+use Rattle.page.specs.Page.{Slotted, Belongs, Natural, rows, count, frontier, free, depth, slot_at, word, off, len, code}
 
 -- a record written at f
 pub record Recorded (p : List ℕ) (f : ℕ) (pl c q : List ℕ) : Type 0 where
@@ -38,13 +37,13 @@ pub record Headed (p : List ℕ) (n f r : ℕ) (q : List ℕ) : Type 0 where
   pub fronted : frontier q ≡ f
   pub freed : free q ≡ r
 
--- there is room at p's frontier for a row of code c, and slot s is one of p's or the next
+-- there is room at p's frontier for a row of code c, which belongs at slot s
 pub record Insertable (p : List ℕ) (s : ℕ) (c pl : List ℕ) : Type 0 where
   pub page : Slotted p
-  pub within : s ≤ count p
+  pub belongs : Belongs p s c
   pub natural : Natural pl
   pub good : GoodCode c
-  pub fits : row_need c ≤ free p
+  pub fits : 12 + length c ≤ free p
   pub room : frontier p + 8 + length c + 4 * (count p + 1) ≤ length p
 
 -- q is p with the row at the frontier, in slot s

@@ -12,7 +12,7 @@ pub fn insert_row(page: &mut [u8], s: usize, key: &[u8], place: &[u8], scratch: 
 {
     let n = words::get16(page, 2);
     let f = words::get16(page, 4);
-    if f + 4 * n + partition::row_need(key) <= page.len() {
+    if f + 4 * n + 12 + key.len() <= page.len() {
         insert_at_frontier(page, s, key, place);
     } else {
         pack_page(page, scratch);

@@ -41,5 +41,5 @@ pub fn insert_at_frontier(page: &mut [u8], s: usize, key: &[u8], place: &[u8])
     let m = key.len();
     write_record(page, f, place, key);
     open_slot(page, n, s, f + 16384 * (8 + m) + 268435456);
-    set_head(page, n + 1, f + 8 + m, r - partition::row_need(key));
+    set_head(page, n + 1, f + 8 + m, r - (12 + m));
 }

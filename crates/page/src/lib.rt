@@ -1,4 +1,6 @@
 // A bucket page of any length to 16,384 bytes: its rows found, put in, taken out and packed.
+#![tactic(auto)]
+
 mod add;
 mod insert;
 mod pack;
@@ -14,20 +16,20 @@ pub use read::{code_at, compare_slot, find_code, place_at, read_code};
 pub use remove::{end_of, remove_slot, top_of};
 
 // A row place.
-#[derive(Drop)]
+#[derive(Clone, Copy)]
 pub struct Place {
     pub page: i32,
     pub slot: i16,
     pub volume: i16,
 }
 
-#[derive(Drop)]
+#[derive(Clone, Copy)]
 pub enum Found {
     At(usize),
     Absent(usize),
 }
 
-#[derive(Drop)]
+#[derive(Clone, Copy)]
 pub struct Extent {
     pub off: usize,
     pub len: usize,

@@ -2,7 +2,7 @@
 ghost use Rattle.std.specs.Prelude.{◌≡◌, ◌+◌, ◌*◌, ◌≤◌, ◌<◌, length};
 ghost use Rattle.ground.specs.Lists.{byte};
 ghost use Rattle.words.specs.Codes.{Ordered};
-ghost use Rattle.page.specs.Page.{Slotted, Sorted, off, len, code, place, count};
+ghost use Rattle.page.specs.Page.{Slotted, off, len, code, place, count};
 ghost use Rattle.page.specs.Found.{FoundIn, CodeAsked, CodeOut};
 
 use crate::{Extent, Found};
@@ -63,7 +63,7 @@ fn first_byte(page: &[u8], i: usize) -> u8
 
 // Where a code stands, or where it belongs: slots are in code order, so what is left is halved. Most codes differ in their first byte; before all stands an empty one.
 pub fn find_code(page: &[u8], key: &[u8]) -> Found
-    requires { Slotted page.now × Sorted page.now }
+    requires { Slotted page.now }
     ensures { FoundIn page.now key.now result }
 {
     if key.len() < 1 {

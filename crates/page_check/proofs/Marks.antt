@@ -14,7 +14,7 @@ use Rattle.words.specs.Folds.{fold_byte}
 use Rattle.words.proofs.Folds.{byte_kept, folded_each, each_folded}
 use Rattle.page.specs.Page.{BucketPage, In, off, len, code, count, frontier}
 use Rattle.page.proofs.Sums.{len_of_code}
-use Rattle.page_check.specs.Marks.{OfPlace, Marked, NoCapital}
+use Rattle.page_check.specs.Marks.{Marked, NoCapital}
 use Rattle.page_check.specs.Shared.{Spelled}
 
 or_none : (x y : ℕ) → y ≡ 0 → bit_or x y ≡ x

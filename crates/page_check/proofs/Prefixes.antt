@@ -1,52 +1,64 @@
--- The hashes of a page share a prefix where each shares it with the first. A prefix of at most 31 bits does not depend on the last bit. Assumes nothing.
-use Prim.Native.Nat.{ℕ, suc, ◌+◌, ◌-◌, ◌*◌, ◌/◌, ◌^◌, ◌≤◌, ◌<◌}
-use mathlib.Core.Path.{◌≡◌, sym, ap, ◌∙◌}
+-- The hashes of a page share a prefix where each shares it with the first, and where their differences have no bit in it. Assumes nothing.
+use Prim.Native.Nat.{ℕ, ◌+◌, ◌-◌, ◌/◌, ◌^◌, ◌≤◌, ◌<◌}
+use mathlib.Core.Path.{◌≡◌, refl, sym, ap, subst, ◌∙◌}
+use mathlib.Core.Logic.{◌↔◌, ⊎_elim}
 use mathlib.Core.List.{List}
-use mathlib.Core.Logic.{◌↔◌, ◌⊎◌, inl, inr}
+use native.Mathlib.Nat.{div-lt_iff_lt-mul, div-eq_of_lt, one-mul}
 use native.Mathlib.Omega.{arith}
+use borrow.Author.Count.{below_more}
+use lib.Pow.{pow_pos, pow-add, shl-shr}
+use lib.Bits.{bit_or, bit_xor, or_shr, xor_shr, xor_self}
 use Rattle.ground.proofs.Sides.{side}
-use Rattle.partition.specs.Bits.{top, shared}
-use Rattle.partition.proofs.Bits.{top_is, shares}
-use Rattle.partition.proofs.Tree.{half_shr}
+use Rattle.words.proofs.Zeros.{or_zero, zero_or}
+use Rattle.partition.specs.Bits.{top}
+use Rattle.partition.proofs.Bits.{top_is, xor_zero}
 use Rattle.page.specs.Page.{depth}
 use Rattle.page_check.specs.Shared.{AllShare, Share}
 
 pub share_all : (h : List ℕ → ℕ) (p : List ℕ) → AllShare h p (depth p) → Share h p
 share_all h p e i j l m = sym (e i l) ∙ e j m
 
--- a prefix of at most 31 bits is that of the half
-top_half : (k a : ℕ) → k ≤ 31 → top k a ≡ a / 2 / 2 ^ (31 - k)
-top_half k a l =
-    let q : 32 - k ≡ suc (31 - k) = omega arith in
-    top_is a k (omega arith) ∙ ap (λ n. a / 2 ^ n) q ∙ sym (half_shr a (31 - k))
+-- the differences to x of f 0 to f (n - 1), or-ed, have no bit in the prefix of k bits just where all have that of x
+pub record Ored (k : ℕ) (f : ℕ → ℕ) (x n acc : ℕ) : Type 0 where
+  pub so : top k acc ≡ 0 → (i : ℕ) → i < n → top k x ≡ top k (f i)
+  pub back : ((i : ℕ) → i < n → top k x ≡ top k (f i)) → top k acc ≡ 0
 
-same_half : (k a b : ℕ) → k ≤ 31 → a / 2 ≡ b / 2 → top k a ≡ top k b
-same_half k a b l e = top_half k a l ∙ ap (λ n. n / 2 ^ (31 - k)) e ∙ sym (top_half k b l)
+module _ (k : ℕ) (small : k ≤ 32) where
+  top_or : (a b : ℕ) → top k (bit_or a b) ≡ bit_or (top k a) (top k b)
+  top_or a b = rw (top_is (bit_or a b) k small, top_is a k small, top_is b k small) (or_shr a b (32 - k))
 
--- two numbers with their last bits made 1 and 0
-module _ (x y a b : ℕ) (hx : x < 2 ^ 32) (hy : y < 2 ^ 32) (e : a ≡ 2 * (x / 2)) (f : b ≡ 2 * (y / 2)) where
-  low_a : a + 1 < 2 ^ 32
-  low_a = omega (arith, hx, e)
+  top_xor : (a b : ℕ) → top k (bit_xor a b) ≡ bit_xor (top k a) (top k b)
+  top_xor a b = rw (top_is (bit_xor a b) k small, top_is a k small, top_is b k small) (xor_shr a b (32 - k))
 
-  low_b : b < 2 ^ 32
-  low_b = omega (arith, hy, f)
+  pub top_zero : top k 0 ≡ 0
+  top_zero = top_xor 0 0 ∙ xor_self (top k 0)
 
-  -- they differ
-  pub differ : shared (a + 1) b ≤ 31
-  differ = go (side 31 (shared (a + 1) b))
-    where
-      go : (31 < shared (a + 1) b) ⊎ (shared (a + 1) b ≤ 31) → shared (a + 1) b ≤ 31
-      go (inr l) = l
-      go (inl l) =
-          let t : top 32 (a + 1) ≡ top 32 b = (shares (a + 1) b 32 low_a low_b (omega arith)).1 (omega (arith, l)) in
-          let u : top 32 (a + 1) ≡ (a + 1) / 2 ^ 0 = top_is (a + 1) 32 (omega arith) in
-          let v : top 32 b ≡ b / 2 ^ 0 = top_is b 32 (omega arith) in
-          absurd (omega (arith, t, u, v, e, f))
+  -- and they share it where their difference is below 2 ^ (32 - k)
+  pub near : (a b : ℕ) → (bit_xor a b < 2 ^ (32 - k)) ↔ (top k a ≡ top k b)
+  near a b = (
+    (λ h. xor_zero (top k a) (top k b) (sym (top_xor a b) ∙ top_is (bit_xor a b) k small ∙ div-eq_of_lt h)),
+    (λ e.
+        let z : bit_xor a b / 2 ^ (32 - k) ≡ 0 = sym (top_is (bit_xor a b) k small) ∙ top_xor a b ∙ ap (λ n. bit_xor n (top k b)) e ∙ xor_self (top k b) in
+        let y : bit_xor a b / 2 ^ (32 - k) < 1 = omega arith in
+        subst (λ n. bit_xor a b < n) (one-mul (2 ^ (32 - k))) ((div-lt_iff_lt-mul (pow_pos (32 - k))).0 y)),
+  )
 
-  -- and share k bits just where the two numbers do
-  pub halves_share : (k : ℕ) → k ≤ 31 → (top k x ≡ top k y) ↔ (k ≤ shared (a + 1) b)
-  halves_share k l =
-      let p : top k x ≡ top k (a + 1) = same_half k x (a + 1) l (omega (arith, e)) in
-      let q : top k y ≡ top k b = same_half k y b l (omega (arith, f)) in
-      let s = shares (a + 1) b k low_a low_b (omega arith) in
-      ((λ h. s.0 (sym p ∙ h ∙ q)), (λ h. p ∙ s.1 h ∙ sym q))
+  pub limit_is : 4294967296 / 2 ^ k ≡ 2 ^ (32 - k)
+  limit_is =
+      let e : 32 - k + k ≡ 32 = omega arith in
+      ap (λ n. n / 2 ^ k) (ap (λ n. 2 ^ n) (sym e) ∙ pow-add 2 (32 - k) k) ∙ shl-shr (2 ^ (32 - k)) k
+
+  -- none or-ed yet, of those that are known to be near
+  pub ored_near : (f : ℕ → ℕ) (x n : ℕ) → x ≡ f 0 → ((i : ℕ) → 1 ≤ i → i < n → bit_xor x (f i) < 2 ^ (32 - k)) → Ored k f x n 0
+  ored_near f x n e u = record {
+    so = λ _ i h. ⊎_elim (λ lt. let z : i ≡ 0 = omega arith in rw (z, e) refl) (λ ge. (near x (f i)).0 (u i ge h)) (side i 1);
+    back = λ _. top_zero;
+  }
+
+  pub ored_more : (f : ℕ → ℕ) (x n acc : ℕ) → Ored k f x n acc → Ored k f x (n + 1) (bit_or acc (bit_xor x (f n)))
+  ored_more f x n acc o = record {
+    so = λ z. let u = or_zero (top k acc) (top k (bit_xor x (f n))) (sym (top_or acc (bit_xor x (f n))) ∙ z) in
+        below_more (λ i. top k x ≡ top k (f i)) n (o.so u.0) (xor_zero (top k x) (top k (f n)) (sym (top_xor x (f n)) ∙ u.1));
+    back = λ all. top_or acc (bit_xor x (f n)) ∙ zero_or (top k acc) (top k (bit_xor x (f n))) (o.back (λ i h. all i (omega arith)))
+        (top_xor x (f n) ∙ rw (all n (omega arith)) (xor_self (top k (f n))));
+  }

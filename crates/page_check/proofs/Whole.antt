@@ -1,7 +1,7 @@
 -- The tests together are the rules. Assumes nothing.
 use Prim.Native.Nat.{ℕ, zero, suc, ◌+◌, ◌*◌, ◌-◌, ◌≤◌, ◌<◌}
 use mathlib.Core.Path.{◌≡◌, refl}
-use mathlib.Core.Logic.{◌⊎◌, ⊎_elim, ◌↔◌}
+use mathlib.Core.Logic.{⊎_elim, ◌↔◌}
 use mathlib.Core.List.{List}
 use native.Mathlib.Omega.{arith}
 use lib.Bits.{bit_or}
@@ -87,7 +87,7 @@ slots_of p b = record {
 
     climbs : (i : ℕ) → i < count p → Before (prior p i) (code p i)
     climbs zero h = after_none (code p 0) (omega (arith, len_of_code p 0 b.rules h, b.rules.short 0 h))
-    climbs (suc i) h = b.sorted.ascending i (suc i) (omega arith) h
+    climbs (suc i) h = b.rules.ascending i (suc i) (omega arith) h
 
 -- acc is zero exactly when the i bytes from a on and those from b on are
 pub record BothGathered (p : List ℕ) (a b i acc : ℕ) : Type 0 where
@@ -137,7 +137,6 @@ module _ (p : List ℕ) (n f : ℕ) (k : Known p n f) where
   pub whole : Laid p n f → ZeroFrom p f (length p - 4 * n) → BucketPage p
   whole l o = record {
     some = k.head.some;
-    sorted = record { ascending = ascending_of p (count p) k.slots.ascending };
     rules = record {
       least = k.head.least;
       most = k.head.most;
@@ -154,6 +153,7 @@ module _ (p : List ℕ) (n f : ℕ) (k : Known p n f) where
       top = λ h. laid.top;
       places = λ i h. natural_to p i (omega (arith, (slot i h).inside, (slot i h).short, k.head.room)) (laid.natural i h);
       apart = laid.apart;
+      ascending = ascending_of p (count p) k.slots.ascending;
       unused = k.slots.unused;
       clear = λ x h l out. ⊎_elim
           (λ lt. laid.clear x h lt out)

@@ -1,5 +1,6 @@
 -- The rules of the codes' bytes and of the hashes, and all rules of one bucket page. Assumes nothing.
 use Rattle.std.specs.Prelude.{ℕ, ◌≤◌, ◌<◌, ◌≡◌, List, length}
+use Rattle.std.specs.Int.Bits.{bit_xor}
 use Rattle.words.specs.Folds.{Folded}
 use Rattle.words.specs.Zeros.{Zero}
 use Rattle.hash.specs.Fnv.{fnv}
@@ -23,17 +24,17 @@ pub record PageOk (p : List ℕ) : Type 0 where
   pub rules : BucketPage p
   pub folded : Spelled p
 
--- a bucket page, the hash of its first code, and k bits, fewer than a hash has
+-- a bucket page, the hash of its first code, and k bits at most those of a hash
 pub record FirstHash (p : List ℕ) (first k : ℕ) : Type 0 where
   pub rules : BucketPage p
   pub hash : first ≡ fnv (code p 0)
-  pub bits : k ≤ 31
+  pub bits : k ≤ 32
 
--- a table as long as the page, of zeros, and a deepest depth of fewer bits than a hash has
+-- a table as long as the page, of zeros, and a deepest depth of no more bits than a hash has
 pub record LentTable (p t : List ℕ) (deepest : ℕ) : Type 0 where
   pub same : length t ≡ length p
   pub zero : Zero t
-  pub bits : deepest ≤ 31
+  pub bits : deepest ≤ 32
 
 -- the bucket page's rules, no capital and shared hash bits included, local depth 0 to the deepest
 pub record Keeps (deepest : ℕ) (p : List ℕ) : Type 0 where
@@ -42,8 +43,8 @@ pub record Keeps (deepest : ℕ) (p : List ℕ) : Type 0 where
   pub deep : depth p ≤ deepest
   pub share : Share fnv p
 
--- from slot 1 up to slot r, not further than there are slots, the hashes share their first k bits with x
-pub record NearUpTo (p : List ℕ) (x k r : ℕ) : Type 0 where
+-- from slot 1 up to slot r, not further than there are slots, the hashes differ from x by less than m
+pub record NearUpTo (p : List ℕ) (x m r : ℕ) : Type 0 where
   pub start : 1 ≤ r
   pub within : r ≤ count p
-  pub near : (i : ℕ) → 1 ≤ i → i < r → top k x ≡ top k (fnv (code p i))
+  pub near : (i : ℕ) → 1 ≤ i → i < r → bit_xor x (fnv (code p i)) < m

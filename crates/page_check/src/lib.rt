@@ -1,5 +1,8 @@
 // Whether bytes are a bucket page: the rules of its bytes by page_ok, the shared bits of its hashes slot by slot.
+#![tactic(auto)]
+
 ghost use Rattle.std.specs.Prelude.{◌≡◌, true, ◌↔◌, ◌+◌, ◌*◌, ◌-◌, ◌/◌, ◌%◌, ◌^◌, ◌≤◌, ◌<◌, length};
+ghost use Rattle.std.specs.Int.Bits.{bit_xor};
 ghost use Rattle.ground.specs.Says.{Says};
 ghost use Rattle.ground.specs.Lists.{part};
 ghost use Rattle.words.specs.Codes.{Before};
@@ -375,43 +378,48 @@ fn hash_pair(page: &[u8], i: usize) -> Hashes
     hash::hash_two(page, o + 8, o + l, q + 8, q + k)
 }
 
-// The even number of x and its neighbour: x without its last bit.
-fn even(x: u32) -> u32
-    ensures { result ≡ 2 * (x / 2) }
-{
-    x - x % 2
-}
-
-// Whether two hashes have the same prefix of k bits, by the leading bits in which they agree. Their last bits, which are in no prefix, are made to differ, and the
-// bits behind those that agree are counted: of a number that is not 0 x86-64 finds the highest bit by one instruction, the leading zeros by two or three.
-// The bits behind the prefix are worked out as a byte; as 32 bits the compiler would turn the test round again.
+// Whether two hashes have the same prefix of k bits.
 pub fn shares(first: u32, x: u32, k: u8) -> bool
-    requires { k ≤ 31 }
+    requires { k ≤ 32 }
     ensures { Says result (top k first ≡ top k x) }
 {
-    31 - partition::shared_bits(even(first) + 1, even(x)) <= (31 - k) as u32
+    (k as u32) <= partition::shared_bits(first, x)
 }
 
-// Whether two hashes both have the first's prefix of k bits.
-fn both_share(first: u32, two: Hashes, k: u8) -> bool
-    requires { k ≤ 31 }
-    ensures { Says result ((top k first ≡ top k two.first) × (top k first ≡ top k two.second)) }
+// What the difference of two hashes stays below where they share k bits.
+pub fn share_limit(k: u8) -> u64
+    requires { k ≤ 32 }
+    ensures { result ≡ 2 ^ (32 - k) }
 {
-    if !shares(first, two.first, k) {
+    4294967296u64 >> (k as u32)
+}
+
+// Whether the difference of two hashes is below m: where m is a limit worked out once, cheaper than to count the bits they share.
+pub fn differ_below(first: u32, x: u32, m: u64) -> bool
+    ensures { Says result (bit_xor first x < m) }
+{
+    ((first ^ x) as u64) < m
+}
+
+// Whether two hashes both differ from the first by less than m.
+fn both_below(first: u32, two: Hashes, m: u64) -> bool
+    ensures { Says result ((bit_xor first two.first < m) × (bit_xor first two.second < m)) }
+{
+    if !differ_below(first, two.first, m) {
         return false;
     }
-    shares(first, two.second, k)
+    differ_below(first, two.second, m)
 }
 
-// How far from slot 1 on the hashes share k bits with the first, two slots at a time.
-fn near_by_twos(page: &[u8], first: u32, k: u8) -> usize
-    requires { BucketPage page.now × (k ≤ 31) }
-    ensures { NearUpTo page.now first k result }
+// How far from slot 1 on the hashes differ from the first by less than m, two slots at a time.
+fn near_by_twos(page: &[u8], first: u32, m: u64) -> usize
+    requires { BucketPage page.now }
+    ensures { NearUpTo page.now first m result }
 {
     let n = words::get16(page, 2);
     let mut i = 1;
     while i + 1 < n {
-        if !both_share(first, hash_pair(page, i), k) {
+        if !both_below(first, hash_pair(page, i), m) {
             return i;
         }
         i += 2;
@@ -419,36 +427,35 @@ fn near_by_twos(page: &[u8], first: u32, k: u8) -> usize
     i
 }
 
-// The slots whose hashes share k bits with the first, two by two, where that pays: where the records, which lie before the frontier, have 48 bytes or more on the whole, and so the codes 40. Else 1: no slot is looked at.
-pub fn near_where_long(page: &[u8], first: u32, k: u8) -> usize
-    requires { BucketPage page.now × (k ≤ 31) }
-    ensures { NearUpTo page.now first k result }
+// The slots whose hashes are near the first, two by two, where that pays: where the records, which lie before the frontier, have 48 bytes or more on the whole, and so the codes 40. Else 1: no slot is looked at.
+pub fn near_where_long(page: &[u8], first: u32, m: u64) -> usize
+    requires { BucketPage page.now }
+    ensures { NearUpTo page.now first m result }
 {
     if words::get16(page, 4) < 48 * words::get16(page, 2) {
         return 1;
     }
-    near_by_twos(page, first, k)
+    near_by_twos(page, first, m)
 }
 
-// Whether the hashes of a bucket page, the first of them given, share their first k bits.
+// Whether the hashes of a bucket page, the first of them given, share their first k bits: their differences or-ed have none there.
 fn alike(page: &[u8], first: u32, k: u8) -> bool
     requires { FirstHash page.now first k }
     ensures { Says result (AllShare fnv page.now k) }
 {
     let n = words::get16(page, 2);
-    let mut i = near_by_twos(page, first, k);
+    let mut acc: u32 = 0;
+    let mut i = near_by_twos(page, first, share_limit(k));
     while i < n {
-        if !shares(first, hash_slot(page, i), k) {
-            return false;
-        }
+        acc = acc | (first ^ hash_slot(page, i));
         i += 1;
     }
-    true
+    shares(0, acc, k)
 }
 
 // Whether the hashes of a bucket page share the first local-depth bits.
 pub fn share_ok(page: &[u8]) -> bool
-    requires { BucketPage page.now × (depth page.now ≤ 31) }
+    requires { BucketPage page.now × (depth page.now ≤ 32) }
     ensures { Says result (Share fnv page.now) }
 {
     alike(page, hash_slot(page, 0), page[1])

@@ -1,11 +1,13 @@
 // A page reader: it borrows one bucket page and hands out row after row. Inspection is built on it.
-// Each function over the struct is a walk by hand: it takes the struct apart, and the work is in slots.
+// A thin layer: each function over the struct takes it apart, and the work is in slots.
+#![tactic(auto)]
+
 ghost use Rattle.std.specs.Prelude.{◌≡◌, ◌+◌, ◌-◌, ◌≤◌, ◌<◌, min, length};
 ghost use Rattle.ground.specs.Ladder.{Answers};
 ghost use Rattle.hash.specs.Fnv.{fnv};
 ghost use Rattle.page.specs.Page as Page;
 ghost use Rattle.page.specs.Places as Places;
-ghost use Rattle.partition.specs.Sizes.{shape_of_page};
+ghost use Rattle.partition.specs.Sizes.{shape_for};
 ghost use Rattle.store.specs.Tables.{meaning, inspect_table};
 ghost use Rattle.page_reader.specs.Read.{Reads, Readable, nth_table};
 
@@ -15,7 +17,7 @@ use store::{Answer, Refusal};
 mod slots;
 
 // A page as it is read, and the slot of the next row.
-#[derive(Drop)]
+#[derive(Clone, Copy)]
 pub struct Reader<'a> {
     pub page: &'a [u8],
     pub slot: usize,
@@ -97,7 +99,7 @@ pub fn nth(page: &[u8], n: usize, out: &mut [u8]) -> Answer
 
 // Inspection of one page, of any of the three lengths, with its depth.
 pub fn inspect(page: &[u8], n: usize, out: &mut [u8]) -> Answer
-    ensures { Answers (inspect_table (shape_of_page page.now) fnv page.now n out.old) (meaning result, out.new) }
+    ensures { Answers (inspect_table (shape_for (length page.now)) fnv page.now n out.old) (meaning result, out.new) }
 {
     let z = partition::shape_for(page.len());
     if page.len() != 8 + z.capacity {

@@ -13,7 +13,7 @@ use store::{Answer, Refusal};
 
 // Whether a page of 1,024 bytes keeps a bucket page's rules up to a depth.
 fn keeps_1024(page: &[u8], deepest: u8) -> bool
-    requires { (length page.now ≡ 1024) × (deepest ≤ 31) }
+    requires { (length page.now ≡ 1024) × (deepest ≤ 32) }
     ensures { Says result (Keeps deepest page.now) }
 {
     let mut tab = [0u8; 1024];
@@ -22,7 +22,7 @@ fn keeps_1024(page: &[u8], deepest: u8) -> bool
 
 // Whether a page of 4,096 bytes keeps a bucket page's rules up to a depth.
 fn keeps_4096(page: &[u8], deepest: u8) -> bool
-    requires { (length page.now ≡ 4096) × (deepest ≤ 31) }
+    requires { (length page.now ≡ 4096) × (deepest ≤ 32) }
     ensures { Says result (Keeps deepest page.now) }
 {
     let mut tab = [0u8; 4096];
@@ -31,7 +31,7 @@ fn keeps_4096(page: &[u8], deepest: u8) -> bool
 
 // Whether a page of 16,384 bytes keeps a bucket page's rules up to a depth.
 fn keeps_16384(page: &[u8], deepest: u8) -> bool
-    requires { (length page.now ≡ 16384) × (deepest ≤ 31) }
+    requires { (length page.now ≡ 16384) × (deepest ≤ 32) }
     ensures { Says result (Keeps deepest page.now) }
 {
     let mut tab = [0u8; 16384];

@@ -14,7 +14,7 @@ use lib.Pow.{pow_pos}
 use Rattle.ground.specs.Says.{Says}
 use Rattle.ground.specs.Lists.{byte, tab}
 use Rattle.partition.specs.Bits.{shared}
-use Rattle.partition.specs.Partition.{body_length, Row, S1024, needs, buckets, depth_of, entry}
+use Rattle.partition.specs.Partition.{Row, S1024, needs, buckets, depth_of, entry}
 use Rattle.partition.specs.Listing.{place_of, Once}
 use Rattle.partition.specs.Cases.{chosen, Case, hashing, sharing, needing, parting, growing, Holds, All, table, edges, a, b, c}
 
@@ -75,7 +75,7 @@ infixr 5 ◌&◌
 x & y = (x, y)
 
 pub cases_hold : (f : List ℕ → ℕ) → f [] ≡ 2_166_136_261 → f a ≡ 0xE40C292C → f b ≡ 0xE70C2DE5 → f c ≡ 0xE60C2C52 → All f table
-unfolding once body_length needs count_leading_zeros buckets depth_of entry tab
+unfolding once needs count_leading_zeros buckets depth_of entry tab
 cases_hold f e ea eb ec =
     all_hold f table
     (e
@@ -90,5 +90,5 @@ cases_hold f e ea eb ec =
     & tt)
 
 pub edges_hold : (f : List ℕ → ℕ) → All f edges
-unfolding once body_length needs buckets depth_of entry tab
+unfolding once needs buckets depth_of entry tab
 edges_hold f = all_hold f edges ((refl, refl, refl) & (refl, refl, refl) & (refl, refl, refl, refl) & (refl, refl, refl, refl) & (refl, refl, refl, refl) & (refl, refl, refl, refl) & tt)

@@ -64,14 +64,6 @@ module _ {A : Type 0} (code : A → List ℕ) where
     rising_tab (λ i. f (suc i)) n (λ i j l k. u (suc i) (suc j) (omega arith) (omega arith)),
   )
 
-  -- and back
-  pub tab_rising : (f : ℕ → A) (n : ℕ) → Rising code (tab f n) → (i j : ℕ) → i < j → j < n → Before (code (f i)) (code (f j))
-  unfolding tab
-  tab_rising f zero u i j l m = absurd (omega arith)
-  tab_rising f (suc n) u i zero l m = absurd (omega arith)
-  tab_rising f (suc n) u zero (suc j) l m = u.0 (f (suc j)) (tab_in (λ k. f (suc k)) n j (omega arith))
-  tab_rising f (suc n) u (suc i) (suc j) l m = tab_rising (λ k. f (suc k)) n u.1 i j (omega arith) (omega arith)
-
   -- two lists in order with the same members are equal
   pub rising_ext : (s t : List A) → Rising code s → Rising code t → ((a : A) → Memᴰ a s → Memᴰ a t) → ((a : A) → Memᴰ a t → Memᴰ a s) → s ≡ t
   rising_ext = strict_ext (λ a b. Before (code a) (code b)) (λ a b x y. irrefl (code a) (before_trans x y))

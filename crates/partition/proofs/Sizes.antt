@@ -3,7 +3,7 @@ use mathlib.Core.Path.{◌≡◌, refl}
 use mathlib.Core.Bool.{Bool, true, false}
 use mathlib.Core.List.{List, [], ◌∷◌}
 use mathlib.Core.Logic.{⊎_elim}
-use Prim.Native.Nat.{ℕ, zero, suc, ◌+◌, ◌*◌, ◌^◌, ◌≤◌, ◌<◌}
+use Prim.Native.Nat.{ℕ, zero, suc, ◌*◌, ◌^◌, ◌≤◌, ◌<◌}
 use native.Mathlib.Omega.{arith}
 use native.Mathlib.Nat.{le_of_suc-le-suc, not-suc-le-zero}
 use lib.Dec.{T, eqb, leb, eqb→eq, leb→le}
@@ -13,7 +13,7 @@ use Rattle.words.specs.Le.{le32}
 use Rattle.ground.proofs.Sides.{side}
 use Rattle.partition.specs.declared.Shape.{Shape}
 use Rattle.partition.specs.Partition.{S1024}
-use Rattle.partition.specs.Sizes.{size, Sized, S4096, S16384, sizes, shape_at, either, shape_for, number_of_size, shape_of}
+use Rattle.partition.specs.Sizes.{size, Sized, sizes, shape_at, either, shape_for, number_of_size, shape_of}
 use Rattle.partition.proofs.Table.{both, both_left, both_right}
 
 -- the rule as a test

@@ -1,5 +1,5 @@
 -- The page sizes: 1,024, 4,096 and 16,384 bytes. Assumes nothing.
-use Rattle.std.specs.Prelude.{◌≡◌, Bool, true, false, List, [], ◌∷◌, ℕ, ◌+◌, ◌*◌, ◌^◌, ◌≤◌, eqb, length, get_or}
+use Rattle.std.specs.Prelude.{◌≡◌, Bool, true, false, List, [], ◌∷◌, ℕ, ◌+◌, ◌*◌, ◌^◌, ◌≤◌, eqb, get_or}
 use Rattle.words.specs.Le.{le32}
 use Rattle.partition.specs.declared.Shape.{Shape}
 use Rattle.partition.specs.Partition.{S1024}
@@ -33,7 +33,7 @@ abbrev pub either : {A : Type 0} → Bool → A → A → A
 either true a b = a
 either false a b = b
 
--- What a number stands for that says a size; one that says none counts as 1,024. It stands at 20 in page 0, is a page's length, or is given to format.
+-- At 20 in page 0 stands the size, written 0 for 1,024. A bad size number counts as 1,024.
 unfoldable pub shape_for : ℕ → Shape
 shape_for n = either (eqb n 4096) S4096 (either (eqb n 16384) S16384 S1024)
 
@@ -41,15 +41,6 @@ shape_for n = either (eqb n 4096) S4096 (either (eqb n 16384) S16384 S1024)
 unfoldable pub number_of_size : Shape → ℕ
 number_of_size S = either (eqb (size S) 1024) 0 (size S)
 
--- At 20 in page 0 stands the size, written 0 for 1,024. A bad size number counts as 1,024.
 unfoldable pub shape_of : List ℕ → Shape
 unfolding shape_for
 shape_of s = shape_for (le32 s 20)
-
--- a page of its own is of the size that its length says
-abbrev pub shape_of_page : List ℕ → Shape
-shape_of_page g = shape_for (length g)
-
--- the size that a format is given
-abbrev pub shape_given : ℕ → Shape
-shape_given n = shape_for n

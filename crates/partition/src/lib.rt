@@ -1,11 +1,13 @@
 // The partition worked out afresh, over any hash: definitions and laws; the top bits of a hash, the bits that two hashes share, and a prefix's run of entries.
-ghost use Rattle.std.specs.Prelude.{◌≡◌, ◌+◌, ◌≤◌, ◌<◌, ◌^◌, length};
+#![tactic(auto)]
+
+ghost use Rattle.std.specs.Prelude.{◌≡◌, ◌≤◌, ◌<◌, ◌^◌, length};
 ghost use Rattle.partition.specs.Bits.{top, shared};
-ghost use Rattle.partition.specs.Partition.{row_need, first, after};
+ghost use Rattle.partition.specs.Partition.{first, after};
 ghost use Rattle.partition.specs.Sizes.{Sized, shape_at, shape_for, number_of_size, shape_of};
 
 // What a page size decides: the bytes that rows may need together (page size less 8), the directory's entry count, the deepest depth.
-#[derive(Drop)]
+#[derive(Clone, Copy)]
 pub struct Shape {
     pub capacity: usize,
     pub entries: usize,
@@ -42,13 +44,6 @@ pub fn shape_for(number: usize) -> Shape
         return shape_at(2);
     }
     shape_at(0)
-}
-
-// Returns what a row of the code needs of a page: slot, place and code.
-pub fn row_need(key: &[u8]) -> usize
-    ensures { (result ≡ row_need key.now) × (result ≤ 12 + length key.now) }
-{
-    12 + key.len()
 }
 
 // The number that stands for a page size: the size, written 0 for 1,024.
@@ -102,7 +97,7 @@ pub fn two_to(k: u32) -> usize
 }
 
 // A run of directory entries: from the first up to the one after the last.
-#[derive(Drop)]
+#[derive(Clone, Copy)]
 pub struct Run {
     pub from: usize,
     pub to: usize,

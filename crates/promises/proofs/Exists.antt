@@ -13,7 +13,6 @@ use Rattle.page.specs.declared.Place.{Place}
 use Rattle.page.specs.Places.{InRange}
 use Rattle.store.specs.Tables.{Out, refused, put_table}
 use Rattle.store.specs.Demands.{Hash}
-use Rattle.store.proofs.Packing.Results.{pack_answered, resize_answered}
 use Rattle.store.proofs.Result.Answered.{check_answered, count_answered, lookup_answered, row_answered}
 use Rattle.store.proofs.Result.Decided.{every_byte}
 use Rattle.store.proofs.Result.Decisions.{both}
@@ -49,8 +48,6 @@ module _ (h : List ℕ → ℕ) (hash : Hash h) where
     put = λ s c p m. put_of s c p m (small_or_not c) (range_or_not p);
     remove = λ s c. (remove_answered (shape_of s) h (sized_of s) hash s c).is;
     row = λ s n out. (row_answered (shape_of s) h s n out).is;
-    pack = λ s. (pack_answered (shape_of s) h (sized_of s) hash s).is;
-    resize = λ b m n. (resize_answered (shape_of b) h (sized_of b) hash b m n).is;
   }
 
   pub some_program : (P : Program) × Meets h P
@@ -65,8 +62,6 @@ module _ (h : List ℕ → ℕ) (hash : Hash h) where
       puts = λ s c p m _ small range. put_meets s c p m (small_or_not c) (range_or_not p) small range;
       removes = λ s c _ _. (remove_answered (shape_of s) h (sized_of s) hash s c).allowed;
       rows = λ s n out _ _. (row_answered (shape_of s) h s n out).allowed;
-      packs = λ s _. (pack_answered (shape_of s) h (sized_of s) hash s).allowed;
-      resizes = λ b m n _. (resize_answered (shape_of b) h (sized_of b) hash b m n).allowed;
     },
   )
 

@@ -1,7 +1,6 @@
 pub mod Promises
 pub mod Runs
 pub mod Programs
-pub mod Packers
 pub mod OneBucket
 pub mod Turned
 pub mod Exists

@@ -19,7 +19,7 @@ use Rattle.words.specs.Folds.{Folded}
 use Rattle.words.proofs.Folds.{byte_kept, folded_each}
 use Rattle.store.proofs.Paging.PageTies.{zeros}
 use Rattle.partition.specs.Listing.{place_of}
-use Rattle.partition.specs.Partition.{Row, Fine, IsBucket, Grade, fits, over, fitting, body_length, need, needs, rows_of, grade, walk, buckets, depth_of}
+use Rattle.partition.specs.Partition.{Row, Fine, IsBucket, Grade, fits, over, fitting, need, needs, rows_of, grade, walk, buckets, depth_of}
 use Rattle.partition.specs.declared.Shape.{Shape}
 use Rattle.partition.specs.Sizes.{Sized, shape_of}
 use Rattle.partition.proofs.Bits.{top_lt}
@@ -75,7 +75,7 @@ module _ (h : List ℕ → ℕ) (hash : Hash h) where
     first_rows (suc n) = row n ∷ first_rows n
 
     needs_of : (n : ℕ) → n ≤ 14 → needs (first_rows n) ≡ 76 * n
-    unfolding first_rows needs need body_length
+    unfolding first_rows needs need
     needs_of zero l = omega arith
     needs_of (suc n) l = omega (arith, G.long n (omega arith), needs_of n (omega arith))
 
@@ -113,7 +113,7 @@ module _ (h : List ℕ → ℕ) (hash : Hash h) where
     apart_8 i l e = omega (arith, share_fewer (h (G.code i)) (h (G.code 13)) 1 8 (omega arith) e, G.zeros i l, G.one)
 
     need_last : needs (row 13 ∷ []) ≡ 76
-    unfolding needs need body_length
+    unfolding needs need
     need_last = omega (arith, G.long 13 (omega arith))
 
     near_of : (n : ℕ) → n < 14 → needs (rows_of h (first_rows (suc n)) 8 (top 8 (h (G.code n)))) ≤ 1016

@@ -16,7 +16,7 @@ use Rattle.words.specs.Codes.{order}
 use Rattle.words.specs.Folds.{fold_byte, fold, Folded}
 use Rattle.words.proofs.Bytes.{small_zeros}
 use Rattle.partition.specs.Bits.{top}
-use Rattle.partition.specs.Partition.{Row, body_length, need, needs}
+use Rattle.partition.specs.Partition.{Row, need, needs}
 use Rattle.partition.specs.Listing.{place_of, listing, Once}
 use Rattle.partition.specs.Sizes.{shape_of}
 use Rattle.partition.proofs.Sizes.{sized_of}
@@ -27,7 +27,7 @@ use Rattle.page.specs.Places.{place_from, stored}
 use Rattle.store.specs.Pages.{S1024, rows_held}
 use Rattle.store.specs.Accepted.{Accepted}
 use Rattle.store.specs.Tables.{Out, row, new, found, row_table}
-use Rattle.store.specs.Demands.{Hash, lookup, remove, count, put, ok, GoodCode, AtStart, Nth, map_of, update, answer_of, Refuses, known, sized_1024}
+use Rattle.store.specs.Demands.{Hash, ok, GoodCode, AtStart, Nth, map_of, update, answer_of, Refuses, known, sized_1024}
 use Rattle.store.proofs.Demands.Given.{member}
 use Rattle.store.proofs.Demands.Kept.{unrefused}
 use Rattle.store.proofs.Result.Fitted.{prefix_needs}
@@ -37,24 +37,24 @@ use Rattle.promises.proofs.Runs.{row_of, at, in_range, natural, room, At, accept
 
 -- ---- what is put: the codes "a" and "b", at the places (n, 0, 0)
 
-abbrev pub a : List ℕ
+abbrev a : List ℕ
 a = 97 ∷ []
 
-abbrev pub b : List ℕ
+abbrev b : List ℕ
 b = 98 ∷ []
 
-pub one_good : (x : ℕ) → GoodCode (x ∷ [])
+one_good : (x : ℕ) → GoodCode (x ∷ [])
 one_good x = record { least = omega arith; most = omega arith }
 
-pub low_a : Folded a
+low_a : Folded a
 unfolding fold fold_byte
 low_a = refl
 
-pub low_b : Folded b
+low_b : Folded b
 unfolding fold fold_byte
 low_b = refl
 
-pub one_small : (x : ℕ) → x < 256 → Bytes (x ∷ [])
+one_small : (x : ℕ) → x < 256 → Bytes (x ∷ [])
 one_small x l zero = l
 one_small x l (suc k) = omega arith
 
@@ -115,7 +115,7 @@ module _ (h : List ℕ → ℕ) (hash : Hash h) where
     row_a n = row_of a (at n)
 
     needs_a : (n : ℕ) → needs (row_a n ∷ []) ≡ 13
-    unfolding needs need body_length
+    unfolding needs need
     needs_a n = refl
 
     -- it is said to be new, and is there
@@ -192,7 +192,7 @@ module _ (h : List ℕ → ℕ) (hash : Hash h) where
     row_b = row_of b (at 1)
 
     needs_b : needs (row_b ∷ row_a 0 ∷ []) ≡ 26
-    unfolding needs need body_length
+    unfolding needs need
     needs_b = refl
 
     said_b : (P.put (one 0) b (at 1) 0).0 ≡ new

@@ -21,22 +21,18 @@ use Rattle.store.specs.Accepted.{Accepted}
 use Rattle.store.specs.Moves.{pick}
 use Rattle.store.specs.Tables.{Out, refused, new, replaced, put_accepted, put_by_mode, put_table}
 use Rattle.store.specs.Demands.{put, Made, ok, GoodCode, Mode, WholePages, faults, ExactlyWhen, put_answer, Refuses, rows_after, sized_1024}
-use Rattle.store.proofs.Accepted.Rules.{opened, accepted_whole}
+use Rattle.store.proofs.Accepted.Rules.{accepted_whole}
 use Rattle.store.proofs.Demands.Settled.{row_settled, inspect_settled, put_settled}
 use Rattle.store.proofs.Demands.Meaning.{meaning_one}
 use Rattle.store.proofs.Demands.Kept.{no_three, no_fourteen, unrefused}
 use Rattle.store.proofs.Demands.Modes.{is_known, is_absent, let_new}
 use Rattle.store.proofs.Demands.Order.{good_length, whole_pages}
 use Rattle.store.proofs.Demands.Whole.{demand_1, demand_2, demand_3}
-use Rattle.store.proofs.Packing.Histories.{archives}
-use Rattle.store.proofs.Packing.Means.{in_other_words}
-use Rattle.store.proofs.Packing.Back.{given_back}
 use Rattle.store.proofs.Demands.Choice.{put_chooses, remove_chooses}
 use Rattle.store.proofs.Demands.Spellings.{one_lot}
 use Rattle.store.proofs.Result.Total.{answered_always}
 use Rattle.any_size.proofs.Calls.{made_settled}
 use Rattle.any_size.proofs.Whole.{any_size}
-use Rattle.filling.proofs.Laws.{filling_shown}
 use Rattle.promises.specs.Promises.{First, given, held, joining, near, Fair, PutSays, Second, Third, AtSize, Promised}
 
 -- at each size
@@ -44,22 +40,14 @@ module _ (S : Shape) (sized : Sized S) where
   first : First S (size S) S.entries
   first =
       let d = demand_1 S fnv in
-      let g = given_back S fnv sized fnv_lt in
       record {
         answered = answered_always S fnv sized fnv_lt;
         settled = record { store = made_settled S fnv sized; row = row_settled S fnv; inspection = inspect_settled S fnv; enum = meaning_one };
         refused_in_order = d.0;
         format_succeeds = d.1;
         lengths = λ s. (((λ w. w), (λ w. w)), (whole_pages S s, good_length S s));
-        offsets = λ s a. let P = (opened S fnv s a).page0 in (P.directory, P.entries, P.first);
         store_kept = d.2;
         output_kept = d.3;
-        resize_answered = g.answered;
-        resize_settled = g.settled;
-        resize_in_order = g.in_order;
-        buffer_kept = g.kept;
-        resize_limits = g.limits;
-        resize_lengths = λ b n. ((λ w. (w.least, w.most, w.inside)), (λ v. record { least = v.0; most = v.1; inside = v.2 }));
       }
 
   -- ---- put's answer, by number
@@ -143,7 +131,6 @@ module _ (S : Shape) (sized : Sized S) where
   second : Second S (size S) S.deepest
   second =
       let d = demand_2 S fnv sized fnv_lt in
-      let g = given_back S fnv sized fnv_lt in
       record {
         check = d.0;
         lookup = d.1;
@@ -160,10 +147,6 @@ module _ (S : Shape) (sized : Sized S) where
         inspection = d.8;
         places = d.9;
         accepted_again = d.10;
-        packs = g.packs;
-        resizes = g.resizes;
-        pack_means = (in_other_words S fnv sized fnv_lt).0;
-        resize_means = (in_other_words S fnv sized fnv_lt).1;
         format_accepted = d.11;
       }
 
@@ -181,7 +164,7 @@ module _ (S : Shape) (sized : Sized S) where
       }
 
   at_size : AtSize S (size S) S.entries S.deepest
-  at_size = record { first = first; second = second; third = third; archives = archives S fnv sized fnv_lt; filling = filling_shown S fnv sized }
+  at_size = record { first = first; second = second; third = third }
 
 pub promised : Promised
 unfolding shape_at
@@ -191,5 +174,4 @@ promised = record {
   large = at_size S16384 (sized_at 2 (omega arith));
   own = any_size fnv fnv_lt;
   own_put_says = λ s. put_says (shape_of s) (sized_of s) s;
-  own_filling = λ s. filling_shown (shape_of s) fnv (sized_of s);
 }

@@ -29,7 +29,6 @@ use Rattle.page.proofs.Signs.{positive}
 use Rattle.store.specs.Pages.{S1024, pages, rows_held}
 use Rattle.store.specs.Accepted.{GoodLength, Accepted}
 use Rattle.store.specs.Moves.{pick}
-use Rattle.store.specs.Packing.{pack_table}
 use Rattle.store.specs.Tables.{Out, formatted, new, blank, format_table, format_sized, lookup_table, put_table, remove_table, row_table}
 use Rattle.store.specs.Demands.{Hash, format, put, Made, ok, GoodCode, map_of, put_answer, Refuses, History, begin, next, rows_after, sized_1024}
 use Rattle.store.proofs.Accepted.OwnSize.{size_is_said}
@@ -57,17 +56,14 @@ put_bytes h s c p m b = put_each S1024 h s (λ x. Bytes x.1) c p (record { kept 
 
 -- rows that fit together have one bucket, whatever the hash
 module _ (h : List ℕ → ℕ) (hash : Hash h) where
-  pub one_bucket_of : (q : Row) (qs : List Row) → needs (q ∷ qs) ≤ 1016 → buckets S1024 h (q ∷ qs) ≡ record { bits = 0; value = 0 } ∷ []
+  pub room : (q : Row) (qs : List Row) → needs (q ∷ qs) ≤ 1016 → length (buckets S1024 h (q ∷ qs)) ≤ 1
   unfolding buckets grade
-  one_bucket_of q qs l =
+  room q qs l =
       let e : buckets S1024 h (q ∷ qs) ≡ walk (λ k v. grade 1016 (rows_of h (q ∷ qs) k v)) 8 (grade 1016 (q ∷ qs)) 0 0
       = ap (λ rs. walk (λ k v. grade 1016 (rows_of h (q ∷ qs) k v)) 8 (grade 1016 rs) 0 0) (rows_all h hash (q ∷ qs)) in
       let f = walk_fits (λ k v. grade 1016 (rows_of h (q ∷ qs) k v)) 8 0 0 in
       let g : grade 1016 (q ∷ qs) ≡ fitting true = ap fitting (le-leb (needs (q ∷ qs)) 1016 l) in
-      e ∙ ap (λ g. walk (λ k v. grade 1016 (rows_of h (q ∷ qs) k v)) 8 g 0 0) g ∙ f
-
-  pub room : (q : Row) (qs : List Row) → needs (q ∷ qs) ≤ 1016 → length (buckets S1024 h (q ∷ qs)) ≤ 1
-  room q qs l = omega (arith, ap length (one_bucket_of q qs l))
+      omega (arith, ap length (e ∙ ap (λ g. walk (λ k v. grade 1016 (rows_of h (q ∷ qs) k v)) 8 g 0 0) g ∙ f))
 
 -- four pages of zeros
 unfoldable pub zeros : List ℕ
@@ -99,7 +95,7 @@ module _ (h : List ℕ → ℕ) (hash : Hash h) (P : Program) (meets : Meets h P
   map_at {rs} {t} w c = sym ((same_map (turned (same_at w)) ((demand_3 S1024 h sized_1024 hash).0 rs t w.past).once).1 c)
 
   -- its store says 1,024, so each of its answers is one at that size
-  pub own_at : {rs : List Row} {t : List ℕ} → At rs t → shape_of t ≡ S1024
+  own_at : {rs : List Row} {t : List ℕ} → At rs t → shape_of t ≡ S1024
   unfolding shape_at
   own_at {rs} {t} w = size_is_said 0 (omega arith) h t (accepted_at w)
 
@@ -115,9 +111,6 @@ module _ (h : List ℕ → ℕ) (hash : Hash h) (P : Program) (meets : Meets h P
 
     pub rows_at : (n : ℕ) (out : List ℕ) → Bytes out → Answers (row_table S1024 h t n out) (P.row t n out)
     rows_at n out b = subst (λ S. Answers (row_table S h t n out) (P.row t n out)) (own_at w) (meets.rows t n out w.small b)
-
-    pub packs_at : Answers (pack_table S1024 h t) (P.pack t)
-    packs_at = subst (λ S. Answers (pack_table S h t) (P.pack t)) (own_at w) (meets.packs t w.small)
 
     pub held_at : rows_held (shape_of t) t ≡ rows_held S1024 t
     held_at = ap (λ S. rows_held S t) (own_at w)

@@ -5,7 +5,6 @@ use Rattle.hash.specs.Fnv.{fnv, fnv_lt}
 use Rattle.store.specs.Demands.{Hash}
 use Rattle.promises.specs.Programs.{Program, Meets, TurnedAway}
 use Rattle.promises.proofs.Programs.{refuses_every_put, replaces_silently, one_fixed_place, repeats_one_row, only_answers, stores_only_the_first, miscounts}
-use Rattle.promises.proofs.Packers.{only_counts, answers_too_few, keeps_the_number, cuts_off}
 use Rattle.promises.proofs.OneBucket.{more_than_one_bucket, one_bucket}
 
 pub turned_away : (h : List ℕ → ℕ) → Hash h → (P : Program) → Meets h P → TurnedAway h P
@@ -17,10 +16,6 @@ turned_away h hash P meets = record {
   only_answers = only_answers h hash P meets;
   stores_only_the_first = stores_only_the_first h hash P meets;
   miscounts = miscounts h hash P meets;
-  only_counts = only_counts h hash P meets;
-  answers_too_few = answers_too_few h hash P meets;
-  keeps_the_number = keeps_the_number h hash P meets;
-  cuts_off = cuts_off h hash P meets;
   one_bucket = one_bucket h hash P meets;
   more_than_one_bucket = more_than_one_bucket h hash;
 }

@@ -1,10 +1,7 @@
 -- The worked cases hold. Assumes nothing.
-use mathlib.Core.Path.{refl}
 use Rattle.hash.specs.Fnv.{fnv, fnv_none, fnv_a, fnv_b, fnv_c}
-use Rattle.words.specs.Folds.{fold_byte, fold}
 use Rattle.partition.proofs.Cases.{cases_hold, chosen_lt}
 use Rattle.promises.specs.Worked.{Worked}
 
 pub worked : Worked
-unfolding fold fold_byte
-worked = record { cases = cases_hold fnv fnv_none fnv_a fnv_b fnv_c; chosen_32 = chosen_lt; one_lot = (refl, refl); letter_ends = refl }
+worked = record { cases = cases_hold fnv fnv_none fnv_a fnv_b fnv_c; chosen_32 = chosen_lt }

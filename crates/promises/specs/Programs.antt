@@ -3,7 +3,6 @@ use Rattle.std.specs.Prelude.{◌≡◌, true, false, List, [], ℕ, ◌<◌, le
 use Rattle.ground.specs.Ladder.{Answers}
 use Rattle.ground.specs.Lists.{byte}
 use Rattle.words.specs.Folds.{Folded}
-use Rattle.words.specs.Le.{le32}
 use Rattle.partition.specs.Bits.{top}
 use Rattle.partition.specs.Partition.{Row, needs}
 use Rattle.partition.specs.Listing.{listing}
@@ -12,9 +11,7 @@ use Rattle.page.specs.Places.{InRange}
 use Rattle.partition.specs.Sizes.{shape_of}
 use Rattle.store.specs.Pages.{dir_depth, rows_held}
 use Rattle.store.specs.Accepted.{Accepted}
-use Rattle.store.specs.Packing.{Cut, pack_table, resize_table}
-use Rattle.store.specs.GivenBack.{HeldBelow}
-use Rattle.store.specs.Tables.{Out, accepted, new, found, counted, format_sized, check_table, count_table, lookup_table, put_table, remove_table, row_table}
+use Rattle.store.specs.Tables.{Out, new, found, counted, format_sized, check_table, count_table, lookup_table, put_table, remove_table, row_table}
 use Rattle.store.specs.Demands.{ok}
 use Rattle.any_size.specs.OwnSizes.{SizedHistory}
 
@@ -27,8 +24,6 @@ pub record Program : Type 0 where
   pub put : List ℕ → List ℕ → Place → ℕ → Out × List ℕ
   pub remove : List ℕ → List ℕ → Out × List ℕ
   pub row : List ℕ → ℕ → List ℕ → Out × List ℕ
-  pub pack : List ℕ → Out × List ℕ
-  pub resize : List ℕ → ℕ → ℕ → Out × List ℕ
 
 -- every number of a list is a byte
 abbrev pub Bytes : List ℕ → Type 0
@@ -43,8 +38,6 @@ pub record Meets (h : List ℕ → ℕ) (P : Program) : Type 0 where
   pub puts : (s c : List ℕ) (p : Place) (m : ℕ) → Bytes s → Bytes c → InRange p → Answers (put_table (shape_of s) h s c p m) (P.put s c p m)
   pub removes : (s c : List ℕ) → Bytes s → Bytes c → Answers (remove_table (shape_of s) h s c) (P.remove s c)
   pub rows : (s : List ℕ) (n : ℕ) (out : List ℕ) → Bytes s → Bytes out → Answers (row_table (shape_of s) h s n out) (P.row s n out)
-  pub packs : (s : List ℕ) → Bytes s → Answers (pack_table (shape_of s) h s) (P.pack s)
-  pub resizes : (b : List ℕ) (m n : ℕ) → Bytes b → Answers (resize_table (shape_of b) h b m n) (P.resize b m n)
 
 -- one that refuses every put
 abbrev pub RefusesEveryPut : Program → Type 0
@@ -74,22 +67,6 @@ StoresOnlyTheFirst P = (s c : List ℕ) (p : Place) (m : ℕ) → (rows_held (sh
 abbrev pub Miscounts : (List ℕ → ℕ) → Program → Type 0
 Miscounts h P = (s : List ℕ) × Bytes s × Accepted (shape_of s) h s × (P.count s ≡ counted (length (listing (shape_of s) h (rows_held (shape_of s) s))) → ⊥)
 
--- a pack that leaves the store as it is
-abbrev pub OnlyCounts : Program → Type 0
-OnlyCounts P = (s : List ℕ) → (P.pack s).1 ≡ s
-
--- a pack that answers too few pages for what it left, on some accepted store
-abbrev pub AnswersTooFew : (List ℕ → ℕ) → Program → Type 0
-AnswersTooFew h P = (s : List ℕ) × Bytes s × Accepted (shape_of s) h s × (n : ℕ) × ((P.pack s).0 ≡ counted n) × (HeldBelow (shape_of s) h (P.pack s).1 n → ⊥)
-
--- a resize that keeps page 0's old number
-abbrev pub KeepsTheNumber : Program → Type 0
-KeepsTheNumber P = (b : List ℕ) (m n : ℕ) → le32 (P.resize b m n).1 0 ≡ le32 b 0
-
--- a resize that cuts a used page off, of some accepted store
-abbrev pub CutsOff : (List ℕ → ℕ) → Program → Type 0
-CutsOff h P = (b : List ℕ) × (m : ℕ) × (n : ℕ) × Bytes b × Cut (shape_of b) b m n × ((P.resize b m n).0 ≡ accepted)
-
 -- one bucket for everything: a put never gives a store a second directory entry
 abbrev pub OneBucket : Program → Type 0
 OneBucket P = (s c : List ℕ) (p : Place) (m : ℕ) → dir_depth s ≡ 0 → dir_depth (P.put s c p m).1 ≡ 0
@@ -113,10 +90,6 @@ pub record TurnedAway (h : List ℕ → ℕ) (P : Program) : Type 0 where
   pub only_answers : OnlyAnswers P → ⊥
   pub stores_only_the_first : StoresOnlyTheFirst P → ⊥
   pub miscounts : Miscounts h P → ⊥
-  pub only_counts : OnlyCounts P → ⊥
-  pub answers_too_few : AnswersTooFew h P → ⊥
-  pub keeps_the_number : KeepsTheNumber P → ⊥
-  pub cuts_off : CutsOff h P → ⊥
   -- under a hash that has such codes
   pub one_bucket : Parting h → OneBucket P → ⊥
   -- under any hash rows that do not fit together have a second directory entry

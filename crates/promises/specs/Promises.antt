@@ -4,7 +4,6 @@ use Rattle.std.proofs.Math.Option.{Option, some, none}
 use Rattle.ground.specs.Ladder.{Answers}
 use Rattle.hash.specs.Fnv.{fnv}
 use Rattle.words.specs.Folds.{fold}
-use Rattle.words.specs.Le.{le32}
 use Rattle.partition.specs.Bits.{top}
 use Rattle.partition.specs.declared.Shape.{Shape}
 use Rattle.partition.specs.Partition.{Row, needs, rows_of, buckets}
@@ -17,13 +16,8 @@ use Rattle.store.specs.Accepted.{GoodLength, Accepted}
 use Rattle.store.specs.Tables.{Out, refused, formatted, new, replaced, meaning, row_table, inspect_table}
 use Rattle.store.specs.Demands.{Call, format, put as a_put, Made, ok, surviving, GoodCode, Mode, map_of, Answered, WholePages, RefusedInOrder, FormatSucceeds, RefusalKeeps, OutputKept, CheckExact, LookupIsMap, PutIsMap, RemoveIsMap, PutRefused, EitherAsBefore, ListedOnce, CountIsSize, RowIsListed, InspectIsSlot, PlaceComesBack, AcceptedAgain, FormatAccepted, AfreshAlways, SameRefusals, KeptPages}
 use Rattle.store.specs.Choice.{PutChooses, RemoveChooses}
-use Rattle.store.specs.Packing.{Within}
-use Rattle.store.specs.Archives.{AllArchives}
-use Rattle.store.specs.GivenBack.{PackMeans, ResizeMeans}
-use Rattle.store.specs.Lengths.{LimitsAreAStores, ResizeAnswered, ResizeSettled, ResizeInOrder, ResizeKeeps, PackIsMap, ResizeIsMap}
 use Rattle.store.specs.Spellings.{SameLot, StoredFolded}
 use Rattle.any_size.specs.OwnSizes.{OwnDemands}
-use Rattle.filling.specs.Filling.{FillLaws}
 
 -- a finished promise: for every input the answer and each byte of store and output are settled, refused calls too; so is the enum's case
 pub record Settled (S : Shape) : Type 0 where
@@ -40,18 +34,8 @@ pub record First (S : Shape) (z e : ℕ) : Type 0 where
   pub refused_in_order : RefusedInOrder S fnv
   pub format_succeeds : FormatSucceeds S fnv
   pub lengths : (s : List ℕ) → (WholePages S s ↔ ((n : ℕ) × (length s ≡ n * z) × (3 ≤ n) × (n ≤ e + 2))) × (GoodLength S s ↔ WholePages S s)
-  -- in page 0 the directory's offset, the entry count and the first bucket's offset follow the size
-  pub offsets : (s : List ℕ) → Accepted S fnv s → (le32 s 4 ≡ z) × (le32 s 8 ≡ e) × (le32 s 12 ≡ 2 * z)
   pub store_kept : RefusalKeeps S fnv
   pub output_kept : OutputKept S fnv
-  -- of resize, over all bytes and any two lengths: a result, which settles every byte; 1, 2 and 7 in this order, each exactly when; a refused one keeps the buffer
-  pub resize_answered : ResizeAnswered S fnv
-  pub resize_settled : ResizeSettled S fnv
-  pub resize_in_order : ResizeInOrder S fnv
-  pub buffer_kept : ResizeKeeps S fnv
-  -- the lengths that a resize is given are those of a store, and the buffer has them; in numbers too
-  pub resize_limits : LimitsAreAStores S
-  pub resize_lengths : (b : List ℕ) (n : ℕ) → Within S b n ↔ ((3 ≤ n) × (n ≤ e + 2) × (n * z ≤ length b))
 
 -- the row that a put is given, its code folded
 abbrev pub given : List ℕ → Place → Row
@@ -107,38 +91,28 @@ pub record Second (S : Shape) (z k : ℕ) : Type 0 where
   pub inspection : InspectIsSlot S fnv
   pub places : PlaceComesBack S fnv
   pub accepted_again : AcceptedAgain S fnv
-  -- pack and resize keep the map and the listing, and the store is accepted again
-  pub packs : PackIsMap S fnv
-  pub resizes : ResizeIsMap S fnv
-  -- what they leave, in other words
-  pub pack_means : PackMeans S fnv
-  pub resize_means : ResizeMeans S fnv
   pub format_accepted : FormatAccepted S fnv
 
--- 3. Format a store, then make any calls on it, refused ones among them. .. Packing and other lengths are among them too.
+-- 3. Format a store, then make any calls on it, refused ones among them. ..
 pub record Third (S : Shape) : Type 0 where
   -- the rows that survive since the last accepted format: it begins anew, and a refused call changes nothing
   pub since_format : (rs : List Row) → surviving format formatted rs ≡ []
   pub refused_keeps : (c : Call) (o : Out) (rs : List Row) → ok o ≡ false → surviving c o rs ≡ rs
-  -- the buckets, their depths, the rows in each, the directory entries that share each one, the listing and the counts in page 0 are those worked out afresh
-  -- from the rows that survive
+  -- the buckets, their depths, the rows in each, the directory entries that share each one and the listing are those worked out afresh from the rows that survive
   pub afresh : AfreshAlways S fnv
-  -- two histories with the same surviving rows and the same store length from then on refuse the same next put (of the same mode)
+  -- two histories with the same surviving rows and the same store length refuse the same next put (of the same mode)
   pub same_refusals : SameRefusals S fnv
-  -- in each call but format and pack, a bucket whose rows and depth come out the same keeps its page and all its bytes
+  -- in each call but format, a bucket whose rows and depth come out the same keeps its page and all its bytes
   pub kept_pages : KeptPages S fnv
   -- the pages that a put and a remove use: the old one, the lowest free ones in prefix order, the lowest of those joined
   pub put_pages : PutChooses S fnv
   pub remove_pages : RemoveChooses S fnv
 
--- all three, for pages of z bytes with e entries and depth k at most; and the call that fills in the counts
+-- all three, for pages of z bytes with e entries and depth k at most
 pub record AtSize (S : Shape) (z e k : ℕ) : Type 0 where
   pub first : First S z e
   pub second : Second S z k
   pub third : Third S
-  -- Once Item 8 has packed them .. two accepted stores of the same length are byte-equal exactly when they hold the same rows, and .. packing twice changes nothing
-  pub archives : AllArchives S fnv
-  pub filling : FillLaws S fnv
 
 pub record Promised : Type 0 where
   -- the fixed table: 256 and 8, 1,024 and 10, 4,096 and 12
@@ -149,4 +123,3 @@ pub record Promised : Type 0 where
   pub own : OwnDemands fnv
   pub own_put_says : (s c : List ℕ) (p : Place) (m : ℕ) (o : Out) (t : List ℕ) → Accepted (shape_of s) fnv s → Made (shape_of s) fnv (a_put c p m) s o t
       → PutSays (shape_of s) (size (shape_of s)) (shape_of s).deepest s c p m o
-  pub own_filling : (s : List ℕ) → FillLaws (shape_of s) fnv

@@ -1,74 +1,68 @@
--- Prefixes counted by their lengths. Assumes nothing.
+-- The buckets below a prefix counted by their depths. Over any page size and hash. Assumes nothing.
 use mathlib.Core.Path.{◌≡◌, refl, ap, ◌∙◌}
-use mathlib.Core.Bool.{Bool, true, false}
 use mathlib.Core.List.{List, [], ◌∷◌, ◌++◌, map}
 use mathlib.Core.Logic.{⊎_elim}
-use Prim.Native.Nat.{ℕ, suc, ◌+◌, ◌≤◌, ◌<◌}
+use Prim.Native.Nat.{ℕ, suc, ◌+◌, ◌*◌, ◌≤◌, ◌<◌}
 use native.Mathlib.Omega.{arith}
-use lib.Dec.{eqb}
-use lib.ListN.{length, get_or, length-append, length-set}
+use lib.ListN.{length, get_or, length-append, length-map, length-set}
 use lib.Seq.{get_or-set_same, get_or-set_other}
-use Rattle.partition.specs.Partition.{Row, Prefix}
+use Rattle.partition.specs.declared.Shape.{Shape}
+use Rattle.partition.specs.Partition.{Row, Prefix, rows_of}
+use Rattle.partition.specs.Listing.{in_order}
 use Rattle.partition.proofs.Tree.{pfx}
-use Rattle.store.specs.Pages.{bucket}
-use Rattle.store.specs.Moves.{pick, packed}
+use Rattle.store.specs.Pages.{Page, bucket}
+use Rattle.store.specs.Moves.{pack_from, packed}
 use Rattle.store.specs.Counts.{one_at, buckets_at}
 use Rattle.store.proofs.Counts.Ones.{ones}
+use Rattle.store.proofs.Counts.Words.{buckets_few}
 use Rattle.counts.specs.Tallies.{one_more}
-use Rattle.putting.specs.Split.{long_at, CountedBelow}
+use Rattle.putting.specs.Split.{below, pages_below, CountedBelow}
 
--- packed pages are counted by their prefixes, whatever rows they have
-pub packed_long : (h : List ℕ → ℕ) (rs : List Row) (j : ℕ) (ps : List Prefix) → buckets_at j (map (packed h rs) ps) ≡ long_at j ps
-unfolding buckets_at packed long_at
-packed_long h rs j [] = refl
-packed_long h rs j (p ∷ ps) = ap (λ n. pick (eqb p.bits j) 1 0 + n) (packed_long h rs j ps)
+both : (j : ℕ) (f : Prefix → Page) (ps qs : List Prefix) → buckets_at j (map f (ps ++ qs)) ≡ buckets_at j (map f ps) + buckets_at j (map f qs)
+unfolding buckets_at
+both j f [] qs = omega arith
+both j f (p ∷ ps) qs = omega (arith, both j f ps qs)
 
-both : (j : ℕ) (ps qs : List Prefix) → long_at j (ps ++ qs) ≡ long_at j ps + long_at j qs
-unfolding long_at
-both j [] qs = omega arith
-both j (p ∷ ps) qs = omega (arith, both j ps qs)
+-- which rows they have does not count
+pub same_depths : (h : List ℕ → ℕ) (j : ℕ) (rs qs : List Row) (ps : List Prefix) → buckets_at j (map (packed h rs) ps) ≡ buckets_at j (map (packed h qs) ps)
+unfolding buckets_at packed
+same_depths h j rs qs [] = refl
+same_depths h j rs qs (p ∷ ps) = ap (λ n. one_at j (packed h qs p) + n) (same_depths h j rs qs ps)
 
-few : (j : ℕ) (ps : List Prefix) → long_at j ps ≤ length ps
-unfolding long_at
-few j [] = omega arith
-few j (p ∷ ps) = go (eqb p.bits j) (few j ps)
-  where
-    go : (b : Bool) → long_at j ps ≤ length ps → pick b 1 0 + long_at j ps ≤ suc (length ps)
-    go true l = omega arith
-    go false l = omega arith
+module _ (S : Shape) (h : List ℕ → ℕ) (rs : List Row) (k v : ℕ) where
+  pub counted_none : (l : List ℕ) → length l ≡ 14 → below S h rs k v ≡ [] → CountedBelow S h rs k v l l
+  unfolding buckets_at
+  counted_none l n e = record { long = n; each = λ j b. omega (arith, ap (λ ps. buckets_at j (map (packed h rs) ps)) e) }
 
-pub counted_none : (ps : List Prefix) (l : List ℕ) → length l ≡ 14 → ps ≡ [] → CountedBelow ps l l
-unfolding long_at
-counted_none ps l n e = record { long = n; each = λ j b. omega (arith, ap (long_at j) e) }
+  one_below : (j : ℕ) → below S h rs k v ≡ pfx k v ∷ [] → buckets_at j (pages_below S h rs k v) ≡ one_at j (bucket k (pack_from 8 (in_order (rows_of h rs k v))))
+  unfolding buckets_at packed
+  one_below j e = omega (arith, ap (λ ps. buckets_at j (map (packed h rs) ps)) e)
 
-one_long : (k v : ℕ) (ps : List Prefix) → ps ≡ pfx k v ∷ [] → (j : ℕ) → long_at j ps ≡ one_at j (bucket k [])
-unfolding long_at
-one_long k v ps e j = omega (arith, ap (long_at j) e)
-
-pub counted_one : (k v : ℕ) (ps : List Prefix) (l : List ℕ) → length l ≡ 14 → k ≤ 12 → ps ≡ pfx k v ∷ [] → CountedBelow ps l (one_more l (1 + k))
-counted_one k v ps l n low e = record {
-  long = length-set l (1 + k) _ ∙ n;
-  each = λ j b. ⊎_elim
-      (λ o. let q : suc j ≡ 1 + k = omega (arith, o.0) in
-      omega (arith, ap (λ m. get_or (one_more l (1 + k)) m 0) q, get_or-set_same l (1 + k) (get_or l (1 + k) 0 + 1) 0 (omega (arith, n)), ap (λ m. get_or l m 0) q, one_long k v ps e j, o.1))
-      (λ o. omega (arith, get_or-set_other l (1 + k) (suc j) (get_or l (1 + k) 0 + 1) 0 (λ q. o.0 (omega (arith, q))), one_long k v ps e j, o.1))
-      (ones j k []);
-}
-
--- two halves
-module _ (ps qs us : List Prefix) (e : ps ≡ qs ++ us) (l : List ℕ) where
-  pub counted_two : (a b : List ℕ) → CountedBelow qs l a → CountedBelow us a b → CountedBelow ps l b
-  counted_two a b A B = record {
-    long = B.long;
-    each = λ j m. omega (arith, A.each j m, B.each j m, ap (long_at j) e, both j qs us);
+  pub counted_one : (l : List ℕ) → length l ≡ 14 → k ≤ 12 → below S h rs k v ≡ pfx k v ∷ [] → CountedBelow S h rs k v l (one_more l (1 + k))
+  counted_one l n low e = record {
+    long = length-set l (1 + k) _ ∙ n;
+    each = λ j b. ⊎_elim
+        (λ o. let q : suc j ≡ 1 + k = omega (arith, o.0) in
+        omega (arith, ap (λ m. get_or (one_more l (1 + k)) m 0) q, get_or-set_same l (1 + k) (get_or l (1 + k) 0 + 1) 0 (omega (arith, n)), ap (λ m. get_or l m 0) q, one_below j e, o.1))
+        (λ o. omega (arith, get_or-set_other l (1 + k) (suc j) (get_or l (1 + k) 0 + 1) 0 (λ q. o.0 (omega (arith, q))), one_below j e, o.1))
+        (ones j k (pack_from 8 (in_order (rows_of h rs k v))));
   }
 
-  module _ (room : (j : ℕ) → j ≤ 12 → get_or l (suc j) 0 + length ps < 4294967296) where
-    sum : length ps ≡ length qs + length us
-    sum = ap length e ∙ length-append qs us
+  -- two halves
+  module _ (e : below S h rs k v ≡ below S h rs (k + 1) (2 * v) ++ below S h rs (k + 1) (2 * v + 1)) (l : List ℕ) where
+    pub counted_two : (a b : List ℕ) → CountedBelow S h rs (k + 1) (2 * v) l a → CountedBelow S h rs (k + 1) (2 * v + 1) a b → CountedBelow S h rs k v l b
+    counted_two a b A B = record {
+      long = B.long;
+      each = λ j m. omega (arith, A.each j m, B.each j m, ap (λ ps. buckets_at j (map (packed h rs) ps)) e, both j (packed h rs) (below S h rs (k + 1) (2 * v)) (below S h rs (k + 1) (2 * v + 1)));
+    }
 
-    pub few_left : (j : ℕ) → j ≤ 12 → get_or l (suc j) 0 + length qs < 4294967296
-    few_left j m = omega (arith, room j m, sum)
+    module _ (few : (j : ℕ) → j ≤ 12 → get_or l (suc j) 0 + length (below S h rs k v) < 4294967296) where
+      sum : length (below S h rs k v) ≡ length (below S h rs (k + 1) (2 * v)) + length (below S h rs (k + 1) (2 * v + 1))
+      sum = ap length e ∙ length-append (below S h rs (k + 1) (2 * v)) (below S h rs (k + 1) (2 * v + 1))
 
-    pub few_right : (a : List ℕ) → CountedBelow qs l a → (j : ℕ) → j ≤ 12 → get_or a (suc j) 0 + length us < 4294967296
-    few_right a A j m = omega (arith, room j m, sum, A.each j m, few j qs)
+      pub few_left : (j : ℕ) → j ≤ 12 → get_or l (suc j) 0 + length (below S h rs (k + 1) (2 * v)) < 4294967296
+      few_left j m = omega (arith, few j m, sum)
+
+      pub few_right : (a : List ℕ) → CountedBelow S h rs (k + 1) (2 * v) l a → (j : ℕ) → j ≤ 12 → get_or a (suc j) 0 + length (below S h rs (k + 1) (2 * v + 1)) < 4294967296
+      few_right a A j m =
+          omega (arith, few j m, sum, A.each j m, buckets_few j (pages_below S h rs (k + 1) (2 * v)), length-map (below S h rs (k + 1) (2 * v)) (packed h rs))

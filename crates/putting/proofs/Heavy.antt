@@ -16,7 +16,6 @@ use Rattle.ground.specs.Ladder.{Answers}
 use Rattle.ground.proofs.Sides.{side}
 use Rattle.words.specs.Le.{le32}
 use Rattle.page.specs.Page.{Slotted, Belongs, depth, rows}
-use Rattle.page.specs.Page as InPage
 use Rattle.partition.specs.Bits.{top}
 use Rattle.partition.specs.declared.Shape.{Shape}
 use Rattle.partition.specs.Partition.{Row, need, needs, rows_of, buckets}
@@ -53,10 +52,10 @@ use Rattle.directory.proofs.Directories.{calls_same}
 use Rattle.directory.proofs.Laying.{directable}
 use Rattle.directory.proofs.Renews.{prefix_pages, prefix_holds, prefix_kept, one_calls, renewed}
 use Rattle.putting.specs.Put.{new_row, Puttable, Crowded}
-use Rattle.putting.specs.Split.{keyed, with_new, long_at, below, Source, taken_next, untaken, Room, NewPage, pages_below, CountedBelow, SplitCounted, Writable, BucketsWritten}
+use Rattle.putting.specs.Split.{keyed, with_new, below, Source, taken_next, untaken, Room, NewPage, pages_below, CountedBelow, SplitCounted, Writable, BucketsWritten}
 use Rattle.putting.proofs.Puts.{home_page, begins}
 use Rattle.putting.proofs.Weighs.{load_any, below_shared, below_all}
-use Rattle.putting.proofs.Counting.{packed_long}
+use Rattle.putting.proofs.Counting.{same_depths}
 use Rattle.directory.proofs.Recounts.{same_contents, directed_then, recounted_now}
 use Rattle.directory.proofs.Settles.{unwritten, settling, settleable, settled}
 use Rattle.putting.proofs.Splits.{first_given, rewritten_then, rewritten_self, long_then}
@@ -105,7 +104,7 @@ module _ (S : Shape) (h : List ℕ → ℕ) (hash : Hash h) (s : List ℕ) (p i 
   starts = begins S h sized hash s A c p home
 
   absent : place_of (rows_held S s) c ≡ none
-  absent = place_on_lem S h (rows_held S s) gs shows c (p - 2) (depth g) (rows g) home.holding (sym starts) ∙ found_not g c i B
+  absent = place_on_lem S h (rows_held S s) gs shows c (p - 2) (depth g) (rows g) home.holding (sym starts) ∙ found_not g slotted c i B
 
   heavy : S.capacity < needs rs
   unfolding need
@@ -147,15 +146,9 @@ module _ (S : Shape) (h : List ℕ → ℕ) (hash : Hash h) (s : List ℕ) (p i 
   pub heavy_six : S.capacity < needs (rows_of h (with_new (page S s p) (keyed c)) S.deepest (top S.deepest (h c))) → Answers (put_accepted S h s (new_row c pl)) (refused 6, s)
   heavy_six o = inr ((λ _. none_some absent), inl (tt, (omega (arith, deep, o), refl)))
 
-  pub heavy_over : S.capacity < needs (rows_of h (with_new (page S s p) (keyed c)) S.deepest (top S.deepest (h c))) → Refusal6 S h (rows_held S s) (new_row c pl)
-  heavy_over o = omega (arith, deep, o)
-
   module _ (fine : needs (rows_of h (with_new (page S s p) (keyed c)) S.deepest (top S.deepest (h c))) ≤ S.capacity) where
-    pub heavy_light : Refusal6 S h (rows_held S s) (new_row c pl) → ⊥
-    heavy_light x = omega (arith, deep, fine)
-
     six : Refusal6 S h (rows_held S s) r → ⊥
-    six = heavy_light
+    six x = omega (arith, deep, fine)
 
     -- refusal 7
     many : length (buckets S h rs) ≡ length (below S h (with_new g (keyed c)) (depth g) (top (depth g) (h c)))
@@ -166,19 +159,13 @@ module _ (S : Shape) (h : List ℕ → ℕ) (hash : Hash h) (s : List ℕ) (p i 
     seven_is : (length (buckets S h (r ∷ rows_held S s)) ≤ length gs) ↔ (length (buckets S h rs) ≤ suc (frees gs))
     seven_is = splits_seven S h hash (rows_held S s) gs shows r (p - 2) (depth g) (rows g) home.holding starts heavy
 
-    -- too few pages are free
-    pub heavy_full : frees (contents S s) + 1 < length (below S h (with_new (page S s p) (keyed c)) (depth (page S s p)) (top (depth (page S s p)) (h c))) → Refusal7 S h s (rows_held S s) (new_row c pl)
-    heavy_full o = ⊎_elim
+    pub heavy_seven : frees (contents S s) + 1 < length (below S h (with_new (page S s p) (keyed c)) (depth (page S s p)) (top (depth (page S s p)) (h c))) → Answers (put_accepted S h s (new_row c pl)) (refused 7, s)
+    heavy_seven o =
+        let full : pages S s - 2 < length (buckets S h (r ∷ rows_held S s)) = ⊎_elim
         (λ l. l)
         (λ l. absurd (omega (arith, many, o, seven_is.0 (omega (arith, l, pages_held S s)))))
-        (side (pages S s - 2) (length (buckets S h (r ∷ rows_held S s))))
-
-    pub heavy_seven : frees (contents S s) + 1 < length (below S h (with_new (page S s p) (keyed c)) (depth (page S s p)) (top (depth (page S s p)) (h c))) → Answers (put_accepted S h s (new_row c pl)) (refused 7, s)
-    heavy_seven o = inr ((λ _. none_some absent), inr ((λ _. six), inl (tt, (heavy_full o, refl))))
-
-    -- or there are enough
-    pub heavy_roomy : length (below S h (with_new (page S s p) (keyed c)) (depth (page S s p)) (top (depth (page S s p)) (h c))) ≤ frees (contents S s) + 1 → Refusal7 S h s (rows_held S s) (new_row c pl) → ⊥
-    heavy_roomy o x = omega (arith, seven_is.1 (omega (arith, many, o)), pages_held S s)
+        (side (pages S s - 2) (length (buckets S h (r ∷ rows_held S s)))) in
+        inr ((λ _. none_some absent), inr ((λ _. six), inl (tt, (full, refl))))
 
     -- the buckets that are written
     abbrev ns : List Page
@@ -200,7 +187,7 @@ module _ (S : Shape) (h : List ℕ → ℕ) (hash : Hash h) (s : List ℕ) (p i 
       seven x = omega (arith, seven_is.1 (omega (arith, count, room.many)), pages_held S s)
 
       pub source : Source (page S s p) i c pl
-      source = record { page = slotted; sorted = home.bytes.rules.sorted; belongs = B; natural = P.natural; good = P.good }
+      source = record { page = slotted; belongs = B; natural = P.natural; good = P.good }
 
       pub writable : Writable S h (with_new (page S s p) (new_row c pl)) (depth (page S s p)) (top (depth (page S s p)) (h c)) s p
       writable = record {
@@ -339,17 +326,17 @@ module _ (S : Shape) (h : List ℕ → ℕ) (hash : Hash h) (s : List ℕ) (p i 
           as_was i a b = split_kept.low i (omega (arith, sized.least))
 
           -- the array that is counted in
-          module _ (l : List ℕ) (long : length l ≡ 14) (L : SameCounts s l) (l₁ : List ℕ) (B : CountedBelow (below S h (with_new (page S s p) (keyed c)) (depth (page S s p)) (top (depth (page S s p)) (h c))) l l₁) where
+          module _ (l : List ℕ) (long : length l ≡ 14) (L : SameCounts s l) (l₁ : List ℕ) (B : CountedBelow S h (with_new (page S s p) (keyed c)) (depth (page S s p)) (top (depth (page S s p)) (h c)) l l₁) where
             before_split : BucketsCounted gs l
             before_split = buckets_read S s l (opened S h s A).counts long L
 
-            split_then : (j : ℕ) → buckets_at j (contents S t) + one_at j (bucket (depth g) (rows g)) ≡ buckets_at j gs + long_at j (below S h (with_new g (keyed c)) (depth g) v)
+            split_then : (j : ℕ) → buckets_at j (contents S t) + one_at j (bucket (depth g) (rows g)) ≡ buckets_at j gs + buckets_at j (pages_below S h (with_new g (keyed c)) (depth g) v)
             split_then j = omega (
               arith,
               ap (buckets_at j) held_then,
               split_count j gs (p - 2) (depth g) (rows g) home.holding inside ns some_new (packed_used h rs (below S h rs (depth g) v)) room.many,
-              packed_long h rs j (below S h rs (depth g) v),
-              ap (long_at j) same_below,
+              ap (λ ps. buckets_at j (map (packed h rs) ps)) same_below,
+              same_depths h j (with_new g (keyed c)) rs (below S h (with_new g (keyed c)) (depth g) v),
             )
 
             one_there : 1 ≤ get_or l₁ (1 + depth g) 0

@@ -6,4 +6,3 @@ pub mod Appends
 pub mod Renames
 pub mod Splits
 pub mod Heavy
-pub mod Limits

@@ -18,7 +18,6 @@ use Rattle.page.specs.Page.{Record, depth, code}
 use Rattle.page.specs.Packed.{Started}
 use Rattle.partition.specs.Bits.{top}
 use Rattle.partition.specs.declared.Shape.{Shape}
-use Rattle.partition.proofs.Rows.{body_short}
 use Rattle.partition.specs.Partition.{Row, need, needs, rows_of, buckets}
 use Rattle.partition.specs.Listing.{place_of}
 use Rattle.partition.proofs.Bits.{top_step}
@@ -117,28 +116,19 @@ module _ (S : Shape) (h : List ℕ → ℕ) (hash : Hash h) (s : List ℕ) (x : 
 
   small : need r ≤ S.capacity
   unfolding need
-  small = omega (arith, body_short (length c) P.good.most, P.good.most, sized.least)
+  small = omega (arith, P.good.most, sized.least)
 
   six : Refusal6 S h (rows_held S s) r → ⊥
   unfolding need
-  six x = omega (arith, unheld_six S h hash (rows_held S s) gs shows r (off S h sized hash s A c unnamed), body_short (length c) P.good.most, P.good.most, sized.least)
+  six x = omega (arith, unheld_six S h hash (rows_held S s) gs shows r (off S h sized hash s A c unnamed), P.good.most, sized.least)
 
   seven : (length (buckets S h (r ∷ rows_held S s)) ≤ length gs) ↔ (0 < frees gs)
   seven = unheld_seven S h hash (rows_held S s) gs shows r (off S h sized hash s A c unnamed) small
 
-  pub unheld_light : Refusal6 S h (rows_held S s) (new_row c pl) → ⊥
-  unheld_light = six
-
   -- no page is free
-  pub unheld_none : frees (contents S s) ≡ 0 → Refusal7 S h s (rows_held S s) (new_row c pl)
-  unheld_none e = ⊎_elim (λ l. omega (arith, pages_held S s)) (λ l. absurd (omega (arith, seven.0 (omega (arith, pages_held S s, l)), e))) (side (pages S s - 2) (length (buckets S h (r ∷ rows_held S s))))
-
   pub unheld_full : frees (contents S s) ≡ 0 → Answers (put_accepted S h s (new_row c pl)) (refused 7, s)
-  unheld_full e = inr ((λ _. none_some absent), inr ((λ _. six), inl (tt, (unheld_none e, refl))))
-
-  -- or one is
-  pub unheld_roomy : 0 < frees (contents S s) → Refusal7 S h s (rows_held S s) (new_row c pl) → ⊥
-  unheld_roomy some x = omega (arith, pages_held S s, seven.1 some)
+  unheld_full e =
+      inr ((λ _. none_some absent), inr ((λ _. six), inl (tt, (⊎_elim (λ l. omega (arith, pages_held S s)) (λ l. absurd (omega (arith, seven.0 (omega (arith, pages_held S s, l)), e))) (side (pages S s - 2) (length (buckets S h (r ∷ rows_held S s)))), refl))))
 
   -- one is
   module _ (some : 0 < frees (contents S s)) (k : ℕ) (K : Vacant S s (dir_depth s) (h c) k) (f : ℕ) (e : f ≡ 2 + find is_free (contents S s)) (to : f < pages S s) (q : List ℕ) (Q : Started (page S s f) k c pl q) where

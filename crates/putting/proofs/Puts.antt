@@ -15,15 +15,14 @@ use Rattle.ground.proofs.Sides.{side}
 use Rattle.ground.proofs.Tables.{length_tab}
 use Rattle.words.specs.Le.{le32}
 use Rattle.words.specs.Moves.{Frame}
-use Rattle.page.specs.Page.{Slotted, Sorted, BucketPage, Belongs, depth, count, frontier, code, place, rows, row_at}
-use Rattle.page.specs.Page as InPage
+use Rattle.page.specs.Page.{Slotted, BucketPage, depth, count, frontier, code, place, rows, row_at}
 use Rattle.words.specs.Folds.{Folded}
 use Rattle.page.specs.Steps.{Overwritten}
 use Rattle.page.specs.Packed.{Fitting, Added}
 use Rattle.page.specs.Places as Places
 use Rattle.partition.specs.Bits.{top}
 use Rattle.partition.specs.declared.Shape.{Shape}
-use Rattle.partition.specs.Partition.{Row, row_need, need, needs}
+use Rattle.partition.specs.Partition.{Row, need, needs}
 use Rattle.partition.specs.Listing.{insert, without, in_order, place_of}
 use Rattle.partition.proofs.Tree.{pfx}
 use Rattle.partition.proofs.Sorted.{by_code, in_order_reordered, order_put}
@@ -42,7 +41,7 @@ use Rattle.store.proofs.Showing.Showing.{accepted_shows, pages_held}
 use Rattle.store.proofs.Accepted.Reading.{Naming, lookup_page, place_on_lem}
 use Rattle.store.proofs.Put.OverShows.{over_one, prefix_over}
 use Rattle.store.proofs.Remove.MoveRows.{over_shown}
-use Rattle.store.proofs.Paging.PageTies.{slot_of, found_at, found_not, page_order, fits_needs, added_rows, added_sorted, overwritten_rows, overwritten_sorted}
+use Rattle.store.proofs.Paging.PageTies.{slot_of, found_at, found_not, page_order, fits_needs, added_rows, overwritten_rows}
 use Rattle.store.proofs.Paging.Records.{rows_added}
 use Rattle.store.proofs.Showing.Rooms.{set_holds}
 use Rattle.store.proofs.Demands.Said.{rows_few}
@@ -85,9 +84,6 @@ module _ (S : Shape) (h : List ℕ → ℕ) (sized : Sized S) (hash : Hash h) (s
   slotted : Slotted g
   slotted = U.bytes.rules.rules
 
-  sorted : Sorted g
-  sorted = U.bytes.rules.sorted
-
   long : length g ≡ size S
   long = page_long S s p U.to
 
@@ -118,12 +114,11 @@ module _ (S : Shape) (h : List ℕ → ℕ) (sized : Sized S) (hash : Hash h) (s
     known_row = new_row c pl
 
     known_rows : rows q ≡ map (place_on known_row) (rows g)
-    known_rows = subst (λ x. rows q ≡ map (place_on (new_row x pl)) (rows g)) e (overwritten_rows g i pl q sorted b O)
+    known_rows = subst (λ x. rows q ≡ map (place_on (new_row x pl)) (rows g)) e (overwritten_rows g i pl q slotted b O)
 
     known_page : BucketPage q
     known_page = record {
       rules = O.page;
-      sorted = overwritten_sorted g i pl q sorted b O;
       some = omega (arith, length_tab (row_at q) (count q), length_tab (row_at g) (count g), ap length O.rows_of ∙ length-set (rows g) i _);
     }
 
@@ -142,7 +137,7 @@ module _ (S : Shape) (h : List ℕ → ℕ) (sized : Sized S) (hash : Hash h) (s
 
     pub put_known : ((k : ℕ) → byte (set_page S s p q) k < 256) → Answers (put_accepted S h s (new_row c pl)) (replaced (Places.place_from (place g i)), set_page S s p q)
     put_known small =
-        let old : place_of (rows_held S s) c ≡ some (place g i) = placed ∙ found_at g sorted c i b e in
+        let old : place_of (rows_held S s) c ≡ some (place g i) = placed ∙ found_at g slotted c i b e in
         inl (
           place g i,
           (
@@ -157,22 +152,9 @@ module _ (S : Shape) (h : List ℕ → ℕ) (sized : Sized S) (hash : Hash h) (s
           ),
         )
 
-  -- ---- a row that fits: neither 6 nor 7
-
-  module _ (pl : List ℕ) (room : row_need c ≤ InPage.free (page S s p)) where
-    light : needs (new_row c pl ∷ map as_row (rows g)) ≤ S.capacity
-    unfolding need
-    light = (fits_needs g slotted S (new_row c pl) long).0 room
-
-    pub fitting_light : Refusal6 S h (rows_held S s) (new_row c pl) → ⊥
-    fitting_light x = omega (arith, fits_six S h hash (rows_held S s) gs shows (new_row c pl) (p - 2) (depth g) (rows g) U.holding begins light)
-
-    pub fitting_roomy : Refusal7 S h s (rows_held S s) (new_row c pl) → ⊥
-    fitting_roomy x = omega (arith, fits_seven S h hash (rows_held S s) gs shows (new_row c pl) (p - 2) (depth g) (rows g) U.holding begins light, pages_held S s)
-
   -- ---- a new code that fits
 
-  module _ (i : ℕ) (pl t q t' : List ℕ) (B : Belongs g i c) (F : Fitting g i c pl) (D : Added g i c pl t q t') (folded : Folded c) where
+  module _ (i : ℕ) (pl t q t' : List ℕ) (F : Fitting g i c pl) (D : Added g i c pl t q t') (folded : Folded c) where
     abbrev the_new_row : Row
     the_new_row = new_row c pl
 
@@ -186,17 +168,17 @@ module _ (S : Shape) (h : List ℕ → ℕ) (sized : Sized S) (hash : Hash h) (s
     page_now = ⊎_elim
         (λ l. let T = (D.tight l).0 in record { page = T.2.page; long = T.2.long ∙ T.1.long; deep = T.2.deep ∙ T.1.deep })
         (λ l. let I = (D.roomy l).0 in record { page = I.page; long = I.long; deep = I.deep })
-        (side (length g) (frontier g + 4 * count g + row_need c))
+        (side (length g) (frontier g + 4 * count g + (12 + length c)))
 
     absent : place_of (rows_held S s) c ≡ none
-    absent = placed ∙ found_not g c i B
+    absent = placed ∙ found_not g slotted c i F.belongs
 
     fits : needs (the_new_row ∷ map as_row (rows g)) ≤ S.capacity
     unfolding need
     fits = (fits_needs g slotted S the_new_row long).0 F.fits
 
     rows_now : rows q ≡ added S (rows g) the_new_row
-    rows_now = added_rows S g i c pl t q t' long B F D
+    rows_now = added_rows S g i c pl t q t' long F D
 
     six : Refusal6 S h (rows_held S s) the_new_row → ⊥
     six x = omega (arith, fits_six S h hash (rows_held S s) gs shows the_new_row (p - 2) (depth g) (rows g) U.holding begins fits)
@@ -216,7 +198,7 @@ module _ (S : Shape) (h : List ℕ → ℕ) (sized : Sized S) (hash : Hash h) (s
     there =
         let l : List Row = map as_row (rows g) in
         let e : in_order (the_new_row ∷ l) ≡ map as_row (rows q) =
-        order_put the_new_row l ∙ ap (insert by_code the_new_row) (page_order g sorted) ∙ sym (rows_added S (rows g) the_new_row) ∙ ap (map as_row) (sym rows_now) in
+        order_put the_new_row l ∙ ap (insert by_code the_new_row) (page_order g slotted) ∙ sym (rows_added S (rows g) the_new_row) ∙ ap (map as_row) (sym rows_now) in
         subst (Memᴰ the_new_row) e (mem_reordered (turned (in_order_reordered (the_new_row ∷ l))) (Memᴰ.head refl))
 
     -- the page has the prefix that it had
@@ -232,7 +214,7 @@ module _ (S : Shape) (h : List ℕ → ℕ) (sized : Sized S) (hash : Hash h) (s
     pub put_fitted : (u : List ℕ) → CountRaised (set_page S s p q) 0 u → ((k : ℕ) → byte u k < 256) → Answers (put_accepted S h s (new_row c pl)) (new, u)
     put_fitted u R small =
         let N = page_now in
-        let Q : BucketPage q = record { rules = N.page; sorted = added_sorted g i c pl t q t' sorted B D; some = let w = slot_of q the_new_row there in omega (arith, w.1) } in
+        let Q : BucketPage q = record { rules = N.page; some = let w = slot_of q the_new_row there in omega (arith, w.1) } in
         let L : Laid S h (set_page S s p q) (put_new S h gs the_new_row) = subst (Laid S h (set_page S s p q)) (sym is)
         (laid_set S h sized s gs (accepted_laid S h sized hash s A) p (depth g) (rows g) U.from U.to U.holding q Q (N.long ∙ long) N.deep begins_now) in
         let F : Frame (set_page S s p q) 24 56 u = inside_counts (set_page S s p q) u 0 _ (omega arith) R in

@@ -117,15 +117,15 @@ module _ (S : Shape) (h : List ℕ → ℕ) (d : ℕ) (rs : List Row) (k v : ℕ
   }
 
   pub bare_wrote : load ≡ 0 → BucketsWritten S h d rs k v s at s at
-  bare_wrote e = none_wrote (below_none S (λ j w. needs (rows_of h rs j w)) k v e)
+  bare_wrote e = none_wrote (below_none S h rs k v e)
 
   pub deep_wrote : S.capacity < load → k ≡ S.deepest → BucketsWritten S h d rs k v s at s at
-  deep_wrote o e = none_wrote (below_deep S (λ j w. needs (rows_of h rs j w)) k v (omega arith) o)
+  deep_wrote o e = none_wrote (below_deep S h rs k v (omega arith) o)
 
   -- one
   module _ (p : 0 < load) (l : load ≤ S.capacity) where
     one : below S h rs k v ≡ pfx k v ∷ []
-    one = below_one S (λ j w. needs (rows_of h rs j w)) k v p l
+    one = below_one S h rs k v p l
 
     pub one_free : at ≡ 0 → 0 < frees (contents S s)
     unfolding written
@@ -183,7 +183,7 @@ module _ (S : Shape) (h : List ℕ → ℕ) (d : ℕ) (rs : List Row) (k v : ℕ
     us = pages_below S h rs (k + 1) (2 * v + 1)
 
     both : pages_below S h rs k v ≡ ls ++ us
-    both = ap (map (packed h rs)) (below_two S (λ j w. needs (rows_of h rs j w)) k v shallow o) ∙ map-append (packed h rs) (below S h rs (k + 1) (2 * v)) (below S h rs (k + 1) (2 * v + 1))
+    both = ap (map (packed h rs)) (below_two S h rs k v shallow o) ∙ map-append (packed h rs) (below S h rs (k + 1) (2 * v)) (below S h rs (k + 1) (2 * v + 1))
 
     pub half_ready : Writable S h rs (k + 1) (2 * v) s at
     half_ready = record {

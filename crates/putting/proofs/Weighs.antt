@@ -7,20 +7,18 @@ use Prim.Native.Nat.{ℕ, zero, suc, ◌+◌, ◌-◌, ◌*◌, ◌/◌, ◌^◌
 use native.Mathlib.Omega.{arith}
 use native.Mathlib.Nat.{pow-suc}
 use native.Mathlib.Numerals.{add-one}
-use lib.Dec.{eqb, leb}
+use lib.Dec.{eqb}
 use lib.Pow.{pow_pos, pow_mono}
-use lib.ListN.{length, get_or, set, length-append, length-set}
-use lib.Seq.{get_or-set_same, get_or-set_other}
-use Rattle.ground.specs.Lists.{tab, total}
-use Rattle.ground.proofs.Tables.{total_same}
-use borrow.Author.Tests.{leb-true, leb-false}
+use lib.ListN.{length, get_or, drop, set, length-append, length-map, length-set}
+use lib.Seq.{drop-cons, drop-length, get_or-set_same, get_or-set_other}
+use Rattle.ground.proofs.Tables.{length_tab, get_d_tab}
 use Rattle.page.specs.Page.{Slotted, count, code, rows, row_at}
-use Rattle.page.proofs.Sums.{total_more}
+use Rattle.page.proofs.Sums.{len_of_code}
 use Rattle.partition.specs.Bits.{top}
 use Rattle.partition.specs.declared.Shape.{Shape}
-use Rattle.partition.specs.Partition.{Row, Grade, bare, fits, over, fitting, keep, row_need, need, needs, rows_of, grade, walk, buckets}
+use Rattle.partition.specs.Partition.{Row, Grade, bare, fits, over, keep, need, needs, rows_of, grade, walk, buckets}
 use Rattle.partition.proofs.Tree.{pfx, Means}
-use Rattle.partition.proofs.Rows.{load, mean_of, mean_one, body_short}
+use Rattle.partition.proofs.Rows.{load, mean_of, mean_one}
 use Rattle.ground.proofs.Sides.{side}
 use Rattle.partition.proofs.Bits.{top_step, top_lt}
 use Rattle.partition.proofs.Laws.{share_fewer}
@@ -29,10 +27,10 @@ use Rattle.partition.proofs.Pages.{rows_every}
 use Rattle.partition.proofs.Reorders.{needs_same, needs_append}
 use Rattle.partition.proofs.Splice.{walk_bare, walk_fits}
 use Rattle.store.specs.Pages.{as_row}
-use Rattle.store.proofs.Paging.PageTies.{record_long, rows_tab}
+use Rattle.store.proofs.Paging.PageTies.{rows_tab}
 use Rattle.store.specs.Moves.{pick}
 use Rattle.store_check.proofs.Fills.{Filled}
-use Rattle.putting.specs.Split.{weight, keyed, with_new, Told, Weighed, Numbers, weight_at, load_of, grade_of, below_of, below}
+use Rattle.putting.specs.Split.{weight, keyed, Told, below}
 
 -- ---- what is told of a page's codes and a new one
 
@@ -48,13 +46,13 @@ told f g c {l = l} F n e a b x q = record {
 
 -- a row of a page needs 76 at most
 pub light : (g : List ℕ) (i : ℕ) → Slotted g → i < count g → weight (code g i) ≤ 76
-light g i Z l = omega (arith, record_long g i Z l, Z.long i l)
+light g i Z l = omega (arith, len_of_code g i Z l, Z.long i l)
 
 module _ (h : List ℕ → ℕ) where
   -- a row's place does not weigh
   keep_any : (b : Bool) (r q : Row) → r.code ≡ q.code → (s t : List Row) → needs s ≡ needs t → needs (keep b r s) ≡ needs (keep b q t)
   unfolding needs need
-  keep_any true r q e s t n = λ i. row_need (e i) + n i
+  keep_any true r q e s t n = λ i. 12 + length (e i) + n i
   keep_any false r q e s t n = n
 
   pub load_any : (r q : Row) → r.code ≡ q.code → (s t : List Row) (k v : ℕ) → load h s k v ≡ load h t k v → load h (r ∷ s) k v ≡ load h (q ∷ t) k v
@@ -91,74 +89,51 @@ module _ (h : List ℕ → ℕ) where
   pub new_told : (g c hs ns : List ℕ) (k v : ℕ) → Told h g c hs → Told weight g c ns → (n : ℕ) → n ≡ count g → pick (eqb (top k (get_or hs n 0)) v) (get_or ns n 0) 0 ≡ load h (keyed c ∷ []) k v
   new_told g c hs ns k v H N n e = ap (λ m. pick (eqb (top k (get_or hs m 0)) v) (get_or ns m 0) 0) e ∙ (λ x. pick (eqb (top k (H.new x)) v) (N.new x) 0) ∙ sym (load_pick c k v)
 
-  -- rows of a table, one by one
-  load_tab : (r : ℕ → Row) (n k v : ℕ) → load h (tab r n) k v ≡ total (λ i. load h (r i ∷ []) k v) n
-  unfolding tab total
-  load_tab r zero k v = load_none k v
-  load_tab r (suc n) k v = load_cons (r zero) (tab (λ i. r (suc i)) n) k v ∙ ap (λ m. load h (r zero ∷ []) k v + m) (load_tab (λ i. r (suc i)) n k v)
+  -- ---- a page's rows, slot by slot
 
--- ---- THE NUMBERS ARE THOSE OF THE ROWS
+  pub load_slot : (g : List ℕ) (i k v : ℕ) → i < count g
+      → load h (drop i (map as_row (rows g))) k v ≡ load h (keyed (code g i) ∷ []) k v + load h (drop (i + 1) (map as_row (rows g))) k v
+  load_slot g i k v l =
+      let rs : List Row = map as_row (rows g) in
+      let r : Row = as_row (row_at g i) in
+      let n : i < length rs = omega (arith, length-map (rows g) as_row, length_tab (row_at g) (count g)) in
+      let e : get_or rs i (keyed []) ≡ r = ap (λ x. get_or x i (keyed [])) (rows_tab g) ∙ get_d_tab (λ j. as_row (row_at g j)) (count g) i (keyed []) l in
+      ap (λ x. load h x k v) (drop-cons rs i (keyed []) n ∙ (λ x. e x ∷ drop (sym (add-one i) x) rs))
+      ∙ load_cons r (drop (i + 1) rs) k v ∙ ap (λ n. n + load h (drop (i + 1) rs) k v) (load_any r (keyed (code g i)) refl [] [] k v refl)
 
-module _ {h : List ℕ → ℕ} {g c hs ns : List ℕ} (W : Weighed h g c hs ns) where
-  pub numbers : Numbers g hs ns
-  numbers = record {
-    page = W.page;
-    hashes = W.hashes.rows.long;
-    weights = W.weights.rows.long;
-    light = λ i l. ⊎_elim
-        (λ lt. omega (arith, W.weights.rows.at i lt, light g i W.page lt))
-        (λ ge. let e : i ≡ count g = omega arith in omega (arith, ap (λ j. get_or ns j 0) e, W.weights.new, body_short (length c) W.good.most, W.good.most))
-        (side i (count g));
-  }
-
-  pub load_tie : (k v : ℕ) → load_of hs ns (count g + 1) k v ≡ load h (with_new g (keyed c)) k v
-  load_tie k v =
-      let f : ℕ → ℕ = weight_at hs ns k v in
-      let rows_load : total f (count g) ≡ load h (map as_row (rows g)) k v =
-      total_same f (λ i. load h (as_row (row_at g i) ∷ []) k v) (count g)
-      (λ i l. slot_told h g c hs ns k v W.hashes W.weights i l ∙ load_any h (keyed (code g i)) (as_row (row_at g i)) refl [] [] k v refl)
-      ∙ sym (load_tab h (λ i. as_row (row_at g i)) (count g) k v) ∙ ap (λ l. load h l k v) (sym (rows_tab g)) in
-      omega (arith, total_more f (count g), rows_load, new_told h g c hs ns k v W.hashes W.weights (count g) refl, load_cons h (keyed c) (map as_row (rows g)) k v)
-
-  pub below_tie : (S : Shape) (k v : ℕ) → below_of S (load_of hs ns (count g + 1)) k v ≡ below S h (with_new g (keyed c)) k v
-  below_tie S k v = λ i. below_of S (λ j w. load_tie j w i) k v
+  pub load_end : (g : List ℕ) (i k v : ℕ) → i ≡ count g → load h (drop i (map as_row (rows g))) k v ≡ 0
+  load_end g i k v e =
+      let n : i ≡ length (map as_row (rows g)) = e ∙ sym (length-map (rows g) as_row ∙ length_tab (row_at g) (count g)) in
+      ap (λ m. load h (drop m (map as_row (rows g))) k v) n ∙ ap (λ l. load h l k v) (drop-length (map as_row (rows g))) ∙ load_none k v
 
 -- ---- buckets
 
-grade_means : (cap n : ℕ) → Means cap n (grade_of cap n)
-grade_means cap zero = refl
-grade_means cap (suc n) = go (leb (suc n) cap) refl
-  where
-    go : (b : Bool) → leb (suc n) cap ≡ b → Means cap (suc n) (fitting b)
-    go true e = (omega arith, leb-true (suc n) cap e)
-    go false e = leb-false (suc n) cap e
-
-module _ (S : Shape) (L : ℕ → ℕ → ℕ) where
+module _ (S : Shape) (h : List ℕ → ℕ) (rs : List Row) where
   abbrev cap : ℕ
   cap = S.capacity
 
   abbrev G : ℕ → ℕ → Grade
-  G j w = grade_of cap (L j w)
+  G j w = grade cap (rows_of h rs j w)
 
-  graded : (k v : ℕ) (g : Grade) → Means cap (L k v) g → G k v ≡ g
-  graded k v g m = mean_one cap (L k v) (G k v) g (grade_means cap (L k v)) m
+  graded : (k v : ℕ) (g : Grade) → Means cap (load h rs k v) g → G k v ≡ g
+  graded k v g m = mean_one cap (load h rs k v) (G k v) g (mean_of cap (rows_of h rs k v)) m
 
-  pub below_none : (k v : ℕ) → L k v ≡ 0 → below_of S L k v ≡ []
-  unfolding below_of
+  pub below_none : (k v : ℕ) → load h rs k v ≡ 0 → below S h rs k v ≡ []
+  unfolding below
   below_none k v e = ap (λ g. walk G (S.deepest - k) g k v) (graded k v bare e) ∙ walk_bare G (S.deepest - k) k v
 
-  pub below_one : (k v : ℕ) → 0 < L k v → L k v ≤ S.capacity → below_of S L k v ≡ pfx k v ∷ []
-  unfolding below_of
+  pub below_one : (k v : ℕ) → 0 < load h rs k v → load h rs k v ≤ S.capacity → below S h rs k v ≡ pfx k v ∷ []
+  unfolding below
   below_one k v p l = ap (λ g. walk G (S.deepest - k) g k v) (graded k v fits (p, l)) ∙ walk_fits G (S.deepest - k) k v
 
-  pub below_deep : (k v : ℕ) → S.deepest ≤ k → S.capacity < L k v → below_of S L k v ≡ []
-  unfolding below_of
+  pub below_deep : (k v : ℕ) → S.deepest ≤ k → S.capacity < load h rs k v → below S h rs k v ≡ []
+  unfolding below
   below_deep k v l o =
       let z : S.deepest - k ≡ 0 = omega arith in
       ap (λ n. walk G n (G k v) k v) z ∙ ap (λ g. walk G 0 g k v) (graded k v over o)
 
-  pub below_two : (k v : ℕ) → k < S.deepest → S.capacity < L k v → below_of S L k v ≡ below_of S L (k + 1) (2 * v) ++ below_of S L (k + 1) (2 * v + 1)
-  unfolding below_of
+  pub below_two : (k v : ℕ) → k < S.deepest → S.capacity < load h rs k v → below S h rs k v ≡ below S h rs (k + 1) (2 * v) ++ below S h rs (k + 1) (2 * v + 1)
+  unfolding below
   below_two k v l o =
       let d : S.deepest - k ≡ suc (S.deepest - (k + 1)) = omega arith in
       ap (λ g. walk G (S.deepest - k) g k v) (graded k v over o) ∙ ap (λ n. walk G n over k v) d
@@ -176,16 +151,15 @@ module _ (S : Shape) (L : ℕ → ℕ → ℕ) where
       rw length-append
       (omega (arith, pow-suc 2 d, grown d (G (suc k) (2 * v)) (suc k) (2 * v), grown d (G (suc k) (2 * v + 1)) (suc k) (2 * v + 1)))
 
-  pub below_most : (k v : ℕ) → length (below_of S L k v) ≤ 2 ^ S.deepest
-  unfolding below_of
+  pub below_most : (k v : ℕ) → length (below S h rs k v) ≤ 2 ^ S.deepest
+  unfolding below
   below_most k v =
       let l : S.deepest - k ≤ S.deepest = omega arith in
       let m : 2 ^ (S.deepest - k) ≤ 2 ^ S.deepest = pow_mono l in
       omega (arith, grown (S.deepest - k) (G k v) k v)
 
--- ---- rows that share their first bits
+  -- ---- rows that share their first bits
 
-module _ (S : Shape) (h : List ℕ → ℕ) (rs : List Row) where
   halved : (k v : ℕ) → load h rs k v ≡ load h rs (k + 1) (2 * v) + load h rs (k + 1) (2 * v + 1)
   halved k v =
       needs_same (rows_halves h rs k v) ∙ needs_append (rows_of h rs (suc k) (2 * v)) (rows_of h rs (suc k) (2 * v + 1))
@@ -197,11 +171,11 @@ module _ (S : Shape) (h : List ℕ → ℕ) (rs : List Row) where
       (λ a.
       let q : u ≡ 2 * v = omega arith in
       let z : load h rs (k + 1) (2 * v + 1) ≡ 0 = omega (arith, halved k v, s, ap (load h rs (k + 1)) q) in
-      below_two S (load h rs) k v l o ∙ ap (λ b. below S h rs (k + 1) (2 * v) ++ b) (below_none S (load h rs) (k + 1) (2 * v + 1) z) ∙ append-nil (below S h rs (k + 1) (2 * v)) ∙ ap (below S h rs (k + 1)) (sym q))
+      below_two k v l o ∙ ap (λ b. below S h rs (k + 1) (2 * v) ++ b) (below_none (k + 1) (2 * v + 1) z) ∙ append-nil (below S h rs (k + 1) (2 * v)) ∙ ap (below S h rs (k + 1)) (sym q))
       (λ a.
       let q : u ≡ 2 * v + 1 = omega arith in
       let z : load h rs (k + 1) (2 * v) ≡ 0 = omega (arith, halved k v, s, ap (load h rs (k + 1)) q) in
-      below_two S (load h rs) k v l o ∙ ap (λ b. b ++ below S h rs (k + 1) (2 * v + 1)) (below_none S (load h rs) (k + 1) (2 * v) z) ∙ ap (below S h rs (k + 1)) (sym q))
+      below_two k v l o ∙ ap (λ b. b ++ below S h rs (k + 1) (2 * v + 1)) (below_none (k + 1) (2 * v) z) ∙ ap (below S h rs (k + 1)) (sym q))
       (side u (2 * v + 1))
 
   -- where all share k bits and do not fit together, all buckets are those below these bits
@@ -215,12 +189,8 @@ module _ (S : Shape) (h : List ℕ → ℕ) (rs : List Row) where
       ∙ sym (one_half k (top k x) (top (suc k) x) (omega arith) (top_step x k) (omega (arith, a, o)) (b ∙ sym a)) ∙ below_shared x k m (omega arith) f o
 
   pub below_all : below S h rs 0 0 ≡ buckets S h rs
-  unfolding below_of buckets
-  below_all =
-      let e : S.deepest - 0 ≡ S.deepest = omega arith in
-      let same : (j w : ℕ) → grade_of S.capacity (load h rs j w) ≡ grade S.capacity (rows_of h rs j w) =
-      λ j w. mean_one S.capacity (load h rs j w) _ _ (grade_means S.capacity (load h rs j w)) (mean_of S.capacity (rows_of h rs j w)) in
-      λ i. walk (λ j w. same j w i) (e i) (same 0 0 i) 0 0
+  unfolding below buckets
+  below_all = let e : S.deepest - 0 ≡ S.deepest = omega arith in ap (λ n. walk G n (G 0 0) 0 0) e
 
 pub double : (k : ℕ) → 2 ^ (k + 1) ≡ 2 * 2 ^ k
 double k = ap (λ n. 2 ^ n) (add-one k) ∙ pow-suc 2 k ∙ omega arith

@@ -1,7 +1,5 @@
 -- What the steps of a put on an accepted store ask and answer. Over any page size and hash. Assumes nothing.
 use Rattle.std.specs.Prelude.{◌≡◌, List, ℕ, suc, ◌+◌, ◌/◌, ◌≤◌, ◌<◌, length}
-use Rattle.std.proofs.Math.Option.{none}
-use Rattle.ground.specs.Ladder.{Ladder, answer, refuse}
 use Rattle.words.specs.Codes.{GoodCode}
 use Rattle.words.specs.Folds.{Folded}
 use Rattle.page.specs.Page.{Belongs, Natural, count, free, code}
@@ -10,12 +8,10 @@ use Rattle.page.specs.declared.Place.{Place}
 use Rattle.page.specs.Places.{Negative}
 use Rattle.partition.specs.Bits.{top}
 use Rattle.partition.specs.declared.Shape.{Shape}
-use Rattle.partition.specs.Partition.{Row, row_need}
-use Rattle.partition.specs.Listing.{place_of}
-use Rattle.store.specs.Pages.{size, page, dir_depth, entry_at, rows_held}
+use Rattle.partition.specs.Partition.{Row}
+use Rattle.store.specs.Pages.{size, page, dir_depth, entry_at}
 use Rattle.store.specs.Accepted.{Calls, Accepted}
 use Rattle.store.specs.Demands.{Sized, Mode}
-use Rattle.store.specs.Tables.{Out, refused, Refusal6, Refusal7}
 
 -- the row of a code and a place
 abbrev pub new_row : List ℕ → List ℕ → Row
@@ -28,18 +24,6 @@ pub record Puttable (S : Shape) (h : List ℕ → ℕ) (s c pl : List ℕ) : Typ
   pub good : GoodCode c
   pub folded : Folded c
   pub natural : Natural pl
-
--- such a row, whose code the store does not have
-pub record Unknown (S : Shape) (h : List ℕ → ℕ) (s c pl : List ℕ) : Type 0 where
-  pub row : Puttable S h s c pl
-  pub absent : place_of (rows_held S s) c ≡ none
-
--- why the new row r is refused where there is no room for one more: 6, 7, else 16
-abbrev pub new_refused : Shape → (List ℕ → ℕ) → List ℕ → Row → Ladder Out
-new_refused S h s r =
-    refuse (Refusal6 S h (rows_held S s) r) (refused 6)
-    (refuse (Refusal7 S h s (rows_held S s) r) (refused 7)
-    (answer (refused 16)))
 
 -- what makes such a row: its code not yet folded
 pub record Givable (S : Shape) (h : List ℕ → ℕ) (s c pl : List ℕ) : Type 0 where
@@ -82,17 +66,16 @@ pub record KnownAt (S : Shape) (h : List ℕ → ℕ) (s : List ℕ) (p i : ℕ)
   pub row : Homed S h s p (code (page S s p) i) pl
   pub slot : i < count (page S s p)
 
--- or which belongs at slot i there and fits
+-- or which fits that page, its code at slot i
 pub record Insertion (S : Shape) (h : List ℕ → ℕ) (s : List ℕ) (p i : ℕ) (c pl : List ℕ) : Type 0 where
   pub row : Homed S h s p c pl
-  pub belongs : Belongs (page S s p) i c
   pub fits : Fitting (page S s p) i c pl
 
 -- or which belongs at slot i there and does not fit
 pub record Crowded (S : Shape) (h : List ℕ → ℕ) (s : List ℕ) (p i : ℕ) (c pl : List ℕ) : Type 0 where
   pub row : Homed S h s p c pl
   pub belongs : Belongs (page S s p) i c
-  pub tight : free (page S s p) < row_need c
+  pub tight : free (page S s p) < 12 + length c
 
 -- what a split is lent to work in: a page, twice a number for each row that a page can have and one for the new row, and the counts
 pub record Lent (S : Shape) (t hs ns tallies : List ℕ) : Type 0 where

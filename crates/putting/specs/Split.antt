@@ -1,17 +1,17 @@
 -- What the steps of a split ask and answer. Over any page size and hash. Assumes nothing.
-use Rattle.std.specs.Prelude.{◌≡◌, List, [], ◌∷◌, ◌++◌, map, ◌⊎◌, ℕ, zero, suc, ◌+◌, ◌-◌, ◌^◌, ◌≤◌, ◌<◌, eqb, leb, length, get_or, take, drop}
-use Rattle.ground.specs.Lists.{byte, total}
+use Rattle.std.specs.Prelude.{◌≡◌, List, [], ◌∷◌, ◌++◌, map, ◌⊎◌, ℕ, zero, suc, ◌+◌, ◌-◌, ◌^◌, ◌≤◌, ◌<◌, length, get_or, take, drop}
+use Rattle.ground.specs.Lists.{byte}
 use Rattle.words.specs.Codes.{GoodCode}
 use Rattle.words.specs.Le.{le32}
-use Rattle.page.specs.Page.{Slotted, Sorted, BucketPage, Belongs, Natural, depth, count, code, rows, row_at}
+use Rattle.page.specs.Page.{Slotted, BucketPage, Belongs, Natural, depth, count, code, rows, row_at}
 use Rattle.partition.specs.declared.Shape.{Shape}
-use Rattle.partition.specs.Partition.{Row, Prefix, row_need, keep, needs, rows_of, Grade, bare, fitting, walk}
-use Rattle.partition.specs.Bits.{top}
-use Rattle.partition.specs.Listing.{in_order}
+use Rattle.partition.specs.Partition.{Row, Prefix, needs, rows_of, grade, walk}
+use Rattle.partition.specs.Listing.{in_order, Rising}
 use Rattle.store.specs.Pages.{pages, page, entry_at, Page, contents, as_row}
 use Rattle.store.specs.Accepted.{GoodLength, Calls}
+use Rattle.store.specs.Counts.{buckets_at}
 use Rattle.store.specs.Demands.{Sized}
-use Rattle.store.specs.Moves.{pick, find, is_free, frees, pack_from, packed, written}
+use Rattle.store.specs.Moves.{find, is_free, frees, pack_from, packed, written}
 use Rattle.query.specs.Spots.{DirectoryOf}
 use Rattle.directory.specs.Directory.{CallsFor, PrefixNamed, Rewritten}
 use Rattle.putting.specs.Put.{new_row}
@@ -26,7 +26,7 @@ with_new g r = r ∷ map as_row (rows g)
 
 -- what a row of the code needs
 abbrev pub weight : List ℕ → ℕ
-weight c = row_need c
+weight c = 12 + length c
 
 -- l has what f says of the code of each slot of the page g
 pub record Each (f : List ℕ → ℕ) (g l : List ℕ) : Type 0 where
@@ -52,83 +52,42 @@ pub record Weighed (h : List ℕ → ℕ) (g c hs ns : List ℕ) : Type 0 where
   pub hashes : Told h g c hs
   pub weights : Told weight g c ns
 
--- hs and ns have a hash and a need for each row of the page g and for one more
-pub record Numbers (g hs ns : List ℕ) : Type 0 where
-  pub page : Slotted g
-  pub hashes : count g < length hs
-  pub weights : count g < length ns
-  pub light : (i : ℕ) → i ≤ count g → get_or ns i 0 ≤ 76
-
--- the need of row i, in ns, if its hash, in hs, begins with the k bits of v
-abbrev pub weight_at : List ℕ → List ℕ → ℕ → ℕ → ℕ → ℕ
-weight_at hs ns k v i = pick (eqb (top k (get_or hs i 0)) v) (get_or ns i 0) 0
-
--- what the first n rows need so
-abbrev pub load_of : List ℕ → List ℕ → ℕ → ℕ → ℕ → ℕ
-load_of hs ns n k v = total (weight_at hs ns k v) n
-
 -- v is a prefix of k bits, at most the deepest depth
 pub record PrefixIn (S : Shape) (k v : ℕ) : Type 0 where
   pub sized : Sized S
   pub deep : k ≤ S.deepest
   pub bits : v < 2 ^ k
 
--- the grade of rows that need n together
-abbrev pub grade_of : ℕ → ℕ → Grade
-grade_of cap zero = bare
-grade_of cap (suc n) = fitting (leb (suc n) cap)
-
--- the buckets at the prefix v of k bits and below it, in prefix order, where the rows of a prefix need what L says
-unfoldable pub below_of : Shape → (ℕ → ℕ → ℕ) → ℕ → ℕ → List Prefix
-unfolding walk
-below_of S L k v = walk (λ j w. grade_of S.capacity (L j w)) (S.deepest - k) (grade_of S.capacity (L k v)) k v
-
--- those of the rows rs
-abbrev pub below : Shape → (List ℕ → ℕ) → List Row → ℕ → ℕ → List Prefix
-below S h rs k v = below_of S (λ j w. needs (rows_of h rs j w)) k v
+-- the buckets of rs at the prefix v of k bits and below it, in prefix order
+unfoldable pub below : Shape → (List ℕ → ℕ) → List Row → ℕ → ℕ → List Prefix
+unfolding walk grade rows_of
+below S h rs k v = walk (λ j w. grade S.capacity (rows_of h rs j w)) (S.deepest - k) (grade S.capacity (rows_of h rs k v)) k v
 
 -- the buckets below the prefix (k, v), written packed
 abbrev pub pages_below : Shape → (List ℕ → ℕ) → List Row → ℕ → ℕ → List Page
 pages_below S h rs k v = map (packed h rs) (below S h rs k v)
 
--- how many of the prefixes are j bits long
-unfoldable pub long_at : ℕ → List Prefix → ℕ
-long_at j [] = 0
-long_at j (p ∷ ps) = pick (eqb p.bits j) 1 0 + long_at j ps
-
--- the buckets of rows of these hashes and needs can be counted in the array, too
-pub record Countable (S : Shape) (g hs ns : List ℕ) (k v : ℕ) (tallies : List ℕ) : Type 0 where
-  pub numbers : Numbers g hs ns
+-- the buckets of the rows of the page g and a row of the code c can be counted in the array, too
+pub record Countable (S : Shape) (h : List ℕ → ℕ) (g c hs ns : List ℕ) (k v : ℕ) (tallies : List ℕ) : Type 0 where
+  pub weighed : Weighed h g c hs ns
   pub prefix : PrefixIn S k v
   pub array : length tallies ≡ 14
-  pub few : (j : ℕ) → j ≤ 12 → get_or tallies (suc j) 0 + length (below_of S (load_of hs ns (count g + 1)) k v) < 4294967296
+  pub few : (j : ℕ) → j ≤ 12 → get_or tallies (suc j) 0 + length (below S h (with_new g (keyed c)) k v) < 4294967296
 
--- t is the array with buckets of the prefixes ps counted besides
-pub record CountedBelow (ps : List Prefix) (tallies t : List ℕ) : Type 0 where
+-- t is the array with the buckets of rs at the prefix v of k bits and below it counted besides
+pub record CountedBelow (S : Shape) (h : List ℕ → ℕ) (rs : List Row) (k v : ℕ) (tallies t : List ℕ) : Type 0 where
   pub long : length t ≡ 14
-  pub each : (j : ℕ) → j ≤ 12 → get_or t (suc j) 0 ≡ get_or tallies (suc j) 0 + long_at j ps
+  pub each : (j : ℕ) → j ≤ 12 → get_or t (suc j) 0 ≡ get_or tallies (suc j) 0 + buckets_at j (pages_below S h rs k v)
 
 -- the rows of a page's slots from a up to b
 abbrev pub slots : List ℕ → ℕ → ℕ → List Row
 slots g a b = take (b - a) (drop a (map as_row (rows g)))
 
--- the row r, if its hash x begins with the k bits of v
-abbrev pub picked_if : ℕ → ℕ → ℕ → Row → List Row
-picked_if x k v r = keep (eqb (top k x) v) r []
-
--- of n slots of the page g from a on, the rows whose hashes, in hs, begin with the k bits of v
-unfoldable pub picked : List ℕ → List ℕ → ℕ → ℕ → ℕ → ℕ → List Row
-picked g hs k v a zero = []
-picked g hs k v a (suc n) = picked_if (get_or hs a 0) k v (as_row (row_at g a)) ++ picked g hs k v (a + 1) n
-
--- those of all its slots and of a row r, which comes at slot i
-abbrev pub picked_all : List ℕ → ℕ → Row → List ℕ → ℕ → ℕ → List Row
-picked_all g i r hs k v = picked g hs k v 0 (i - 0) ++ (picked_if (get_or hs (count g) 0) k v r ++ picked g hs k v i (count g - i))
-
--- the rows ts can go behind those of the packed page p: all fit
+-- the rows ts can go behind those of the packed page p: in code order, and all fit
 pub record Behind (p : List ℕ) (ts : List Row) : Type 0 where
   pub page : Slotted p
   pub packed : rows p ≡ pack_from 8 (map as_row (rows p))
+  pub rising : Rising (λ r. r.code) (map as_row (rows p) ++ ts)
   pub fits : 8 + needs (map as_row (rows p) ++ ts) ≤ length p
 
 -- q is p with the rows ts behind its own
@@ -145,24 +104,26 @@ pub record Appendable (p c pl : List ℕ) : Type 0 where
   pub good : GoodCode c
 
 -- a row can be appended to the page p, if its hash x begins with the k bits of v
-pub record AppendableIf (p c pl : List ℕ) (x k v : ℕ) : Type 0 where
-  pub behind : Behind p (picked_if x k v (new_row c pl))
+pub record AppendableIf (h : List ℕ → ℕ) (p c pl : List ℕ) (x k v : ℕ) : Type 0 where
+  pub behind : Behind p (rows_of h (new_row c pl ∷ []) k v)
+  pub hash : x ≡ h c
   pub deep : k ≤ 12
   pub natural : Natural pl
   pub good : GoodCode c
 
 -- the row in slot i of the page g can be appended to the page p, if its hash x begins with the k bits of v
-pub record SlotAppendable (p g : List ℕ) (i x k v : ℕ) : Type 0 where
-  pub behind : Behind p (picked_if x k v (as_row (row_at g i)))
+pub record SlotAppendable (h : List ℕ → ℕ) (p g : List ℕ) (i x k v : ℕ) : Type 0 where
+  pub behind : Behind p (rows_of h (as_row (row_at g i) ∷ []) k v)
   pub page : Slotted g
   pub slot : i < count g
+  pub hash : x ≡ h (code g i)
   pub deep : k ≤ 12
 
 -- the rows in the slots of g from a up to b, whose hashes are in hs, can be appended to the page p, those that begin with the k bits of v
-pub record SlotsAppendable (p g hs : List ℕ) (a b k v : ℕ) : Type 0 where
-  pub behind : Behind p (picked g hs k v a (b - a))
+pub record SlotsAppendable (h : List ℕ → ℕ) (p g hs : List ℕ) (a b k v : ℕ) : Type 0 where
+  pub behind : Behind p (rows_of h (slots g a b) k v)
   pub page : Slotted g
-  pub hashes : count g < length hs
+  pub hashes : Each h g hs
   pub from : a ≤ b
   pub to : b ≤ count g
   pub deep : k ≤ 12
@@ -170,29 +131,19 @@ pub record SlotsAppendable (p g hs : List ℕ) (a b k v : ℕ) : Type 0 where
 -- the page that is split, and the new row, whose code belongs at slot i
 pub record Source (g : List ℕ) (i : ℕ) (c pl : List ℕ) : Type 0 where
   pub page : Slotted g
-  pub sorted : Sorted g
   pub belongs : Belongs g i c
   pub natural : Natural pl
   pub good : GoodCode c
 
--- of the rows of the page g and a new row, which comes at slot i, those whose hashes, in hs, begin with the k bits of v fit the page p
-pub record Bucketable (g : List ℕ) (i : ℕ) (c pl hs : List ℕ) (k v : ℕ) (p : List ℕ) : Type 0 where
-  pub page : Slotted g
-  pub within : i ≤ count g
-  pub natural : Natural pl
-  pub good : GoodCode c
-  pub hashes : count g < length hs
+-- of these rows those whose hashes, in hs, begin with the k bits of v fit the page p, and there is one
+pub record Bucketable (h : List ℕ → ℕ) (g : List ℕ) (i : ℕ) (c pl hs : List ℕ) (k v : ℕ) (p : List ℕ) : Type 0 where
+  pub source : Source g i c pl
+  pub hashes : Told h g c hs
   pub deep : k ≤ 12
   pub least : 16 ≤ length p
   pub most : length p ≤ 16384
-  pub fits : 8 + needs (picked_all g i (new_row c pl) hs k v) ≤ length p
-
--- q is p with the rows ts packed, at depth k
-pub record PackedRows (ts : List Row) (k : ℕ) (p q : List ℕ) : Type 0 where
-  pub page : Slotted q
-  pub size : length q ≡ length p
-  pub deep : depth q ≡ k
-  pub rows_of : rows q ≡ pack_from 8 ts
+  pub some : 0 < needs (rows_of h (with_new g (new_row c pl)) k v)
+  pub fits : 8 + needs (rows_of h (with_new g (new_row c pl)) k v) ≤ length p
 
 -- q is a bucket written packed over p: of the rows rs those whose hashes begin with the k bits of v, in code order
 pub record Bucketed (h : List ℕ → ℕ) (rs : List Row) (k v : ℕ) (p q : List ℕ) : Type 0 where

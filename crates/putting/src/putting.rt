@@ -88,7 +88,7 @@ fn insert_fitting(
     let e = a + size;
     let n = words::get16(&s[a..e], 2);
     let f = words::get16(&s[a..e], 4);
-    if f + 4 * n + partition::row_need(key) <= size {
+    if f + 4 * n + 12 + key.len() <= size {
         page::insert_at_frontier(&mut s[a..e], i, key, place);
         counts::raise(s, 0);
         return store::Answer::New;
@@ -139,7 +139,7 @@ fn put_on(s: &mut [u8], z: Shape, p: usize, key: &[u8], place: &[u8], mode: u64)
                 return store::Answer::Refused(store::Refusal::NoCode);
             }
             let room = words::get16(&s[a..e], 6);
-            if partition::row_need(key) <= room {
+            if 12 + key.len() <= room {
                 return insert_fitting(s, z, p, i, key, place);
             }
             split_lent(s, z, p, i, key, place)

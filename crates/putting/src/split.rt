@@ -75,7 +75,6 @@ fn write_below(
         name_bucket(s, z, k, v, d, p);
         return 0;
     }
-    // Never taken: refusal 6 was tested, so rows that share as many bits as the deepest depth fit. It ends the recursion for any table of hashes and needs.
     if k as usize == z.deepest {
         return at;
     }

@@ -1,10 +1,10 @@
 // A page's rows and a new row together: their hashes and needs, what those of a prefix need, and how many buckets they make.
-ghost use Rattle.std.specs.Prelude.{◌≡◌, ◌+◌, ◌≤◌, eqb, length};
+ghost use Rattle.std.specs.Prelude.{◌≡◌, ◌≤◌, eqb, length};
 ghost use Rattle.hash.specs.Fnv.{fnv};
 ghost use Rattle.partition.specs.Bits.{top};
-ghost use Rattle.page.specs.Page.{count};
+ghost use Rattle.partition.specs.Partition.{needs, rows_of};
 ghost use Rattle.store.specs.Moves.{pick};
-ghost use Rattle.putting.specs.Split.{load_of, below_of, Weighable, Weighed, Numbers, Countable, CountedBelow};
+ghost use Rattle.putting.specs.Split.{keyed, with_new, below, Weighable, Weighed, Countable, CountedBelow};
 
 use partition::Shape;
 
@@ -18,11 +18,11 @@ pub fn gather(page: &[u8], key: &[u8], hs: &mut [u32], ns: &mut [u32])
     while i < n {
         let c = page::code_at(page, i);
         hs[i] = hash::hash(c);
-        ns[i] = partition::row_need(c) as u32;
+        ns[i] = (12 + c.len()) as u32;
         i += 1;
     }
     hs[n] = hash::hash(key);
-    ns[n] = partition::row_need(key) as u32;
+    ns[n] = (12 + key.len()) as u32;
 }
 
 // The need w of a row of the hash x, 0 where the hash does not begin with the k bits of v.
@@ -36,10 +36,10 @@ fn need_of(x: u32, w: u32, k: u32, v: u64) -> u32
     w
 }
 
-// Returns what the page's rows and one more need whose hashes, in `hs`, begin with the k bits of v; `ns` has the needs.
+// What the page's rows and a row of the code need whose hashes begin with the k bits of v.
 pub fn load(page: &[u8], key: &[u8], hs: &[u32], ns: &[u32], k: u32, v: u64) -> usize
-    requires { Numbers page.now hs.now ns.now × (k ≤ 12) }
-    ensures { result ≡ load_of hs.now ns.now (count page.now + 1) k v }
+    requires { Weighed fnv page.now key.now hs.now ns.now × (k ≤ 12) }
+    ensures { result ≡ needs (rows_of fnv (with_new page.now (keyed key.now)) k v) }
 {
     let n = words::get16(page, 2);
     let mut sum = need_of(hs[n], ns[n], k, v);
@@ -51,7 +51,7 @@ pub fn load(page: &[u8], key: &[u8], hs: &[u32], ns: &[u32], k: u32, v: u64) -> 
     sum as usize
 }
 
-// Counts the buckets at the prefix v of k bits and below it, in the array by their depths, too: by the hashes in `hs` and the needs in `ns`. Returns their number.
+// The number of buckets at the prefix v of k bits and below it, which are counted in the array by their depths, too.
 pub fn count_below(
     page: &[u8],
     z: Shape,
@@ -62,9 +62,9 @@ pub fn count_below(
     v: u64,
     tallies: &mut [u32],
 ) -> usize
-    requires { Countable z page.now hs.now ns.now k v tallies.old }
-    ensures many { result ≡ length (below_of z (load_of hs.now ns.now (count page.now + 1)) k v) }
-    ensures counted { CountedBelow (below_of z (load_of hs.now ns.now (count page.now + 1)) k v) tallies.old tallies.new }
+    requires { Countable z fnv page.now key.now hs.now ns.now k v tallies.old }
+    ensures many { result ≡ length (below z fnv (with_new page.now (keyed key.now)) k v) }
+    ensures counted { CountedBelow z fnv (with_new page.now (keyed key.now)) k v tallies.old tallies.new }
 {
     let n = load(page, key, hs, ns, k, v);
     if n == 0 {
@@ -74,7 +74,6 @@ pub fn count_below(
         counts::count_up(tallies, 1 + k as usize);
         return 1;
     }
-    // Never taken: refusal 6 was tested, so rows that share as many bits as the deepest depth fit. It ends the recursion for any table of hashes and needs.
     if k as usize == z.deepest {
         return 0;
     }

@@ -3,30 +3,29 @@ use borrow.Author.Tests.{le-leb, lt-leb}
 use mathlib.Core.Path.{◌≡◌, refl, sym, ap, subst, ◌∙◌}
 use mathlib.Core.List.{List, [], ◌∷◌, map, flat_map}
 use mathlib.Core.Logic.{⊎_elim}
-use Prim.Native.Nat.{ℕ, zero, suc, ◌+◌, ◌*◌, ◌-◌, ◌/◌, ◌^◌, ◌≤◌, ◌<◌, zero-le}
+use Prim.Native.Nat.{ℕ, ◌+◌, ◌*◌, ◌-◌, ◌^◌, ◌≤◌, ◌<◌, zero-le}
 use native.Mathlib.Omega.{arith}
-use native.Mathlib.Nat.{le_refl, add_comm, add-zero, mul-le-mul_right, mul-div_cancel, div-mul-le_self}
+use native.Mathlib.Nat.{add-zero, mul-le-mul_right, div-mul-le_self}
 use lib.ListN.{length, get_elem?}
 use lib.Pow.{pow_mono}
-use Rattle.ground.specs.Lists.{byte, total}
+use Rattle.ground.specs.Lists.{byte}
 use Rattle.ground.proofs.Sides.{side}
-use Rattle.ground.proofs.Tables.{length_tab, tab_map, total_insert}
 use Rattle.words.specs.Le.{le16}
 use Rattle.hash.specs.Fnv.{fnv, fnv_lt}
-use Rattle.page.specs.Page.{BucketPage, Belongs, count, row_at, rows, code}
+use Rattle.page.specs.Page.{BucketPage, Belongs, count, rows, code}
 use Rattle.partition.specs.Bits.{top}
 use Rattle.partition.specs.declared.Shape.{Shape}
 use Rattle.partition.specs.Partition.{Prefix, rows_of, buckets, first, after}
 use Rattle.partition.specs.Listing.{in_order, listing, place_of}
 use Rattle.partition.proofs.Bits.{top_lt}
 use Rattle.partition.proofs.Directory.{holds_range}
-use Rattle.store.specs.Pages.{size, pages, page, read, reading, as_row, rows_on, rows_held, dir_depth, entry_at}
+use Rattle.store.specs.Pages.{size, page, as_row, rows_on, rows_held, dir_depth, entry_at}
 use Rattle.store.specs.Accepted.{Accepted}
 use Rattle.store.specs.Demands.{Sized}
 use Rattle.store.proofs.Accepted.Rules.{Opened, opened}
 use Rattle.store.proofs.Accepted.Unique.{read_used, within}
-use Rattle.store.proofs.Paging.Depths.{page_byte, kind_byte}
-use Rattle.store.proofs.Accepted.Reading.{entry_of, Naming, naming, lookup_none, lookup_page, count_rows}
+use Rattle.store.proofs.Paging.Depths.{page_byte}
+use Rattle.store.proofs.Accepted.Reading.{entry_of, Naming, naming, lookup_none, lookup_page}
 use Rattle.store.proofs.Paging.PageTies.{found_at, found_not}
 use Rattle.store.proofs.Showing.Walked.{from, walk_from, Start, behind, walk_start, walk_end, walk_none, walk_page, walk_here, walk_past}
 use Rattle.query.specs.Spots.{StandsAt, Listed}
@@ -71,10 +70,10 @@ module _ (S : Shape) (sz : Sized S) (s : List ℕ) (a : Accepted S fnv s) where
       on_it = (lookup_page S fnv sz fnv_lt s a c n).1 ∙ ap (λ x. place_of (rows_on x) c) (read_used g keeps)
 
       pub here : (i : ℕ) → i < count g → code g i ≡ c → StandsAt S s c (Here p i)
-      here i l e = (record { from = from_two; within = inside; rules = keeps; slot = l }, e, on_it ∙ found_at g keeps.sorted c i l e)
+      here i l e = (record { from = from_two; within = inside; rules = keeps; slot = l }, e, on_it ∙ found_at g keeps.rules c i l e)
 
       pub nowhere : (i : ℕ) → Belongs g i c → StandsAt S s c Nowhere
-      nowhere i b = on_it ∙ found_not g c i b
+      nowhere i b = on_it ∙ found_not g keeps.rules c i b
 
 -- an entry of a directory lies in page 1
 pub entry_inside : (S : Shape) → Sized S → (d x : ℕ) → d ≤ S.deepest → x < 2 ^ 32 → top d x < S.entries

@@ -1,4 +1,6 @@
 // The calls that read a store: check, count, lookup, row at place n.
+#![tactic(auto)]
+
 ghost use Rattle.ground.specs.Ladder.{Answers};
 ghost use Rattle.std.specs.Prelude.{◌≤◌, length, ◌≡◌};
 ghost use Rattle.hash.specs.Fnv.{fnv};
@@ -22,21 +24,21 @@ mod spots;
 pub use spots::{cursor_at, entries_of, entry_of, find_row, next_row};
 
 // A row's page and slot, or no row.
-#[derive(Drop)]
+#[derive(Clone, Copy)]
 pub enum Spot {
     Here(usize, usize),
     Nowhere,
 }
 
 // A place in the listing: a slot of the rows from a directory entry on.
-#[derive(Drop)]
+#[derive(Clone, Copy)]
 pub struct Cursor {
     pub entry: usize,
     pub slot: usize,
 }
 
 // A row's page and slot with the cursor behind it, or no row is left.
-#[derive(Drop)]
+#[derive(Clone, Copy)]
 pub enum Step {
     Handed(usize, usize, Cursor),
     Done,

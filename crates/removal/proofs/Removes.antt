@@ -16,10 +16,11 @@ use Rattle.ground.proofs.Tests.{untrue}
 use Rattle.ground.specs.Lists.{byte}
 use Rattle.ground.proofs.Sides.{side}
 use Rattle.ground.proofs.Tables.{length_tab}
-use Rattle.page.specs.Page.{Record, Slotted, Sorted, BucketPage, depth, count, code, place, rows, row_at}
+use Rattle.page.specs.Page.{Record, Slotted, BucketPage, depth, count, code, place, rows, row_at}
 use Rattle.page.specs.Steps.{Removed}
+use Rattle.page.proofs.Sums.{len_of_code}
 use Rattle.partition.specs.Bits.{top}
-use Rattle.partition.specs.Partition.{Row, row_need, need, needs, rows_of, IsBucket, Reordered}
+use Rattle.partition.specs.Partition.{Row, need, needs, rows_of, IsBucket, Reordered}
 use Rattle.partition.proofs.Directory.{entry_hash}
 use Rattle.partition.proofs.Sizes.{twelve}
 use Rattle.partition.proofs.Sum.{prefix_row}
@@ -65,7 +66,7 @@ use Rattle.store.proofs.Remove.RemoveCases as Cases
 use Rattle.store.proofs.Showing.Within.{one_depth, rows_within}
 use Rattle.store.proofs.Accepted.Spelled.{AllFolded, held_folded, one_less}
 use Rattle.store.proofs.Accepted.Accepting.{Laid, accepted_laid, laid_becomes, recounted}
-use Rattle.store.proofs.Paging.PageTies.{record_long, row_in, zeros, read_cleared, page_once, found_at, removed_rows, removed_sorted}
+use Rattle.store.proofs.Paging.PageTies.{row_in, zeros, read_cleared, page_once, found_at, removed_rows}
 use Rattle.store.proofs.Paging.Views.{set_long, set_same, set_other, set_below, set_contents}
 use Rattle.directory.specs.Directory.{CallsFor, none, names, PrefixNamed, Directed, SoundPage, free as vacant, used as occupied, Settleable, Recounted, Rewritten}
 use Rattle.directory.proofs.Directories.{calls_same}
@@ -115,9 +116,6 @@ module _ (S : Shape) (sized : Sized S) (h : List ℕ → ℕ) (hash : Hash h) (s
   slotted : Slotted g
   slotted = L.rules.rules
 
-  sorted : Sorted g
-  sorted = L.rules.sorted
-
   long : length g ≡ size S
   long = page_long S s p L.to
 
@@ -158,13 +156,13 @@ module _ (S : Shape) (sized : Sized S) (h : List ℕ → ℕ) (hash : Hash h) (s
 
   -- ---- going up
 
-  sum : (j : ℕ) → needs (rows_of h rs j (top j x)) ≡ row_need c + needs (rows_of h (rows_left S s c) j (top j x))
+  sum : (j : ℕ) → needs (rows_of h rs j (top j x)) ≡ 12 + length c + needs (rows_of h (rows_left S s c) j (top j x))
   sum = Cases.needs_left S h rs gs c old shows L.known
 
   pub its_bucket : IsBucket S h (rows_held S s) (depth (page S s p)) (top (depth (page S s p)) (h c))
   its_bucket = Holder.its_bucket S h rs gs shows x (p - 2) k (rows g) holding begins
 
-  pub climbed_fits : (need j : ℕ) → need ≡ row_need c → Climbed S h (rows_held S s) (h c) (depth (page S s p)) need j → Fits S h s c j
+  pub climbed_fits : (need j : ℕ) → need ≡ 12 + length c → Climbed S h (rows_held S s) (h c) (depth (page S s p)) need j → Fits S h s c j
   climbed_fits need j e C = record {
     fit = ⊎_elim
         (λ l. omega (arith, C.fit l, sum j))
@@ -179,10 +177,10 @@ module _ (S : Shape) (sized : Sized S) (h : List ℕ → ℕ) (hash : Hash h) (s
   rest = cut c (map as_row (rows g))
 
   found : place_of (map as_row (rows g)) c ≡ some old
-  found = found_at g sorted c i L.slot L.coded
+  found = found_at g slotted c i L.slot L.coded
 
   many : count g ≡ suc (length rest)
-  many = sym (length-map (rows g) as_row ∙ length_tab (row_at g) (count g)) ∙ cut_length c old (map as_row (rows g)) (page_once g sorted) found
+  many = sym (length-map (rows g) as_row ∙ length_tab (row_at g) (count g)) ∙ cut_length c old (map as_row (rows g)) (page_once g slotted) found
 
   -- the rows left of the page's prefix are those left on the page
   rest_needs : needs (rows_of h (rows_left S s c) k (top k x)) ≡ needs rest
@@ -190,7 +188,7 @@ module _ (S : Shape) (sized : Sized S) (h : List ℕ → ℕ) (hash : Hash h) (s
   rest_needs =
       let w = sum k in
       let y : needs (map as_row (rows g)) ≡ needs (rows_of h rs k (top k x)) = needs_same (Holder.its_rows S h rs gs shows x (p - 2) k (rows g) holding begins) in
-      let z : needs (map as_row (rows g)) ≡ row_need c + needs rest = needs_same (cut_front c old (map as_row (rows g)) (page_once g sorted) found) in
+      let z : needs (map as_row (rows g)) ≡ 12 + length c + needs rest = needs_same (cut_front c old (map as_row (rows g)) (page_once g slotted) found) in
       omega arith
 
   bucket_page : Bucket h g
@@ -225,13 +223,13 @@ module _ (S : Shape) (sized : Sized S) (h : List ℕ → ℕ) (hash : Hash h) (s
 
     module _ (own : j ≡ k) (two : 2 ≤ count g) (q : List ℕ) (R : Removed g i q) where
       rows_left_lem : rows q ≡ without (λ r. r.code) c (rows g)
-      rows_left_lem = removed_rows g i q sorted L.slot R ∙ ap (λ y. without (λ r. r.code) y (rows g)) L.coded
+      rows_left_lem = removed_rows g i q slotted L.slot R ∙ ap (λ y. without (λ r. r.code) y (rows g)) L.coded
 
       fewer : count q ≡ length rest
       fewer = sym (length-map (rows q) as_row ∙ length_tab (row_at q) (count q)) ∙ ap length (ap (map as_row) rows_left_lem ∙ without_map (λ r. r.code) by_code as_row (λ r. refl) c (rows g))
 
       kept : BucketPage q
-      kept = record { rules = R.page; sorted = removed_sorted g i q sorted L.slot R; some = omega (arith, many, fewer) }
+      kept = record { rules = R.page; some = omega (arith, many, fewer) }
 
       -- the first code is one that was there
       was_there : (m : ℕ) × (m < count g) × (row_at q 0 ≡ row_at g m)
@@ -454,8 +452,8 @@ module _ (S : Shape) (sized : Sized S) (h : List ℕ → ℕ) (hash : Hash h) (s
         arith,
         fit_above (λ m. top m x) (top_step x) S.capacity (load h rs) (load_mono h rs) k j (bucket_shallowest S h rs x k its_bucket) less,
         sum j,
-        ap row_need L.coded,
-        record_long g i slotted L.slot,
+        ap length L.coded,
+        len_of_code g i slotted L.slot,
         slotted.long i L.slot,
       )
 

@@ -28,7 +28,7 @@ fn take_out(s: &mut [u8], z: Shape, p: usize, i: usize, key: &[u8], x: u32)
     let a = p * size;
     let e = a + size;
     let k = s[a + 1] as u32;
-    let j = climb(s, z, x, k, partition::row_need(key));
+    let j = climb(s, z, x, k, 12 + key.len());
     let d = words::get32(s, 16);
     if j < k {
         let rows = counts::rows_counted(s);

@@ -30,7 +30,7 @@ wide_is : (w : Width) (z : ℤ) → SFits w z → wide w z ≡ of_z w64 z
 wide_is w z f = ap (of_z w64) (to_z-of_z f)
 
 read_back : (w : Width) (z : ℤ) → T (leb (hbits w) 63) → SFits w z → to_z w64 (wide w z) ≡ z
-read_back w z t f = ap (to_z w64) (wide_is w z f) ∙ to_z-of_z (sfits_widen t f)
+read_back w z t f = ap (to_z w64) (wide_is w z f) ∙ to_z-of_z {w = w64} (sfits_widen t f)
 
 -- ---- a part times m
 

@@ -1,17 +1,15 @@
 -- The numbers of a laid-out sheet are its rows': each row's two stand in their places. Assumes nothing.
 use Prim.Native.Nat.{ℕ, zero, suc, ◌+◌, ◌*◌, ◌<◌, ◌≤◌}
-use mathlib.Core.Path.{◌≡◌, refl, sym, ap, subst, ◌∙◌}
-use mathlib.Core.Bool.{Bool, true, false, cond, ◌&&◌}
+use mathlib.Core.Path.{◌≡◌, refl, sym, ap, ◌∙◌}
 use mathlib.Core.List.{List, [], ◌∷◌, map}
 use native.Mathlib.Nat.{le_of_suc-le-suc, not-suc-le-zero}
 use native.Mathlib.Omega.{arith}
-use lib.Dec.{ltb, eqb}
 use lib.ListN.{length, get_or, set, length-set, take, drop, replicate, length-replicate, length-map}
 use Rattle.ground.specs.Lists.{part}
 use Rattle.ground.proofs.Parts.{part_is}
 use Rattle.report.specs.declared.SheetRow.{SheetRow}
 use Rattle.report.specs.Numbers.{outside, rank, raise_cents, laid, spread_from, ranks_of, raised_of}
-use Rattle.report.specs.Report.{place_in, limit, zero_row, sheet_row}
+use Rattle.report.specs.Report.{place_in, limit, sheet_row}
 use Rattle.report.proofs.Ranks.{eq_true, laid_in}
 
 pub set_same : (xs : List ℕ) (i x : ℕ) → i < length xs → get_or {A = ℕ} (set xs i x) i 0 ≡ x

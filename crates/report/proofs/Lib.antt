@@ -1,7 +1,5 @@
-pub mod Big
-pub mod Room
-pub mod Again
 pub mod Upto
+pub mod Room
 pub mod Ranks
 pub mod Halves
 pub mod Runs
@@ -21,6 +19,3 @@ pub mod Totals
 pub mod Refines
 pub mod Told
 pub mod Theorems
-pub mod ByRows
-pub mod Exactly
-pub mod Second

@@ -1,13 +1,13 @@
 -- A row's mark is the number of codes that name it, up to two. Assumes nothing.
-use Prim.Native.Nat.{ℕ, zero, suc, ◌+◌, ◌<◌, ◌≤◌}
+use Prim.Native.Nat.{ℕ, zero, suc, ◌+◌, ◌<◌}
 use mathlib.Core.Path.{◌≡◌, refl, sym, ap, subst, ◌∙◌}
 use mathlib.Core.Bool.{Bool, true, false, cond}
 use mathlib.Core.List.{List, [], ◌∷◌}
 use native.Mathlib.Omega.{arith}
-use lib.Dec.{T, ltb, eqb, eqb→eq, eqb_refl}
+use lib.Dec.{T, ltb, eqb, eqb→eq}
 use lib.ListN.{length, get_or, set}
 use Rattle.report.specs.Numbers.{index_of, mark_at, tallied}
-use Rattle.report.proofs.Ranks.{holds, fails, lt_yes, eq_true}
+use Rattle.report.proofs.Ranks.{holds, lt_yes, eq_true}
 use Rattle.report.proofs.Runs.{length_mark}
 use Rattle.report.proofs.Laid.{set_same, set_other}
 

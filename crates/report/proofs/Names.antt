@@ -1,8 +1,8 @@
 -- A code names the sheet row where its rank stands in the ranks. Assumes nothing.
-use Prim.Native.Nat.{ℕ, zero, suc, ◌+◌, ◌<◌, ◌≤◌}
+use Prim.Native.Nat.{ℕ, suc, ◌<◌}
 use mathlib.Core.Path.{◌≡◌, refl, sym, ap, subst, ◌∙◌}
 use mathlib.Core.Bool.{Bool, true, false, cond, ◌&&◌}
-use mathlib.Core.List.{List, [], ◌∷◌, map}
+use mathlib.Core.List.{List, [], ◌∷◌}
 use native.Mathlib.Nat.{le_of_suc-le-suc, not-suc-le-zero}
 use native.Mathlib.Omega.{arith}
 use lib.Dec.{eqb, eqb→eq}
@@ -17,7 +17,7 @@ use Rattle.report.specs.Report.{place_in, sheet_row, RowPlace, same, same_place,
 use Rattle.report.specs.Numbers.{rank, rank_on, index_of, RisingNumbers}
 use Rattle.report.proofs.Ranks.{holds, eq_true}
 use Rattle.report.proofs.Halves.{index_is}
-use Rattle.report.proofs.Orders.{Parts, parts, low_place, rank_one}
+use Rattle.report.proofs.Orders.{parts, low_place, rank_one}
 use Rattle.report.proofs.Sheets.{ranks, ranks_long, rank_at}
 
 pub alike : (b c : Bool) → (b ≡ true → c ≡ true) → (c ≡ true → b ≡ true) → b ≡ c
@@ -45,7 +45,7 @@ place_yes p q e =
     let v = and_yes (same p.slot q.slot) (same p.volume q.volume) w.1 in
     λ i. record { page = same_yes p.page q.page w.0 i; slot = same_yes p.slot q.slot v.0 i; volume = same_yes p.volume q.volume v.1 i }
 
-pub place_refl : (p : Place) → same_place p p ≡ true
+place_refl : (p : Place) → same_place p p ≡ true
 place_refl p = ap (λ (t : Bool). t && (same p.slot p.slot && same p.volume p.volume)) (same_refl p.page)
     ∙ ap (λ (t : Bool). t && same p.volume p.volume) (same_refl p.slot) ∙ same_refl p.volume
 

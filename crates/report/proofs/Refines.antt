@@ -1,13 +1,12 @@
 -- What holds of the report over a sheet's numbers holds of it over the sheet. Assumes nothing.
-use Prim.Native.Nat.{ℕ, zero, suc, ◌+◌, ◌*◌, ◌<◌, ◌≤◌}
+use Prim.Native.Nat.{ℕ, suc, ◌*◌, ◌<◌, ◌≤◌}
 use mathlib.Core.Path.{◌≡◌, refl, sym, ap, subst, ◌∙◌}
 use mathlib.Core.List.{List, [], ◌∷◌, map}
-use mathlib.Core.Logic.{◌⊎◌, inl, inr}
-use native.Mathlib.Nat.{le_of_suc-le-suc, not-suc-le-zero}
+use mathlib.Core.Logic.{inl, inr}
 use native.Mathlib.Omega.{arith}
-use lib.IntN.{ℤ, pos, ◌+ℤ◌, +ℤ_idl}
+use lib.IntN.{pos, ◌+ℤ◌, +ℤ_idl}
 use lib.ListN.{length, get_or, replicate, length-replicate, get_or-replicate, length-map}
-use Rattle.ground.specs.Ladder.{Ladder, rung, answer, Answers}
+use Rattle.ground.specs.Ladder.{rung, answer, Answers}
 use Rattle.page.specs.declared.Place.{Place}
 use Rattle.partition.specs.declared.Shape.{Shape}
 use Rattle.partition.specs.Partition.{Row}
@@ -22,7 +21,7 @@ use Rattle.report.proofs.Laid.{map_at, ranks_are, raised_are}
 use Rattle.report.proofs.Raises.{amount_in}
 use Rattle.report.proofs.Sheets.{ranks, raised, good_sound, sound_good}
 use Rattle.report.proofs.Names.{in_sheet, sheet_in}
-use Rattle.report.proofs.Marks.{AllFound, bumped, times, marks_are}
+use Rattle.report.proofs.Marks.{AllFound, bumped, marks_are}
 use Rattle.report.proofs.Found.{before, stopped, all_found, marks_long}
 use Rattle.report.proofs.Totals.{InPlace, lowered_one, total_is, times_is, mark_of, hidden_is, doubled_is, cents_is}
 

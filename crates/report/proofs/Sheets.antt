@@ -1,14 +1,14 @@
 -- The sheet's rules over its rows and over its numbers are the same. Assumes nothing.
 use Prim.Native.Nat.{ℕ, zero, suc, ◌+◌, ◌<◌, ◌≤◌}
-use mathlib.Core.Path.{◌≡◌, refl, sym, ap, subst, ◌∙◌}
-use mathlib.Core.List.{List, [], ◌∷◌, map}
-use mathlib.Core.Logic.{◌⊎◌, ⊎_elim}
+use mathlib.Core.Path.{◌≡◌, sym, subst}
+use mathlib.Core.List.{List, map}
+use mathlib.Core.Logic.{⊎_elim}
 use native.Mathlib.Nat.{not-suc-le-zero, eq-or-lt_of_le}
 use native.Mathlib.Omega.{arith}
 use lib.ListN.{length, get_or, length-map}
 use Rattle.report.specs.declared.SheetRow.{SheetRow}
 use Rattle.report.specs.Report.{place_in, limit, sheet_row, RowPlace, GoodSheet}
-use Rattle.report.specs.Numbers.{rank, raise_cents, RisingNumbers, AtMost, Sound}
+use Rattle.report.specs.Numbers.{rank, raise_cents, Sound}
 use Rattle.report.proofs.Laid.{map_at}
 use Rattle.report.proofs.Orders.{parts, low_place, precedes_rank, rank_precedes}
 use Rattle.report.proofs.Raises.{amount_in, amount_out}

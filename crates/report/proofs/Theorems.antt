@@ -3,7 +3,7 @@ use Prim.Native.Nat.{ℕ, suc, ◌+◌, ◌<◌}
 use mathlib.Core.Path.{◌≡◌, refl, sym, ap, subst, ◌∙◌}
 use mathlib.Core.Bool.{Bool, true, false, cond}
 use mathlib.Core.List.{List, [], ◌∷◌}
-use mathlib.Core.Logic.{◌⊎◌, inl, inr, ⊎_elim}
+use mathlib.Core.Logic.{inl, inr, ⊎_elim}
 use native.Mathlib.Omega.{arith}
 use lib.Dec.{eqb, eqb→eq}
 use lib.IntN.{ℤ, pos, ◌+ℤ◌, ◌*ℤ◌, +ℤ_assoc, +ℤ_comm, +ℤ_idl, +ℤ_idr, *ℤ_comm, *ℤ-zero, suc_ℤ-*ℤ}
@@ -36,7 +36,7 @@ use Rattle.report.proofs.Refines.{placed}
 
 -- ---- the table settles the answer
 
-pub missing_one : (xs : List SheetRow) (rs : List Row) (p q : Place) → FirstMissing xs rs p → FirstMissing xs rs q → p ≡ q
+missing_one : (xs : List SheetRow) (rs : List Row) (p q : Place) → FirstMissing xs rs p → FirstMissing xs rs q → p ≡ q
 missing_one xs rs p q a b = ⊎_elim (λ l. absurd (a.absent (b.before a.n p l a.listed))) (λ l. ⊎_elim (λ m. absurd (b.absent (a.before b.n q m b.listed))) (λ m. equal (omega (arith, l, m))) (side b.n a.n)) (side a.n b.n)
   where
     equal : a.n ≡ b.n → p ≡ q

@@ -1,19 +1,19 @@
 -- The sums over the numbers, lowered, are those over the rows and the listing. Assumes nothing.
 use Prim.Native.Nat.{ℕ, zero, suc, ◌+◌, ◌*◌, ◌<◌, ◌≤◌}
-use mathlib.Core.Path.{◌≡◌, refl, sym, ap, subst, ◌∙◌}
+use mathlib.Core.Path.{◌≡◌, refl, sym, ap, ◌∙◌}
 use mathlib.Core.Bool.{Bool, true, false, cond}
 use mathlib.Core.List.{List, [], ◌∷◌, map}
 use native.Mathlib.Nat.{le_of_suc-le-suc, not-suc-le-zero}
 use native.Mathlib.Omega.{arith}
-use lib.Dec.{ltb, leb, eqb}
+use lib.Dec.{leb, eqb}
 use lib.IntN.{ℤ, pos, ◌+ℤ◌, +ℤ_assoc, +ℤ_idl, +ℤ_idr, +ℤ-neg_ℤ_cancel, ◌-ℤ◌}
 use lib.ListN.{length, get_or}
 use Rattle.partition.specs.Partition.{Row}
 use Rattle.report.specs.declared.SheetRow.{SheetRow}
-use Rattle.report.specs.Report.{place_in, sheet_row, RowPlace, names, times_named, amount_of, total_of, hidden_of, hidden_cents, doubled_of}
+use Rattle.report.specs.Report.{place_in, sheet_row, RowPlace, times_named, amount_of, total_of, hidden_of, hidden_cents, doubled_of}
 use Rattle.report.specs.Numbers.{rank, raise_cents, rank_on, index_of, mark_at, tallied, RisingNumbers, unmarked, unmarked_sum, remarked, Lowered}
 use Rattle.report.proofs.Ranks.{lt_yes, le_yes, ne_false}
-use Rattle.report.proofs.Marks.{AllFound, bump, bumped, times}
+use Rattle.report.proofs.Marks.{AllFound, bumped, times}
 use Rattle.report.proofs.Names.{names_is, index_names}
 use Rattle.report.proofs.Raises.{raise_is, swap}
 use Rattle.report.proofs.Sheets.{ranks, raised}

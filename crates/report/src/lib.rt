@@ -1,4 +1,6 @@
-// The bid report: one call over a store and a sheet. `spread` and `report` take the run of sheet rows and are walked by hand; the rest works on numbers.
+// The bid report: one call over a store and a sheet. `spread` and `report` take the run of sheet rows and are thin; the rest works on numbers.
+#![tactic(auto)]
+
 ghost use Rattle.std.specs.Prelude.{◌≡◌, length};
 ghost use Rattle.ground.specs.Ladder.{Answers};
 ghost use Rattle.hash.specs.Fnv.{fnv};
@@ -24,7 +26,7 @@ pub const LIMIT: usize = 200000;
 
 // A row of the sheet: the parts of a row place, and an amount in cents.
 #[repr(C)]
-#[derive(Drop)]
+#[derive(Clone, Copy)]
 pub struct SheetRow {
     pub page: i32,
     pub slot: i16,
@@ -33,7 +35,7 @@ pub struct SheetRow {
 }
 
 // The total over the listing, the sheet rows that no code names with their sum, and those that more than one names.
-#[derive(Drop)]
+#[derive(Clone, Copy)]
 pub struct Sums {
     pub total: i64,
     pub hidden: usize,
@@ -42,7 +44,7 @@ pub struct Sums {
 }
 
 // The report's answer: a refusal that other calls have too, the report's own two, or the sums.
-#[derive(Drop)]
+#[derive(Clone, Copy)]
 pub enum Outcome {
     Refused(Refusal),
     // the sheet breaks a rule
@@ -53,14 +55,14 @@ pub enum Outcome {
 }
 
 // The place of a listed row with the cursor behind it, or no row is left.
-#[derive(Drop)]
+#[derive(Clone, Copy)]
 pub enum Next {
     Placed(Place, Cursor),
     End,
 }
 
 // What a tally counts: the codes with the sum of their raised amounts, the sheet rows that they name with the sum of theirs, and those that more than one names.
-#[derive(Drop)]
+#[derive(Clone, Copy)]
 pub struct Counted {
     pub codes: usize,
     pub sum: u64,
@@ -70,14 +72,14 @@ pub struct Counted {
 }
 
 // How a tally ends: at a place that is not in the sheet, or whole.
-#[derive(Drop)]
+#[derive(Clone, Copy)]
 pub enum Ending {
     Missing(Place),
     Whole(Counted),
 }
 
 // A row of the sheet by the codes that name it: none, with its place and cents; one; more than one.
-#[derive(Drop)]
+#[derive(Clone, Copy)]
 pub enum NamedRow {
     Hidden(Place, i64),
     Once,

@@ -1,4 +1,6 @@
 // A sheet's file laid out as numbers, byte by byte and line by line.
+#![tactic(auto)]
+
 mod laying;
 mod reading;
 

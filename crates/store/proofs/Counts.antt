@@ -2,4 +2,3 @@
 pub mod Ones
 pub mod Words
 pub mod Counted
-pub mod Bits

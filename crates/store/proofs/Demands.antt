@@ -5,7 +5,6 @@ pub mod Kept
 pub mod Unchecked
 pub mod Order
 pub mod Same
-pub mod Bytes
 pub mod Plan
 pub mod KeptPages
 pub mod Afresh

@@ -5,6 +5,5 @@ pub mod Showing
 pub mod Put
 pub mod Remove
 pub mod Result
-pub mod Packing
 pub mod Demands
 pub mod Index

@@ -13,7 +13,7 @@ use Rattle.partition.specs.Sizes.{number_of_size}
 use Rattle.store.specs.Pages.{S1024, size, pages, page, dir_depth, entry_at, contents, rows_held, deepest_in}
 use Rattle.store.specs.Counts.{Counts}
 
--- a multiple of the page size, 3 pages up to the entry count plus 2 (3 to 258 at 1,024 bytes)
+-- a multiple of the page size, 3 to 258 pages
 pub record GoodLength (S : Shape) (s : List ℕ) : Type 0 where
   pub whole : length s % size S ≡ 0
   pub least : 3 ≤ pages S s

@@ -1,12 +1,10 @@
 -- The customer's demands, as statements on the tables that every call promises. Assumes nothing.
-use Rattle.std.specs.Prelude.{◌≡◌, refl, Bool, true, false, List, [], ◌∷◌, map, ◌↔◌, ◌⊎◌, ℕ, zero, suc, ◌+◌, ◌*◌, ◌^◌, ◌≤◌, ◌<◌, eqb, length}
+use Rattle.std.specs.Prelude.{◌≡◌, refl, Bool, true, false, List, [], ◌∷◌, map, ◌↔◌, ◌⊎◌, ℕ, zero, suc, ◌+◌, ◌*◌, ◌^◌, ◌≤◌, ◌<◌, length}
 use Rattle.std.proofs.Common.{arith}
 use Rattle.std.proofs.Math.Option.{Option, some, none}
 use Rattle.std.proofs.Math.ListN.{get_elem?}
 use Rattle.ground.specs.Lists.{byte, tab}
-use Rattle.words.specs.Le.{le32}
-use Rattle.page.specs.Page.{Record, BucketPage, depth, rows, code, count as page_rows}
-use Rattle.partition.specs.Bits.{top}
+use Rattle.page.specs.Page.{Record, depth, rows}
 use Rattle.partition.specs.declared.Shape.{Shape}
 pub use Rattle.partition.specs.Sizes.{Sized}
 use Rattle.partition.specs.Sizes.{shape_at, shape_of}
@@ -15,14 +13,13 @@ use Rattle.page.specs.declared.Place.{Place}
 use Rattle.ground.specs.Ladder.{Answers}
 pub use Rattle.words.specs.Codes.{GoodCode}
 use Rattle.words.specs.Codes.{order}
-use Rattle.words.specs.Folds.{fold, Folded}
+use Rattle.words.specs.Folds.{fold}
 use Rattle.partition.specs.Listing.{by, without, in_order, listing, place_of, Once}
 use Rattle.store.specs.Pages.{S1024, size, pages, page, Page, free, bucket, read, as_row, rows_held, dir_depth, entry_at}
 use Rattle.store.specs.Accepted.{Zero, Bucket, Page0From, Page0, Page0Before, Page1, Stands, Parted, Deepest, Accepted}
 use Rattle.store.specs.Counts.{Counts}
 use Rattle.store.specs.Moves.{pick}
 use Rattle.page.specs.Places.{place_from, stored, Negative, InRange}
-use Rattle.store.specs.Packing.{store_in, pack_table, resize_table}
 use Rattle.store.specs.Tables.{Out, refused, refused_at, formatted, accepted, new, replaced, found, counted, row, Refusal6, Refusal7, format_table, check_table, count_table, lookup_table, put_table, put_before, remove_table, row_table, inspect_table}
 
 -- a function from codes to 32 bits
@@ -31,7 +28,7 @@ Hash h = (c : List ℕ) → h c < 2 ^ 32
 
 -- a call with what it is given: a code, a place, a mode, n and an output; inspection takes a page of its own, any bytes
 pub data Call : Type 0 where
-  format check count pack : Call
+  format check count : Call
   lookup remove : List ℕ → Call
   put : List ℕ → Place → ℕ → Call
   row_at : ℕ → List ℕ → Call
@@ -43,7 +40,6 @@ module _ (S : Shape) (h : List ℕ → ℕ) where
   Made format s o t = Answers (format_table S s) (o, t)
   Made check s o t = Answers (check_table S h s) o × (t ≡ s)
   Made count s o t = Answers (count_table S h s) o × (t ≡ s)
-  Made pack s o t = Answers (pack_table S h s) (o, t)
   Made (lookup c) s o t = Answers (lookup_table S h s c) o × (t ≡ s)
   Made (remove c) s o t = Answers (remove_table S h s c) (o, t)
   Made (put c p m) s o t = Answers (put_table S h s c p m) (o, t)
@@ -86,12 +82,9 @@ pub data StopsAt (S : Shape) (h : List ℕ → ℕ) (s : List ℕ) : ℕ → Typ
   depth_0 : Page0 S s → Page1 S s → Below (pages S s) (Stands S h s) → Below (pages S s) (Parted S h s) → (Deepest S s → ⊥) → StopsAt S h s 0
   counts : Page0 S s → Page1 S s → Below (pages S s) (Stands S h s) → Below (pages S s) (Parted S h s) → Deepest S s → (Counts S s → ⊥) → StopsAt S h s 0
 
--- Inspection carries page number 0, for a page that is not free, and that breaks a rule of a bucket page, or has a code with a capital,
--- or hashes that do not share the first local-depth bits, or a depth above the deepest.
+-- inspection carries page number 0, for a page that is neither free nor a bucket of a depth that there is
 abbrev pub NoPage : Shape → (List ℕ → ℕ) → List ℕ → ℕ → Type 0
-NoPage S h g p = (p ≡ 0) × (Zero g → ⊥)
-    × (BucketPage g → ((i : ℕ) → i < page_rows g → Folded (code g i)) → ((i j : ℕ) → i < page_rows g → j < page_rows g → top (depth g) (h (code g i)) ≡ top (depth g) (h (code g j)))
-    → depth g ≤ S.deepest → ⊥)
+NoPage S h g p = (p ≡ 0) × (Zero g → ⊥) × (Bucket h g → depth g ≤ S.deepest → ⊥)
 
 -- what can be wrong with what a call is given, in the order of the refusals: 1, 3, 4, 14, 8 and, with its page, 2
 pub record Faults : Type 1 where
@@ -110,7 +103,6 @@ abbrev pub faults : Shape → (List ℕ → ℕ) → Call → List ℕ → Fault
 faults S h format s = in_turn (WholePages S s → ⊥) ⊥ ⊥ ⊥ ⊥ (λ p. ⊥)
 faults S h check s = in_turn (WholePages S s → ⊥) ⊥ ⊥ ⊥ ⊥ (StopsAt S h s)
 faults S h count s = in_turn (WholePages S s → ⊥) ⊥ ⊥ ⊥ ⊥ (StopsAt S h s)
-faults S h pack s = in_turn (WholePages S s → ⊥) ⊥ ⊥ ⊥ ⊥ (StopsAt S h s)
 faults S h (lookup c) s = in_turn (WholePages S s → ⊥) (GoodCode c → ⊥) ⊥ ⊥ ⊥ (StopsAt S h s)
 faults S h (remove c) s = in_turn (WholePages S s → ⊥) (GoodCode c → ⊥) ⊥ ⊥ ⊥ (StopsAt S h s)
 faults S h (put c p m) s = in_turn (WholePages S s → ⊥) (GoodCode c → ⊥) (Negative p) (Mode m → ⊥) ⊥ (StopsAt S h s)
@@ -149,7 +141,6 @@ abbrev pub Given : Call → Type 0
 Given format = Unit {0}
 Given check = Unit {0}
 Given count = Unit {0}
-Given pack = Unit {0}
 Given (lookup c) = Unit {0}
 Given (remove c) = Unit {0}
 Given (put c p m) = ((k : ℕ) → byte c k < 256) × InRange p
@@ -270,7 +261,6 @@ abbrev pub rows_after : Call → List Row → List Row
 rows_after format rs = []
 rows_after check rs = rs
 rows_after count rs = rs
-rows_after pack rs = rs
 rows_after (lookup c) rs = rs
 rows_after (remove c) rs = without (λ q. q.code) (fold c) rs
 rows_after (put c p m) rs = record { code = fold c; place = stored p } ∷ without (λ q. q.code) (fold c) rs
@@ -281,11 +271,10 @@ rows_after (inspect g n out) rs = rs
 abbrev pub surviving : Call → Out → List Row → List Row
 surviving c o rs = pick (ok o) (rows_after c rs) rs
 
--- a history with its surviving rows and its store; another length, in a buffer that begins with the store, keeps the rows
+-- a history with its surviving rows and its store
 pub data History (S : Shape) (h : List ℕ → ℕ) : List Row → List ℕ → Type 0 where
   begin : (s : List ℕ) {t : List ℕ} → Made S h format s formatted t → History S h [] t
   next : {rs : List Row} {s t : List ℕ} (c : Call) (o : Out) → History S h rs s → Made S h c s o t → History S h (surviving c o rs) t
-  resize : {rs : List Row} (b : List ℕ) (m n : ℕ) (c : List ℕ) → History S h rs (store_in S b m) → Answers (resize_table S h b m n) (accepted, c) → History S h rs (store_in S c n)
 
 -- a bucket as an entry shows it: its depth, and its rows in code order
 abbrev pub Seen : Type 0
@@ -311,11 +300,6 @@ seen_afresh h rs (some p) = some (p.bits, in_order (rows_of h rs p.bits p.value)
 abbrev pub afresh : Shape → (List ℕ → ℕ) → List Row → List Seen
 afresh S h rs = let d : ℕ = depth_of (buckets S h rs) in tab (λ i. seen_afresh h rs (entry (buckets S h rs) d i)) (2 ^ d)
 
--- the prefixes of k bits
-abbrev pub of_bits : ℕ → List Prefix → List Prefix
-of_bits k [] = []
-of_bits k (p ∷ ps) = pick (eqb p.bits k) (p ∷ of_bits k ps) (of_bits k ps)
-
 -- s is what is worked out afresh from rs
 pub record Afresh (S : Shape) (h : List ℕ → ℕ) (rs : List Row) (s : List ℕ) : Type 0 where
   pub keeps : Accepted S h s
@@ -324,9 +308,6 @@ pub record Afresh (S : Shape) (h : List ℕ → ℕ) (rs : List Row) (s : List �
   pub depth : dir_depth s ≡ depth_of (buckets S h rs)
   pub buckets_and_entries : directory S s ≡ afresh S h rs
   pub listed : listing S h (rows_held S s) ≡ listing S h rs
-  -- page 0 has at 24 the number of rows, and from 28 how many of the buckets have 0 bits, 1 bit, up to 12
-  pub rows_counted : le32 s 24 ≡ length rs
-  pub buckets_counted : (k : ℕ) → k ≤ 12 → le32 s (28 + 4 * k) ≡ length (of_bits k (buckets S h rs))
 
 module _ (S : Shape) (h : List ℕ → ℕ) where
   -- after any history the store is what is worked out afresh from the rows that survive
@@ -338,9 +319,9 @@ module _ (S : Shape) (h : List ℕ → ℕ) where
   SameRefusals = (rs qs : List Row) (s t : List ℕ) → History S h rs s → History S h qs t → Reordered rs qs → length s ≡ length t
       → (c : List ℕ) (p : Place) (m : ℕ) (o o' : Out) (s' t' : List ℕ) → Made S h (put c p m) s o s' → Made S h (put c p m) t o' t' → o ≡ o'
 
-  -- in each call but format and pack a bucket whose rows and depth come out the same keeps its page and all its bytes
+  -- in each call but format a bucket whose rows and depth come out the same keeps its page and all its bytes
   abbrev pub KeptPages : Type 0
-  KeptPages = (c : Call) (s : List ℕ) (o : Out) (t : List ℕ) → (c ≡ format → ⊥) → (c ≡ pack → ⊥) → Accepted S h s → Made S h c s o t
+  KeptPages = (c : Call) (s : List ℕ) (o : Out) (t : List ℕ) → (c ≡ format → ⊥) → Accepted S h s → Made S h c s o t
       → (p q k : ℕ) (rs qs : List Record) → 2 ≤ p → p < pages S s → 2 ≤ q → q < pages S t
       → read (page S s p) ≡ bucket k rs → read (page S t q) ≡ bucket k qs → map as_row rs ≡ map as_row qs
       → (p ≡ q) × (page S s p ≡ page S t q)

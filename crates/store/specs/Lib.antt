@@ -3,10 +3,6 @@ pub mod Counts
 pub mod Accepted
 pub mod Moves
 pub mod Tables
-pub mod Packing
 pub mod Demands
-pub mod Lengths
 pub mod Choice
 pub mod Spellings
-pub mod GivenBack
-pub mod Archives

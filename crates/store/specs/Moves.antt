@@ -4,7 +4,7 @@ use Rattle.std.proofs.Math.Option.{Option, some, none}
 use Rattle.page.specs.Page.{Record}
 use Rattle.partition.specs.Bits.{top}
 use Rattle.partition.specs.declared.Shape.{Shape}
-use Rattle.partition.specs.Partition.{Row, record_length, Prefix, need, needs, rows_of, buckets, or_else}
+use Rattle.partition.specs.Partition.{Row, Prefix, need, needs, rows_of, buckets, or_else}
 use Rattle.words.specs.Codes.{order}
 use Rattle.partition.specs.Listing.{by, insert, without, in_order}
 use Rattle.store.specs.Pages.{size, Page, free, bucket, as_row, depth_on, rows_in}
@@ -50,7 +50,7 @@ record_at o r = record { start = o; place = r.place; code = r.code }
 -- packed: records from o in slot order
 unfoldable pub pack_from : ℕ → List Row → List Record
 pack_from o [] = []
-pack_from o (r ∷ rs) = record_at o r ∷ pack_from (o + record_length r.code) rs
+pack_from o (r ∷ rs) = record_at o r ∷ pack_from (o + (8 + length r.code)) rs
 
 -- a bucket written packed: its rows in code order, records from 8
 unfoldable pub packed : (List ℕ → ℕ) → List Row → Prefix → Page
@@ -60,7 +60,7 @@ packed h rs p = bucket p.bits (pack_from 8 (in_order (rows_of h rs p.bits p.valu
 -- the frontier: the largest record end
 unfoldable pub frontier_of : List Record → ℕ
 frontier_of [] = 8
-frontier_of (r ∷ rs) = max (r.start + record_length r.code) (frontier_of rs)
+frontier_of (r ∷ rs) = max (r.start + (8 + length r.code)) (frontier_of rs)
 
 -- the record goes at the frontier, its slot in code order
 unfoldable pub at_frontier : List Record → Row → List Record

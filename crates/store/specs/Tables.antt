@@ -1,5 +1,5 @@
 -- The calls' tables: for every input the answer, and each byte of store and output afterwards. Assumes nothing.
-use Rattle.std.specs.Prelude.{◌≡◌, List, ◌∷◌, ◌++◌, ◌⊎◌, ℕ, suc, ◌+◌, ◌-◌, ◌*◌, ◌≤◌, ◌<◌, length, drop, replicate}
+use Rattle.std.specs.Prelude.{◌≡◌, List, ◌∷◌, ◌++◌, ◌⊎◌, ℕ, ◌-◌, ◌*◌, ◌≤◌, ◌<◌, length, drop, replicate}
 use Rattle.std.proofs.Math.Option.{some, none}
 use Rattle.std.proofs.Math.ListN.{get_elem?}
 use Rattle.ground.specs.Lists.{byte}
@@ -9,11 +9,11 @@ use Rattle.page.specs.Page.{depth}
 use Rattle.partition.specs.Bits.{top}
 use Rattle.partition.specs.declared.Shape.{Shape}
 use Rattle.partition.specs.Partition.{Row, needs, rows_of, buckets}
-use Rattle.partition.specs.Sizes.{number_of_size, shape_given}
+use Rattle.partition.specs.Sizes.{number_of_size, shape_for}
 use Rattle.page.specs.declared.Place.{Place}
 use Rattle.page.specs.Places.{place_from, stored, Negative}
 use Rattle.store.specs.declared.Refusal.{Refusal}
-use Rattle.store.specs.declared.Refusal.TheVariants.{BadLength, BadPage, BadCode, BadPlace, NoCode, PrefixFull, PagesFull, ShortOutput, NoRow, BadRuns, KnownCode, BadMode, BadLine, IndexFull, BadIndex}
+use Rattle.store.specs.declared.Refusal.TheVariants.{BadLength, BadPage, BadCode, BadPlace, NoCode, PrefixFull, PagesFull, ShortOutput, NoRow, BadRuns, KnownCode, BadMode}
 use Rattle.store.specs.declared.Answer.{Answer}
 use Rattle.store.specs.declared.Answer.TheVariants.{Refused, Formatted, Accepted as Passed, New, Replaced, Found, Rows, RowOf}
 use Rattle.ground.specs.Ladder.{Ladder, rung, given, ends, answer, refuse}
@@ -45,9 +45,6 @@ refusal NoRow = refused 9
 refusal BadRuns = refused 12
 refusal KnownCode = refused 13
 refusal BadMode = refused 14
-refusal BadLine = refused 15
-refusal IndexFull = refused 16
-refusal BadIndex = refused 17
 
 -- n is a refusal's number and p the page number that it carries: 2 carries one, any other none
 abbrev pub Numbered : ℕ → ℕ → Out → Type 0
@@ -64,7 +61,7 @@ meaning (Found p) = found p
 meaning (Rows n) = counted n
 meaning (RowOf n p) = row n p
 
--- 1: store length not a multiple of the page size, or under 3 pages, or over the entry count plus 2 (258 at 1,024 bytes)
+-- 1: store length not a multiple of 1,024, or under 3 or over 258 pages
 abbrev pub Refusal1 : Shape → List ℕ → Type 0
 Refusal1 S s = GoodLength S s → ⊥
 
@@ -88,7 +85,7 @@ Refusal13 rs c m = (m ≡ 1) × ((old : List ℕ) × (place_of rs c ≡ some old
 abbrev pub Refusal5 : List Row → List ℕ → ℕ → Type 0
 Refusal5 rs c m = (m ≡ 2) × (place_of rs c ≡ none)
 
--- 6: the rows that share its first deepest-depth bits, itself included, need more than the capacity (8 bits and 1,016 at 1,024 bytes)
+-- 6: rows sharing its first 8 bits with it included need over 1,016
 abbrev pub Refusal6 : Shape → (List ℕ → ℕ) → List Row → Row → Type 0
 Refusal6 S h rs r = S.capacity < needs (rows_of h (r ∷ rs) S.deepest (top S.deepest (h r.code)))
 
@@ -126,7 +123,7 @@ PageSize n = (n ≡ 1024) ⊎ ((n ≡ 4096) ⊎ (n ≡ 16384))
 
 -- Format goes by the size it is given, 1 for another.
 unfoldable pub format_sized : ℕ → List ℕ → Ladder (Out × List ℕ)
-format_sized n s = refuse (PageSize n → ⊥) (refused 1, s) (format_table (shape_given n) s)
+format_sized n s = refuse (PageSize n → ⊥) (refused 1, s) (format_table (shape_for n) s)
 
 -- answer; the store is lent for reading
 unfoldable pub check_table : Shape → (List ℕ → ℕ) → List ℕ → Ladder Out
@@ -158,35 +155,20 @@ lookup_table S h s c =
 abbrev pub writes : Shape → (List ℕ → ℕ) → List ℕ → Out → List Page → Ladder (Out × List ℕ)
 writes S h s o gs = ends (λ r. (r.0 ≡ o) × Becomes S h s gs r.1)
 
--- put of the row r on an accepted store up to where a new row goes in: l says what then happens
-abbrev pub accepted_up_to : Shape → (List ℕ → ℕ) → List ℕ → Row → Ladder (Out × List ℕ) → Ladder (Out × List ℕ)
-accepted_up_to S h s r l =
+-- put of the row r on an accepted store, whether the code is new or known
+abbrev pub put_accepted : Shape → (List ℕ → ℕ) → List ℕ → Row → Ladder (Out × List ℕ)
+put_accepted S h s r =
     rung (λ old. place_of (rows_held S s) r.code ≡ some old) (λ old. writes S h s (replaced (place_from old)) (overwritten (contents S s) r))
     (refuse (Refusal6 S h (rows_held S s) r) (refused 6, s)
     (refuse (Refusal7 S h s (rows_held S s) r) (refused 7, s)
-    l))
+    (writes S h s new (put_new S h (contents S s) r))))
 
--- put of the row r on an accepted store, whether the code is new or known
-abbrev pub put_accepted : Shape → (List ℕ → ℕ) → List ℕ → Row → Ladder (Out × List ℕ)
-put_accepted S h s r = accepted_up_to S h s r (writes S h s new (put_new S h (contents S s) r))
-
--- the same by the mode m: 13 and 5 stand before 6
-abbrev pub put_up_to : Shape → (List ℕ → ℕ) → List ℕ → ℕ → Row → Ladder (Out × List ℕ) → Ladder (Out × List ℕ)
-put_up_to S h s m r l =
+-- put on an accepted store by the mode m: 13 and 5 stand before 6
+abbrev pub put_by_mode : Shape → (List ℕ → ℕ) → List ℕ → ℕ → Row → Ladder (Out × List ℕ)
+put_by_mode S h s m r =
     refuse (Refusal13 (rows_held S s) r.code m) (refused 13, s)
     (refuse (Refusal5 (rows_held S s) r.code m) (refused 5, s)
-    (accepted_up_to S h s r l))
-
--- put on an accepted store by the mode m
-abbrev pub put_by_mode : Shape → (List ℕ → ℕ) → List ℕ → ℕ → Row → Ladder (Out × List ℕ)
-put_by_mode S h s m r = put_up_to S h s m r (writes S h s new (put_new S h (contents S s) r))
-
--- the same where there is room for `most` rows. 16: there is none for a new one
-abbrev pub put_within : Shape → (List ℕ → ℕ) → List ℕ → ℕ → ℕ → Row → Ladder (Out × List ℕ)
-put_within S h s most m r =
-    put_up_to S h s m r
-    (refuse (most < suc (length (rows_held S s))) (refused 16, s)
-    (writes S h s new (put_new S h (contents S s) r)))
+    (put_accepted S h s r))
 
 unfoldable pub put_table : Shape → (List ℕ → ℕ) → List ℕ → List ℕ → Place → ℕ → Ladder (Out × List ℕ)
 put_table S h s c p m =
@@ -235,7 +217,7 @@ row_table S h s n out =
     (checked S h s (λ o. (o, out))
     (row_of (listing S h (rows_held S s)) n out)))
 
--- a free page, or the bucket page's rules only, shared hash bits included, local depth 0 to the deepest (8 at 1,024 bytes)
+-- a free page, or the bucket page's rules only, shared hash bits included, local depth 0 to 8
 abbrev pub PageKeeps : Shape → (List ℕ → ℕ) → List ℕ → Type 0
 PageKeeps S h g = Zero g ⊎ (Bucket h g × (depth g ≤ S.deepest))
 

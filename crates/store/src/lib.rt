@@ -1,4 +1,6 @@
 // The answers of the calls, the door for a given code, and the largest depth of a store's pages.
+#![tactic(auto)]
+
 ghost use Rattle.std.specs.Prelude.{◌≡◌, ◌+◌, ◌*◌, ◌≤◌, ◌<◌, length};
 ghost use Rattle.ground.specs.Says.{Says};
 ghost use Rattle.words.specs.Codes.{GoodCode};
@@ -9,7 +11,7 @@ use page::Place;
 use partition::Shape;
 
 // Why a call is refused.
-#[derive(Drop)]
+#[derive(Clone, Copy)]
 pub enum Refusal {
     // the store's length, or the page's
     BadLength,
@@ -21,7 +23,7 @@ pub enum Refusal {
     BadPlace,
     // the code is not there
     NoCode,
-    // the rows that share its first bits, as many as the deepest depth, need more than the capacity
+    // rows sharing its first 8 bits need too much
     PrefixFull,
     // more buckets than pages less 2
     PagesFull,
@@ -35,22 +37,16 @@ pub enum Refusal {
     KnownCode,
     // no mode of a put
     BadMode,
-    // a line of a load has not the form asked, or the state of a load is none
-    BadLine,
-    // the rows need more index pages than lent
-    IndexFull,
-    // the index is not the one of the store
-    BadIndex,
 }
 
 // A refusal in numbers: its own, and the page number that it carries, 0 for none.
-#[derive(Drop)]
+#[derive(Clone, Copy)]
 pub struct Numbers {
     pub number: u32,
     pub page: usize,
 }
 
-#[derive(Drop)]
+#[derive(Clone, Copy)]
 pub enum Answer {
     Refused(Refusal),
     Formatted,
@@ -128,18 +124,6 @@ pub fn numbers_of(r: Refusal) -> Numbers
         },
         Refusal::BadMode => Numbers {
             number: 14,
-            page: 0,
-        },
-        Refusal::BadLine => Numbers {
-            number: 15,
-            page: 0,
-        },
-        Refusal::IndexFull => Numbers {
-            number: 16,
-            page: 0,
-        },
-        Refusal::BadIndex => Numbers {
-            number: 17,
             page: 0,
         },
     }

@@ -1,5 +1,5 @@
 -- The counts of a store whose pages all stand, against those in page 0. Assumes nothing.
-use mathlib.Core.Path.{◌≡◌, sym, ap, ◌∙◌}
+use mathlib.Core.Path.{sym, ap, ◌∙◌}
 use mathlib.Core.List.{List}
 use Prim.Native.Nat.{ℕ, ◌*◌, ◌≤◌, ◌<◌}
 use native.Mathlib.Omega.{arith}
@@ -8,7 +8,7 @@ use lib.ListN.{length}
 use Rattle.hash.specs.Fnv.{fnv}
 use Rattle.partition.specs.declared.Shape.{Shape}
 use Rattle.partition.proofs.Sizes.{twelve}
-use Rattle.store.specs.Pages.{size, page, read, depth_on, contents}
+use Rattle.store.specs.Pages.{size, page, read, depth_on}
 use Rattle.store.specs.Accepted.{Stands, unused, used}
 use Rattle.store.specs.Counts.{Counts}
 use Rattle.store.proofs.Accepted.Unique.{read_zero, read_bucket}

@@ -11,7 +11,6 @@ use Rattle.partition.specs.declared.Shape.{Shape}
 use Rattle.partition.specs.Partition.{S1024}
 use Rattle.partition.specs.Sizes.{size, Sized, S4096, S16384, either, shape_for, shape_of}
 use Rattle.partition.proofs.Sizes.{sized_for, sized_of}
-use Rattle.store.specs.Accepted.{GoodLength}
 use Rattle.store.proofs.Paging.PageTies.{zeros}
 use Rattle.store_check.specs.Begun.{Judgeable, Tables, Checkable}
 

@@ -82,11 +82,12 @@ pub fn first_unsound(
             break 'pages p;
         }
         let k = pg[1];
+        let m = page_check::share_limit(k);
         let first = page_check::hash_slot(pg, 0);
         let count = words::get16(pg, 2);
-        let mut i = page_check::near_where_long(pg, first, k);
-        while i < count {
-            if !page_check::shares(first, page_check::hash_in_place(pg, i), k) {
+        let mut i = page_check::near_where_long(pg, first, m);
+        'slots: while i < count {
+            if !page_check::differ_below(first, page_check::hash_in_place(pg, i), m) {
                 break 'pages p;
             }
             i += 1;

@@ -1,4 +1,6 @@
 // What the command tells on standard output: answers, the rows of the listing, the rows of a page.
+#![tactic(auto)]
+
 mod rows;
 pub mod say;
 mod slots;
@@ -7,14 +9,14 @@ pub use rows::list_rows;
 pub use slots::page_rows;
 
 // So many rows were told, or one could not be written.
-#[derive(Drop)]
+#[derive(Clone, Copy)]
 pub enum ToldRows {
     All(usize),
     Stopped,
 }
 
 // A buffer of lines: the slot behind the rows that it has, and its length.
-#[derive(Drop)]
+#[derive(Clone, Copy)]
 pub struct Lined {
     pub slot: usize,
     pub len: usize,

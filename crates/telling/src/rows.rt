@@ -44,14 +44,29 @@ fn bucket_lines(s: &[u8], z: Shape, p: usize, i: usize, out: &mut [u8]) -> Lined
 }
 
 // k rows from place n of the listing on: their lines are written, and nothing else. Whether they could be.
-fn write_rows(s: &[u8], z: Shape, n: usize, k: usize, lines: &[u8]) -> bool
+fn write_rows<R: Print + Eprint>(
+    rt: &R,
+    s: &[u8],
+    z: Shape,
+    n: usize,
+    k: usize,
+    lines: &[u8],
+) -> bool
     requires { LinesFrom z s.now n k lines.now }
 {
-    say::text(lines)
+    say::text(rt, lines)
 }
 
 // The rows from place n of the listing on, which stand from slot i of the page p on: as many as the buffer has room for, in one write. The slot behind them; 0 where they could not be written.
-fn list_run(s: &[u8], z: Shape, n: usize, p: usize, i: usize, lines: &mut [u8]) -> usize
+fn list_run<R: Print + Eprint>(
+    rt: &R,
+    s: &[u8],
+    z: Shape,
+    n: usize,
+    p: usize,
+    i: usize,
+    lines: &mut [u8],
+) -> usize
     requires { RunFrom z s.now n p i lines.old }
     ensures { RunTo (page z s.now p) i lines.old lines.new result }
 {
@@ -59,7 +74,7 @@ fn list_run(s: &[u8], z: Shape, n: usize, p: usize, i: usize, lines: &mut [u8]) 
     let to = f.slot;
     let len = f.len;
     let k = to - i;
-    if !write_rows(s, z, n, k, &lines[0..len]) {
+    if !write_rows(rt, s, z, n, k, &lines[0..len]) {
         return 0;
     }
     to
@@ -74,7 +89,13 @@ fn further(c: Cursor, slot: usize) -> Cursor
 }
 
 // Every row of an accepted store in one walk, and how many they are. The rows of a page are written at once.
-pub fn list_rows(s: &[u8], z: Shape, n: usize, lines: &mut [u8]) -> ToldRows
+pub fn list_rows<R: Print + Eprint>(
+    rt: &R,
+    s: &[u8],
+    z: Shape,
+    n: usize,
+    lines: &mut [u8],
+) -> ToldRows
     requires { Listable z s.now n × (4096 ≤ length lines.old) }
     ensures { AllTold (length (listing z fnv (rows_held z s.now))) result }
 {
@@ -83,7 +104,7 @@ pub fn list_rows(s: &[u8], z: Shape, n: usize, lines: &mut [u8]) -> ToldRows
     while i < n {
         match query::next_row(s, z, c) {
             Step::Handed(p, slot, next) => {
-                let to = list_run(s, z, i, p, slot, lines);
+                let to = list_run(rt, s, z, i, p, slot, lines);
                 if to == 0 {
                     return ToldRows::Stopped;
                 }

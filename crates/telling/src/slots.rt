@@ -8,33 +8,33 @@ use crate::ToldRows;
 use store::Answer;
 
 // The row in slot i of a page on a line; whether it could be written.
-fn tell_slot(page: &[u8], i: usize, a: Answer, code: &[u8]) -> bool
+fn tell_slot<R: Print + Eprint>(rt: &R, page: &[u8], i: usize, a: Answer, code: &[u8]) -> bool
     requires { SlotGiven page.now i (meaning a) code.now }
 {
-    say::answer(a, code, 0)
+    say::answer(rt, a, code, 0)
 }
 
 // Of n rows the one after the first i, and how many are told then: no more where it could not be written.
-fn page_row(page: &[u8], n: usize, i: usize) -> usize
+fn page_row<R: Print + Eprint>(rt: &R, page: &[u8], n: usize, i: usize) -> usize
     requires { Shown page.now n × (i < n) }
     ensures { (i ≤ result) × (result ≤ i + 1) }
 {
     let mut code = [0u8; 64];
     let a = page_reader::inspect(page, i, &mut code);
-    if tell_slot(page, i, a, &code) {
+    if tell_slot(rt, page, i, a, &code) {
         return i + 1;
     }
     i
 }
 
 // The n rows of a page, slot by slot, and their number.
-pub fn page_rows(page: &[u8], n: usize) -> ToldRows
+pub fn page_rows<R: Print + Eprint>(rt: &R, page: &[u8], n: usize) -> ToldRows
     requires { Shown page.now n }
     ensures { AllTold n result }
 {
     let mut i = 0;
     while i < n {
-        let next = page_row(page, n, i);
+        let next = page_row(rt, page, n, i);
         if next == i {
             return ToldRows::Stopped;
         }

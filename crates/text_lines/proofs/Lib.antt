@@ -2,4 +2,3 @@ pub mod Ending
 pub mod Words
 pub mod Marks
 pub mod Bytewise
-pub mod Inputs

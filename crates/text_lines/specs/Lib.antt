@@ -1,4 +1,3 @@
 pub mod Ends
 pub mod LineText
 pub mod Reading
-pub mod Input

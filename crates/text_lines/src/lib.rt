@@ -1,10 +1,12 @@
 // The lines of an input, byte by byte, and the text of a line: its words with one blank between.
+#![tactic(auto)]
+
 ghost use Rattle.std.specs.Prelude.{◌≡◌, List, [], ℕ, ◌≤◌, length};
 ghost use Rattle.text_lines.specs.LineText.{is_blank};
 ghost use Rattle.text_lines.specs.Reading.{ByteRead, gap_before, ReadSoFar, TextFrom, WordByte};
 
 // A line as far as it is read: how many bytes of the buffer it has, whether it is too long, and whether a word of it has ended.
-#[derive(Drop)]
+#[derive(Clone, Copy)]
 pub struct LineRead {
     pub fill: usize,
     pub over: bool,

@@ -1,4 +1,6 @@
 // Bytes of a slice: little-endian numbers, eight bytes as one number, copies and shifts, zeros, the byte order of codes, and their folding.
+#![tactic(auto)]
+
 ghost use Rattle.std.specs.Prelude.{◌≡◌, ◌↔◌, ◌+◌, ◌*◌, ◌^◌, ◌≤◌, ◌<◌, min, length};
 ghost use Rattle.ground.specs.Says.{Says};
 ghost use Rattle.ground.specs.Lists.{byte};
@@ -206,7 +208,7 @@ pub fn all_zero(s: &[u8]) -> bool
     zero_rest(s, zeros_end(s, 0))
 }
 
-#[derive(Drop)]
+#[derive(Clone, Copy)]
 pub enum Order {
     Less,
     Equal,

@@ -20,84 +20,84 @@ use Rattle.filling.proofs.fill_counts.Statement.{statement}
 use Rattle.filling.proofs.fill_counts.Tie as tie
 
 -- past the length
-module _ (c : tie.After-struct-known) where
+module _ (c : tie.After-struct_known-1) where
   abbrev store : List ℕ
-  store = c.before.before.before.before.before.before.before.args.s.now
+  store = c.args.s.now
 
   abbrev z : Shape
-  z = c.before.before.z.given.0.0
+  z = c.in-Of.z
 
   said : (z ≡ shape_of store) × GoodLength z store
-  said = subst (SaidShape store) c.before.before.z.given.1 c.before.before.before.before.said-shape.ensures
+  said = subst (SaidShape store) c.in-Of.is c.said_shape.ensures
 
   sized : Sized z
   sized = said_sized store z said.0
 
 -- past the old rules
-module _ (c : tie.Else1) where
-  abbrev k : tie.After-struct-known
-  k = c.before.before.before
+module _ (c : tie.Else-p-n) where
+  abbrev k : tie.After-struct_known-1
+  k = c.before.before
 
   met : AcceptedBefore (z k) fnv (store k)
   unfolding rules_before
-  met = record { long = (said k).1; keeps = c.before.first-bad-before.ensures.sound c.if1.false }
+  met = record { long = (said k).1; keeps = c.first_bad_before-p.ensures.sound c.if-p-n.false }
 
-said-shape-requires : tie.Need-said-shape-requires
+said-shape-requires : tie.Need-said_shape-requires
 said-shape-requires c κs = search rules
 
-enum-known-z : tie.Need-enum-known-z
+enum-known-z : tie.Need-enum_known-z
 enum-known-z c = search rules
 
-enum_told : tie.Need-enum-told
+enum_told : tie.Need-enum_told-1
 enum_told c = search rules
 
-same_length : tie.Need-same-length
+same_length : tie.Need-shape_of-s-in_default
 same_length c = search rules
 
-returns : tie.Need-returns
+returns : tie.Need-returns-in_default
 unfolding fill_table
-returns c = let f = c.before.before in
-    inl (tt, (subst (SaidShape f.before.before.before.args.s.now) c.enum_told.given.1 f.said-shape.ensures, refl))
+returns c = let f = c in
+    inl (tt, (subst (SaidShape f.args.s.now) c.in_default.is f.said_shape.ensures, refl))
 
-add-n : tie.Need-overflow-add-n
+add-n : tie.Need-overflow_add-n
 add-n c = omega (arith, (sized c).most)
 
-div-n : tie.Need-nonzero-div-n
+div-n : tie.Need-nonzero_div-n
 div-n c = search rules
 
-first-bad-before-requires : tie.Need-first-bad-before-requires
-first-bad-before-requires c κs = said c.before
+first-bad-before-requires : tie.Need-first_bad_before-p-requires
+first-bad-before-requires c κs = said c
 
-same-length-2 : tie.Need-same-length-2
+same-length-2 : tie.Need-shape_of-s-then-p-n
 same-length-2 c = search rules
 
-returns-2 : tie.Need-returns-2
+returns-2 : tie.Need-returns-then-p-n
 unfolding fill_table BrokenBefore rules_before
 returns-2 c =
-    let f = c.before in
-    let k = f.before.before in
-    subst (λ S. Answers (fill_table S fnv (store k)) (refused_at 2 f.first-bad-before.result, store k)) (said k).0
-    (inr ((λ _ n. n (said k).1), inl (f.first-bad-before.result, (f.first-bad-before.ensures.bad c.if1.true, refl))))
+    let f = c in
+    let k = f in
+    subst (λ S. Answers (fill_table S fnv (store k.before.before)) (refused_at 2 f.first_bad_before-p.result, store k.before.before)) (said k.before.before).0
+    (inr ((λ _ n. n (said k.before.before).1), inl (f.first_bad_before-p.result, (f.first_bad_before-p.ensures.bad c.if-p-n.true, refl))))
 
 recount-requires : tie.Need-recount-requires
 recount-requires c κs =
-    let e = c.before in
-    (sized (k e), before_settling (z (k e)) fnv (store (k e)) (met e))
+    let e = c in
+    (sized (k e.before), before_settling (z (k e.before)) fnv (store (k e.before)) (met e.before))
 
-same-length-3 : tie.Need-same-length-3
+same-length-3 : tie.Need-shape_of-s
 same-length-3 c = search rules
 
-returns-3 : tie.Need-returns-3
+returns-3 : tie.Need-returns
 unfolding fill_table
 returns-3 c =
-    let r = c.before.before in
-    let e = r.before.before in
-    subst (λ S. Answers (fill_table S fnv (store (k e))) (formatted, r.recount.new.0)) (said (k e)).0
+    let r = c in
+    let e = r in
+    subst (λ S. Answers (fill_table S fnv (store (k e.before.before.before.before))) (formatted, r.recount.new.s)) (said (k e.before.before.before.before)).0
     (inr (
-      (λ _ n. n (said (k e)).1),
+      (λ _ n. n (said (k e.before.before.before.before)).1),
       inr (
-        before_whole (z (k e)) fnv (store (k e)) (met e),
-        (met e, (refl, record { byte_size = λ i. (c.slice-known2.given i).fits; old = r.recount.ensures.old; counts = r.recount.ensures.counts })),
+        before_whole (z (k e.before.before.before.before)) fnv (store (k e.before.before.before.before)) (met e.before.before.before.before),
+        (met e.before.before.before.before, (refl, record { byte_size = λ i. (c.slice_known-2-1.given i).fits; old = r.recount.ensures.old; counts = r.recount.ensures.counts })),
       ),
     ))
 

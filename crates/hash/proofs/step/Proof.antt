@@ -3,11 +3,11 @@ use borrow.Author.Rules.{rules}
 use Rattle.hash.proofs.step.Statement.{statement}
 use Rattle.hash.proofs.step.Tie as tie
 
-wrapping-mul-requires : tie.Need-wrapping-mul-requires
+wrapping-mul-requires : tie.Need-wrapping_mul-requires
 wrapping-mul-requires c κs = search rules
 
 returns : tie.Need-returns
-returns c = c.wrapping-mul.ensures
+returns c = c.wrapping_mul.ensures
 
 pub step_spec : {M : Type 1} → statement M
 step_spec = tie.close (tie.spec wrapping-mul-requires returns)

@@ -6,39 +6,31 @@ use Rattle.hash.proofs.Bytes.{taken, joined}
 use Rattle.hash.proofs.two.Statement.{statement}
 use Rattle.hash.proofs.two.Tie as tie
 
-shared-slice-read-step : tie.Need-shared-slice-read-step
+shared-slice-read-step : tie.Need-bounds-s-i
 shared-slice-read-step c = search rules
 
-step-requires : tie.Need-step-requires
+step-requires : tie.Need-step-a-requires
 step-requires c κs = search rules
 
-add_step : tie.Need-overflow-add-step
+add_step : tie.Need-overflow_add-i
 add_step c = search rules
 
-shared-slice-read-step-2 : tie.Need-shared-slice-read-step-2
+shared-slice-read-step-2 : tie.Need-bounds-s-i-2
 shared-slice-read-step-2 c = search rules
 
-step-requires-2 : tie.Need-step-requires-2
+step-requires-2 : tie.Need-step-requires
 step-requires-2 c κs = search rules
 
 returns : tie.Need-returns
 returns c =
-    let b = c.before.before in
-    let z = b.before.before.before in
+    let b = c in
+    let z = b in
     let i = z.args.i in
-    joined _ z.args.h b.step.result c.step2.result i (i + 1) 1 1 2
-    (taken _ z.args.h i b.step.result 1 (omega arith) b.step.ensures (omega arith))
-    (taken _ b.step.result (i + 1) c.step2.result 1 (omega arith) c.step2.ensures (omega arith))
+    joined _ z.args.h b.step-a.result c.step.result i (i + 1) 1 1 2
+    (taken _ z.args.h i b.step-a.result 1 (omega arith) b.step-a.ensures (omega arith))
+    (taken _ b.step-a.result (i + 1) c.step.result 1 (omega arith) c.step.ensures (omega arith))
     (omega arith)
     (omega arith)
 
 pub two_spec : {M : Type 1} → statement M
-two_spec =
-    tie.close
-    (tie.spec
-    shared-slice-read-step
-    step-requires
-    add_step
-    shared-slice-read-step-2
-    step-requires-2
-    returns)
+two_spec = tie.close (tie.spec shared-slice-read-step step-requires add_step shared-slice-read-step-2 step-requires-2 returns)

@@ -9,10 +9,10 @@ use Rattle.hash.proofs.wrapping_mul.Tie as tie
 product_lt : {x y : ℕ} → x < 2 ^ 32 → y < 2 ^ 32 → x * y < 2 ^ 64
 product_lt {x} hx hy = lt_of_le_of_lt (mul-le-mul_left x (le_of_lt hy)) (mul-lt-mul_of_pos_right hx (pow_pos 32))
 
-mul-result : tie.Need-overflow-mul-result
+mul-result : tie.Need-overflow_mul-result
 mul-result c = record { fits = product_lt (search rules) (search rules) }
 
-cast-result : tie.Need-overflow-cast-result
+cast-result : tie.Need-overflow_cast-result-3
 cast-result c = search rules
 
 returns : tie.Need-returns

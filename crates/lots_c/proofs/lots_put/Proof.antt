@@ -14,16 +14,16 @@ use Rattle.lots_c.proofs.lots_put.Tie as tie
 put-requires : tie.Need-put-requires
 put-requires c κs = search rules
 
-new-word-requires : tie.Need-new-word-requires
+new-word-requires : tie.Need-new_word-requires
 new-word-requires c κs = search rules
 
-same_length : tie.Need-same-length
+same_length : tie.Need-shape_of-store
 same_length c = search rules
 
 returns : tie.Need-returns
 returns c =
-    let z = c.before.before.before.before.before.before.before in
-    let p = c.before.before.before.put in
+    let z = c in
+    let p = c.put in
     let e : ◌≡◌ {A = Place} _ (record { page = z.args.page; slot = z.args.slot; volume = z.args.volume }) =
     λ i. record {
       page = to_z-of_z {w = w32} {z = z.args.page} z.ranges.page i;
@@ -32,8 +32,8 @@ returns c =
     } in
     record {
       out = meaning p.result;
-      allowed = subst (λ q. Answers (put_table (shape_of z.args.store.now) fnv z.args.store.now z.args.code.now q z.args.mode) (meaning p.result, p.new.0)) e p.ensures;
-      is = c.new_IsWord.ensures;
+      allowed = subst (λ q. Answers (put_table (shape_of z.args.store.now) fnv z.args.store.now z.args.code.now q z.args.mode) (meaning p.result, p.new.s)) e p.ensures;
+      is = c.new_word.ensures;
     }
 
 pub lots_put_spec : {M : Type 1} → statement M

@@ -8,67 +8,67 @@ use Rattle.page_check.proofs.Marks.{Low, low_none, low_more}
 use Rattle.page_check.proofs.both_small.Statement.{statement}
 use Rattle.page_check.proofs.both_small.Tie as tie
 
-abbrev invariant_loop : tie.invariant-loop
+abbrev invariant_loop : tie.invariant-loop-k
 invariant_loop page tab d h low₀ k₀ low k = (k ≤ h) × Low page tab d k low
 
-abbrev decreases_loop : tie.decreases-loop
+abbrev decreases_loop : tie.decreases-loop-k
 decreases_loop page tab d h low₀ k₀ low k = h - k
 
-loop-holds : tie.Need-loop-init invariant_loop decreases_loop
+loop-holds : tie.Need-loop-k-init invariant_loop decreases_loop
 loop-holds c = (omega arith, low_none _ _ _)
 
-add-letter : tie.Need-overflow-add-letter invariant_loop decreases_loop
+add-letter : tie.Need-overflow_add-k invariant_loop decreases_loop
 add-letter c = omega arith
 
-shared-slice-read-letter : tie.Need-shared-slice-read-letter invariant_loop decreases_loop
+shared-slice-read-letter : tie.Need-bounds-page-k invariant_loop decreases_loop
 shared-slice-read-letter c = omega arith
 
-add-letter-2 : tie.Need-overflow-add-letter-2 invariant_loop decreases_loop
+add-letter-2 : tie.Need-overflow_add-k-in-loop-k invariant_loop decreases_loop
 add-letter-2 c = omega arith
 
-shared-slice-read-letter-2 : tie.Need-shared-slice-read-letter-2 invariant_loop decreases_loop
+shared-slice-read-letter-2 : tie.Need-bounds-tab-k invariant_loop decreases_loop
 shared-slice-read-letter-2 c = omega arith
 
 letter-requires : tie.Need-letter-requires invariant_loop decreases_loop
 letter-requires c κs = tt
 
-lesser-requires : tie.Need-lesser-requires invariant_loop decreases_loop
+lesser-requires : tie.Need-lesser-low-requires invariant_loop decreases_loop
 lesser-requires c κs = tt
 
-add-letter-3 : tie.Need-overflow-add-letter-3 invariant_loop decreases_loop
+add-letter-3 : tie.Need-overflow_add-d invariant_loop decreases_loop
 add-letter-3 c = omega arith
 
-shared-slice-read-letter-3 : tie.Need-shared-slice-read-letter-3 invariant_loop decreases_loop
+shared-slice-read-letter-3 : tie.Need-bounds-page-d invariant_loop decreases_loop
 shared-slice-read-letter-3 c = omega arith
 
-add-letter-4 : tie.Need-overflow-add-letter-4 invariant_loop decreases_loop
+add-letter-4 : tie.Need-overflow_add-d-in-loop-k invariant_loop decreases_loop
 add-letter-4 c = omega arith
 
-shared-slice-read-letter-4 : tie.Need-shared-slice-read-letter-4 invariant_loop decreases_loop
+shared-slice-read-letter-4 : tie.Need-bounds-tab-d invariant_loop decreases_loop
 shared-slice-read-letter-4 c = omega arith
 
-letter-requires-2 : tie.Need-letter-requires-2 invariant_loop decreases_loop
+letter-requires-2 : tie.Need-letter-requires-in-loop-k invariant_loop decreases_loop
 letter-requires-2 c κs = tt
 
-lesser-requires-2 : tie.Need-lesser-requires-2 invariant_loop decreases_loop
+lesser-requires-2 : tie.Need-lesser-low-requires-in-loop-k invariant_loop decreases_loop
 lesser-requires-2 c κs = tt
 
-add-k : tie.Need-overflow-add-k invariant_loop decreases_loop
+add-k : tie.Need-overflow_add-k-in-loop-k-2 invariant_loop decreases_loop
 add-k c = omega arith
 
-loop-less : tie.Need-loop-smaller invariant_loop decreases_loop
+loop-less : tie.Need-loop-k-smaller invariant_loop decreases_loop
 loop-less c = omega arith
 
-loop-again : tie.Need-loop-preserved invariant_loop decreases_loop
+loop-again : tie.Need-loop-k-preserved invariant_loop decreases_loop
 loop-again c =
-    let first = c.before.before.before.before in
-    let l = first.before.before.before.before.before.loop in
-    (omega arith, low_more _ _ _ _ _ _ _ _ _ l.invariant.1 first.before.letter.ensures first.lesser.ensures c.before.letter2.ensures c.lesser2.ensures)
+    let first = c in
+    let l = first.loop-k in
+    (omega arith, low_more _ _ _ _ _ _ _ _ _ l.invariant.1 first.letter.ensures first.lesser-low.ensures c.letter-in-loop-k.ensures c.lesser-low-in-loop-k.ensures)
 
 returns : tie.Need-returns invariant_loop decreases_loop
 returns c =
-    let l = c.before.loop in
-    let s = c.before.before.before.before.args in
+    let l = c.loop-k in
+    let s = c.args in
     let e : l.k ≡ s.h = omega arith in
     says_leb _ l.low
     (λ h. subst (λ k. NoCapital s.page.now s.tab.now 8 (8 + k) × NoCapital s.page.now s.tab.now s.d (s.d + k)) e (l.invariant.1.so (omega (arith, h))))

@@ -5,14 +5,14 @@ use Rattle.hash.specs.Fnv.{fnv}
 use Rattle.page_check.proofs.hash_slot.Statement.{statement}
 use Rattle.page_check.proofs.hash_slot.Tie as tie
 
-code-at-requires : tie.Need-code-at-requires
+code-at-requires : tie.Need-code_at-requires
 code-at-requires c κs = search rules
 
 hash-requires : tie.Need-hash-requires
 hash-requires c κs = search rules
 
 returns : tie.Need-returns
-returns c = c.hash.ensures ∙ ap fnv c.before.code_at.ensures
+returns c = c.hash.ensures ∙ ap fnv c.code_at.ensures
 
 pub hash_slot_spec : {M : Type 1} → statement M
 hash_slot_spec = tie.close (tie.spec code-at-requires hash-requires returns)

@@ -12,70 +12,70 @@ use Rattle.page_check.specs.Rules.{NoSign, NaturalAt}
 use Rattle.page_check.proofs.le64.Statement.{statement}
 use Rattle.page_check.proofs.le64.Tie as tie
 
-add_wide : tie.Need-overflow-add-wide
+add_wide : tie.Need-overflow_add-k
 add_wide c = search rules
 
-shared-slice-read-wide : tie.Need-shared-slice-read-wide
+shared-slice-read-wide : tie.Need-bounds-s-k
 shared-slice-read-wide c = search rules
 
 wide-requires : tie.Need-wide-requires
 wide-requires c κs = search rules
 
-add-wide-2 : tie.Need-overflow-add-wide-2
+add-wide-2 : tie.Need-overflow_add-k-2
 add-wide-2 c = search rules
 
-shared-slice-read-wide-2 : tie.Need-shared-slice-read-wide-2
+shared-slice-read-wide-2 : tie.Need-bounds-s-k-2
 shared-slice-read-wide-2 c = search rules
 
 wide-requires-2 : tie.Need-wide-requires-2
 wide-requires-2 c κs = search rules
 
-add-wide-3 : tie.Need-overflow-add-wide-3
+add-wide-3 : tie.Need-overflow_add-k-3
 add-wide-3 c = search rules
 
-shared-slice-read-wide-3 : tie.Need-shared-slice-read-wide-3
+shared-slice-read-wide-3 : tie.Need-bounds-s-k-3
 shared-slice-read-wide-3 c = search rules
 
 wide-requires-3 : tie.Need-wide-requires-3
 wide-requires-3 c κs = search rules
 
-add-wide-4 : tie.Need-overflow-add-wide-4
+add-wide-4 : tie.Need-overflow_add-k-4
 add-wide-4 c = search rules
 
-shared-slice-read-wide-4 : tie.Need-shared-slice-read-wide-4
+shared-slice-read-wide-4 : tie.Need-bounds-s-k-4
 shared-slice-read-wide-4 c = search rules
 
 wide-requires-4 : tie.Need-wide-requires-4
 wide-requires-4 c κs = search rules
 
-add-wide-5 : tie.Need-overflow-add-wide-5
+add-wide-5 : tie.Need-overflow_add-k-5
 add-wide-5 c = search rules
 
-shared-slice-read-wide-5 : tie.Need-shared-slice-read-wide-5
+shared-slice-read-wide-5 : tie.Need-bounds-s-k-5
 shared-slice-read-wide-5 c = search rules
 
 wide-requires-5 : tie.Need-wide-requires-5
 wide-requires-5 c κs = search rules
 
-add-wide-6 : tie.Need-overflow-add-wide-6
+add-wide-6 : tie.Need-overflow_add-k-6
 add-wide-6 c = search rules
 
-shared-slice-read-wide-6 : tie.Need-shared-slice-read-wide-6
+shared-slice-read-wide-6 : tie.Need-bounds-s-k-6
 shared-slice-read-wide-6 c = search rules
 
 wide-requires-6 : tie.Need-wide-requires-6
 wide-requires-6 c κs = search rules
 
-add-wide-7 : tie.Need-overflow-add-wide-7
+add-wide-7 : tie.Need-overflow_add-k-7
 add-wide-7 c = search rules
 
-shared-slice-read-wide-7 : tie.Need-shared-slice-read-wide-7
+shared-slice-read-wide-7 : tie.Need-bounds-s-k-7
 shared-slice-read-wide-7 c = search rules
 
 wide-requires-7 : tie.Need-wide-requires-7
 wide-requires-7 c κs = search rules
 
-shared-slice-read-wide-8 : tie.Need-shared-slice-read-wide-8
+shared-slice-read-wide-8 : tie.Need-bounds-s-k-8
 shared-slice-read-wide-8 c = search rules
 
 wide-requires-8 : tie.Need-wide-requires-8
@@ -145,9 +145,9 @@ module _ (p : List ℕ) (bytes : (k : ℕ) → byte p k < 256) (o : ℕ) where
 returns : tie.Need-returns
 unfolding half
 returns c =
-    let k = c.before.before.before.before.before.before.before.before.before.before.before.before.before.before.before.before.before in
-    let a = k.before.args in
-    let bytes : (j : ℕ) → byte a.s.now j < 256 = λ j. omega (arith, k.shared-slice-known.given j) in
+    let k = c in
+    let a = k.args in
+    let bytes : (j : ℕ) → byte a.s.now j < 256 = λ j. omega (arith, k.shared_slice_known-1.given j) in
     let e : c.join8.result ≡ high a.s.now bytes a.k * 4294967296 + low a.s.now bytes a.k = omega arith in
     (signs a.s.now bytes a.k c.join8.result e, zero_word a.s.now bytes a.k c.join8.result e)
 

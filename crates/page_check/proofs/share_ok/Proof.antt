@@ -6,18 +6,17 @@ use Rattle.page_check.proofs.Prefixes.{share_all}
 use Rattle.page_check.proofs.share_ok.Statement.{statement}
 use Rattle.page_check.proofs.share_ok.Tie as tie
 
-hash-slot-requires : tie.Need-hash-slot-requires
+hash-slot-requires : tie.Need-hash_slot-requires
 hash-slot-requires c κs = search rules
 
-shared-slice-read-alike : tie.Need-shared-slice-read-alike
+shared-slice-read-alike : tie.Need-bounds-page-1
 shared-slice-read-alike c = search rules
 
 alike-requires : tie.Need-alike-requires
 alike-requires c κs = search rules
 
 returns : tie.Need-returns
-returns c = says_same c.alike.result c.alike.ensures (share_all fnv _) (λ s i h. s 0 i c.before.before.before.before.requires.0.some h)
+returns c = says_same c.alike.result c.alike.ensures (share_all fnv _) (λ s i h. s 0 i c.requires.0.some h)
 
 pub share_ok_spec : {M : Type 1} → statement M
-share_ok_spec =
-    tie.close (tie.spec hash-slot-requires shared-slice-read-alike alike-requires returns)
+share_ok_spec = tie.close (tie.spec hash-slot-requires shared-slice-read-alike alike-requires returns)

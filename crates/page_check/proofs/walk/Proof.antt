@@ -14,67 +14,67 @@ use Rattle.page_check.proofs.walk.Statement.{statement}
 use Rattle.page_check.proofs.walk.Tie as tie
 
 -- of the table the entries left are to come; where no two records start at one byte, the last one met ends at end
-abbrev invariant_loop : tie.invariant-loop
+abbrev invariant_loop : tie.invariant-loop-pos
 invariant_loop page tab₀ n f pos₀ gap₀ met₀ acc₀ signs₀ tab pos gap met acc signs =
     (length tab ≡ length tab₀) × (left : List ℕ) × Passed tab₀ f left pos met tab × (entries tab₀ ≡ n → (end : ℕ) × Walked page n f tab₀ left pos end met acc × Gap gap pos end × Marking page n left pos tab × Signed page n left signs)
 
-abbrev decreases_loop : tie.decreases-loop
+abbrev decreases_loop : tie.decreases-loop-pos
 decreases_loop page tab₀ n f pos₀ gap₀ met₀ acc₀ signs₀ tab pos gap met acc signs = f - pos
 
 -- the record at pos
-module _ (c : tie.Else1 invariant_loop decreases_loop) where
+module _ (c : tie.Else-l-eq0 invariant_loop decreases_loop) where
   abbrev start : tie.Start invariant_loop decreases_loop
   start = c.before.before.before.before.before.before
 
-  abbrev turn : tie.At-loop invariant_loop decreases_loop
+  abbrev turn : tie.At-loop-pos invariant_loop decreases_loop
   turn = c.before.before.before
 
   abbrev table : Table start.args.page.now start.args.n start.args.f start.args.tab.now
-  table = start.pre.table
+  table = start.requires.table
 
   abbrev left_of : List ℕ
-  left_of = turn.loop.inv.1
+  left_of = turn.loop-pos.invariant.1
 
   abbrev pos_of : ℕ
-  pos_of = turn.loop.pos
+  pos_of = turn.loop-pos.pos
 
-  entry : byte turn.loop.tab pos_of ≡ byte left_of pos_of
-  entry = turn.loop.inv.2.ahead pos_of (omega arith) ∙ sym (turn.loop.inv.2.later pos_of (omega arith))
+  entry : byte turn.loop-pos.tab pos_of ≡ byte left_of pos_of
+  entry = turn.loop-pos.invariant.2.ahead pos_of (omega arith) ∙ sym (turn.loop-pos.invariant.2.later pos_of (omega arith))
 
-  some : 1 ≤ byte turn.loop.tab pos_of
-  some = omega (arith, c.if1.false)
+  some : 1 ≤ byte turn.loop-pos.tab pos_of
+  some = omega (arith, c.if-l-eq0.false)
 
-  room : (9 ≤ byte turn.loop.tab pos_of) × (pos_of + byte turn.loop.tab pos_of ≤ start.args.f)
-  room = ends_within _ _ _ _ table _ _ _ _ turn.loop.inv.2 (omega arith) some
+  room : (9 ≤ byte turn.loop-pos.tab pos_of) × (pos_of + byte turn.loop-pos.tab pos_of ≤ start.args.f)
+  room = ends_within _ _ _ _ table _ _ _ _ turn.loop-pos.invariant.2 (omega arith) some
 
 -- at the frontier
-module _ (c : tie.After-loop invariant_loop decreases_loop) where
+module _ (c : tie.After-loop-pos invariant_loop decreases_loop) where
   abbrev first : tie.Start invariant_loop decreases_loop
   first = c.before.before.before.before
 
-  abbrev last : tie.At-loop invariant_loop decreases_loop
+  abbrev last : tie.At-loop-pos invariant_loop decreases_loop
   last = c.before
 
-  ended : last.loop.pos ≡ first.args.f
-  ended = omega (arith, last.loop.inv.2.to, c.loop-test.false)
+  ended : last.loop-pos.pos ≡ first.args.f
+  ended = omega (arith, last.loop-pos.invariant.2.to, c.loop-pos-test.false)
 
   -- records that lie apart have an entry each
   all_of : Laid first.args.page.now first.args.n first.args.f → entries first.args.tab.now ≡ first.args.n
-  all_of d = first.pre.table.full (distinct_of _ _ _ _ first.pre.table d)
+  all_of d = first.requires.table.full (distinct_of _ _ _ _ first.requires.table d)
 
   module _ (e : entries first.args.tab.now ≡ first.args.n) where
     exact : Exact first.args.page.now first.args.n first.args.f first.args.tab.now
-    exact = record { table = first.pre.table; all = e }
+    exact = record { table = first.requires.table; all = e }
 
-    over : Walked first.args.page.now first.args.n first.args.f first.args.tab.now last.loop.inv.1 first.args.f (last.loop.inv.3 e).0 last.loop.met last.loop.acc
-    over = subst (λ y. Walked first.args.page.now first.args.n first.args.f first.args.tab.now last.loop.inv.1 y (last.loop.inv.3 e).0 last.loop.met last.loop.acc) ended (last.loop.inv.3 e).1
+    over : Walked first.args.page.now first.args.n first.args.f first.args.tab.now last.loop-pos.invariant.1 first.args.f (last.loop-pos.invariant.3 e).0 last.loop-pos.met last.loop-pos.acc
+    over = subst (λ y. Walked first.args.page.now first.args.n first.args.f first.args.tab.now last.loop-pos.invariant.1 y (last.loop-pos.invariant.3 e).0 last.loop-pos.met last.loop-pos.acc) ended (last.loop-pos.invariant.3 e).1
 
-    marks : Marking first.args.page.now first.args.n last.loop.inv.1 first.args.f last.loop.tab
-    marks = subst (λ y. Marking first.args.page.now first.args.n last.loop.inv.1 y last.loop.tab) ended (last.loop.inv.3 e).3
+    marks : Marking first.args.page.now first.args.n last.loop-pos.invariant.1 first.args.f last.loop-pos.tab
+    marks = subst (λ y. Marking first.args.page.now first.args.n last.loop-pos.invariant.1 y last.loop-pos.tab) ended (last.loop-pos.invariant.3 e).3
 
-loop-holds : tie.Need-loop-init invariant_loop decreases_loop
+loop-holds : tie.Need-loop-pos-init invariant_loop decreases_loop
 loop-holds c =
-    let s = c.before.before in (
+    let s = c in (
       refl,
       s.args.tab.now,
       passed_none _ _ _ _ s.requires.table (omega (arith, s.requires.start)),
@@ -87,133 +87,133 @@ loop-holds c =
       )),
     )
 
-slice-read-l : tie.Need-slice-read-l invariant_loop decreases_loop
-slice-read-l c = let s = c.before.before.before.before.before.requires in omega (arith, s.within, s.same)
+slice-read-l : tie.Need-bounds-tab-pos invariant_loop decreases_loop
+slice-read-l c = let s = c.requires in omega (arith, s.within, s.same)
 
-cast-l : tie.Need-overflow-cast-l invariant_loop decreases_loop
-cast-l c = record { fits = omega (arith, c.slice-known2.given c.before.before.loop.pos) }
+cast-l : tie.Need-overflow_cast-l invariant_loop decreases_loop
+cast-l c = record { fits = omega (arith, c.slice_known-in-loop-pos-1.given c.loop-pos.pos) }
 
-shared-slice-read-acc : tie.Need-shared-slice-read-acc invariant_loop decreases_loop
+shared-slice-read-acc : tie.Need-bounds-page-pos invariant_loop decreases_loop
 shared-slice-read-acc c = search rules
 
-add-pos : tie.Need-overflow-add-pos invariant_loop decreases_loop
+add-pos : tie.Need-overflow_add-pos invariant_loop decreases_loop
 add-pos c = search rules
 
-loop-less : tie.Need-loop-smaller invariant_loop decreases_loop
+loop-less : tie.Need-loop-pos-smaller-then-l-eq0 invariant_loop decreases_loop
 loop-less c = omega arith
 
-loop-again : tie.Need-loop-preserved invariant_loop decreases_loop
+loop-again : tie.Need-loop-pos-preserved-then-l-eq0 invariant_loop decreases_loop
 loop-again c =
-    let t = c.before.before.before.before in
-    let l = t.loop in
-    let b = t.before.before.before.requires.table in (
+    let t = c in
+    let l = t.loop-pos in
+    let b = t.requires.table in (
       l.invariant.0,
       l.invariant.1,
       passed_hole _ _ _ _ b _ _ _ _ l.invariant.2 (omega arith),
       (λ e.
           let i = l.invariant.3 e in (
             i.0,
-            walked_hole _ _ _ _ (record { table = b; all = e }) _ _ _ _ _ i.1 (omega arith) (omega (arith, l.invariant.2.later l.pos (omega arith), l.invariant.2.ahead l.pos (omega arith), c.before.if1.true)),
+            walked_hole _ _ _ _ (record { table = b; all = e }) _ _ _ _ _ i.1 (omega arith) (omega (arith, l.invariant.2.later l.pos (omega arith), l.invariant.2.ahead l.pos (omega arith), c.if-l-eq0.true)),
             record { to = omega arith; met = λ h. absurd (omega arith); none = λ _ _. omega (arith, i.1.till) },
             marking_hole _ _ _ _ (record { table = b; all = e }) _ _ _ _ _ i.1 (omega arith) _ i.3,
             i.4,
           )),
     )
 
-le64-requires : tie.Need-le64-requires invariant_loop decreases_loop
+le64-requires : tie.Need-le64-signs-requires invariant_loop decreases_loop
 le64-requires c κs = omega (arith, room c, (start c).requires.within)
 
-add-fill : tie.Need-overflow-add-fill invariant_loop decreases_loop
+add-fill : tie.Need-overflow_add-pos-in-loop-pos invariant_loop decreases_loop
 add-fill c = omega (arith, room c.before.before)
 
 fill-requires : tie.Need-fill-requires invariant_loop decreases_loop
-fill-requires c κs = let e = c.before.before in (omega arith, omega (arith, room e, (start e).requires.within, (start e).requires.same, (turn e).loop.invariant.0))
+fill-requires c κs = let e = c in (omega arith, omega (arith, room e.before.before, (start e.before.before).requires.within, (start e.before.before).requires.same, (turn e.before.before).loop-pos.invariant.0))
 
-add-pos-2 : tie.Need-overflow-add-pos-2 invariant_loop decreases_loop
+add-pos-2 : tie.Need-overflow_add-pos-in-loop-pos-2 invariant_loop decreases_loop
 add-pos-2 c = omega (arith, room c.before.before.before.before.before)
 
 -- its place marked
-marks_of : (c : tie.After-slice-known3 invariant_loop decreases_loop) → let e = c.before.before.before.before.before in
-    Span (turn e).loop.tab (pos_of e) (pos_of e + 8) (λ _. 255) c.before.before.fill.new.0
-marks_of c = ends_at _ _ _ _ _ c.before.before.fill.ensures (omega arith)
+marks_of : (c : tie.After-slice_known-in-loop-pos-2-1 invariant_loop decreases_loop) → let e = c in
+    Span (turn e.before.before.before.before.before).loop-pos.tab (pos_of e.before.before.before.before.before) (pos_of e.before.before.before.before.before + 8) (λ _. 255) c.fill.new.s
+marks_of c = ends_at _ _ _ _ _ c.fill.ensures (omega arith)
 
 -- past it
-passed : (c : tie.After-slice-known3 invariant_loop decreases_loop) → let e = c.before.before.before.before.before in
-    Passed (start e).args.tab.now (start e).args.f (set (left_of e) (pos_of e) 0) (pos_of e + byte (turn e).loop.tab (pos_of e)) ((turn e).loop.met + 1) c.before.before.fill.new.0
-passed c = let e = c.before.before.before.before.before in passed_record _ _ _ _ (table e) _ _ _ _ (turn e).loop.invariant.2 (omega arith) _ (some e) (marks_of c)
+passed : (c : tie.After-slice_known-in-loop-pos-2-1 invariant_loop decreases_loop) → let e = c in
+    Passed (start e.before.before.before.before.before).args.tab.now (start e.before.before.before.before.before).args.f (set (left_of e.before.before.before.before.before) (pos_of e.before.before.before.before.before) 0) (pos_of e.before.before.before.before.before + byte (turn e.before.before.before.before.before).loop-pos.tab (pos_of e.before.before.before.before.before)) ((turn e.before.before.before.before.before).loop-pos.met + 1) c.fill.new.s
+passed c = let e = c in passed_record _ _ _ _ (table e.before.before.before.before.before) _ _ _ _ (turn e.before.before.before.before.before).loop-pos.invariant.2 (omega arith) _ (some e.before.before.before.before.before) (marks_of c)
 
-add-met : tie.Need-overflow-add-met invariant_loop decreases_loop
+add-met : tie.Need-overflow_add-met invariant_loop decreases_loop
 add-met c = omega (arith, (passed c).left, (table c.before.before.before.before.before).most)
 
-loop-less-2 : tie.Need-loop-smaller-2 invariant_loop decreases_loop
+loop-less-2 : tie.Need-loop-pos-smaller invariant_loop decreases_loop
 loop-less-2 c = omega (arith, room c.before.before.before.before.before)
 
-loop-again-2 : tie.Need-loop-preserved-2 invariant_loop decreases_loop
+loop-again-2 : tie.Need-loop-pos-preserved invariant_loop decreases_loop
 loop-again-2 c =
-    let e = c.before.before.before.before.before in
-    let l = (turn e).loop in
-    let s : 1 ≤ byte (left_of e) (pos_of e) = omega (arith, entry e, some e) in (
-      c.before.before.fill.ensures.len ∙ l.inv.0,
-      set l.inv.1 l.pos 0,
+    let e = c in
+    let l = (turn e.before.before.before.before.before).loop-pos in
+    let s : 1 ≤ byte (left_of e.before.before.before.before.before) (pos_of e.before.before.before.before.before) = omega (arith, entry e.before.before.before.before.before, some e.before.before.before.before.before) in (
+      c.fill.ensures.len ∙ l.invariant.0,
+      set l.invariant.1 l.pos 0,
       passed c,
       (λ x.
-          let i = l.inv.3 x in (
+          let i = l.invariant.3 x in (
             l.pos + byte l.tab l.pos,
-            rw (entry e) (walked_record _ _ _ _ (record { table = table e; all = x }) _ _ _ _ _ i.1 (omega arith) _ s refl),
-            record { to = omega (arith, i.2.to); met = λ _. refl; none = λ _ h. absurd (omega (arith, i.2.to, room e)) },
-            rw (entry e) (marking_record _ _ _ _ (record { table = table e; all = x }) _ _ _ _ _ i.1 (omega arith) _ _ s i.3 (marks_of c)),
-            signed_record _ _ _ _ (record { table = table e; all = x }) _ _ _ _ _ i.1 (omega arith) _ _ s i.4 c.before.before.before.before.le64.ensures.0,
+            rw (entry e.before.before.before.before.before) (walked_record _ _ _ _ (record { table = table e.before.before.before.before.before; all = x }) _ _ _ _ _ i.1 (omega arith) _ s refl),
+            record { to = omega (arith, i.2.to); met = λ _. refl; none = λ _ h. absurd (omega (arith, i.2.to, room e.before.before.before.before.before)) },
+            rw (entry e.before.before.before.before.before) (marking_record _ _ _ _ (record { table = table e.before.before.before.before.before; all = x }) _ _ _ _ _ i.1 (omega arith) _ _ s i.3 (marks_of c)),
+            signed_record _ _ _ _ (record { table = table e.before.before.before.before.before; all = x }) _ _ _ _ _ i.1 (omega arith) _ _ s i.4 c.le64-signs.ensures.0,
           )),
     )
 
-same_length : tie.Need-same-length invariant_loop decreases_loop
+same_length : tie.Need-shape_of-tab-then-acc-ne0 invariant_loop decreases_loop
 same_length c = search rules
 
-returns : tie.Need-returns invariant_loop decreases_loop
-returns c = let a = c.before in ((λ d. c.if2.true ((over a (all_of a d)).clear d)), ((λ e. untrue e), (last a).loop.invariant.2.inside))
+returns : tie.Need-returns-then-acc-ne0 invariant_loop decreases_loop
+returns c = let a = c in ((λ d. c.if-acc-ne0.true ((over a.before (all_of a.before d)).clear d)), ((λ e. untrue e), (last a.before).loop-pos.invariant.2.inside))
 
-same-length-2 : tie.Need-same-length-2 invariant_loop decreases_loop
+same-length-2 : tie.Need-shape_of-tab-then-met-n invariant_loop decreases_loop
 same-length-2 c = search rules
 
-returns-2 : tie.Need-returns-2 invariant_loop decreases_loop
-returns-2 c = let a = c.before.before in ((λ d. c.if3.true (met_all _ _ _ _ (exact a (all_of a d)) _ _ _ _ (over a (all_of a d)) d)), ((λ e. untrue e), (last a).loop.invariant.2.inside))
+returns-2 : tie.Need-returns-then-met-n invariant_loop decreases_loop
+returns-2 c = let a = c in ((λ d. c.if-met-n.true (met_all _ _ _ _ (exact a.before.before (all_of a.before.before d)) _ _ _ _ (over a.before.before (all_of a.before.before d)) d)), ((λ e. untrue e), (last a.before.before).loop-pos.invariant.2.inside))
 
-same-length-3 : tie.Need-same-length-3 invariant_loop decreases_loop
+same-length-3 : tie.Need-shape_of-tab-then-f-gap invariant_loop decreases_loop
 same-length-3 c = search rules
 
 -- the last bytes of no record end at the frontier
-returns-3 : tie.Need-returns-3 invariant_loop decreases_loop
+returns-3 : tie.Need-returns-then-f-gap invariant_loop decreases_loop
 returns-3 c =
-    let a = c.before.before.before in
-    let x : (last a).loop.pos ≡ (first a).args.f = ended a in (
+    let a = c in
+    let x : (last a.before.before.before).loop-pos.pos ≡ (first a.before.before.before).args.f = ended a.before.before.before in (
       (λ d.
-          let e = all_of a d in
-          let g = ((last a).loop.invariant.3 e).2 in
-          omega (arith, end_top _ _ _ _ (exact a e) _ _ _ _ (over a e) d, g.none (omega (arith, (first a).requires.start, x)) (omega (arith, c.if4.true, x, g.to)), x)),
-      ((λ e. untrue e), (last a).loop.invariant.2.inside),
+          let e = all_of a.before.before.before d in
+          let g = ((last a.before.before.before).loop-pos.invariant.3 e).2 in
+          omega (arith, end_top _ _ _ _ (exact a.before.before.before e) _ _ _ _ (over a.before.before.before e) d, g.none (omega (arith, (first a.before.before.before).requires.start, x)) (omega (arith, c.if-f-gap.true, x, g.to)), x)),
+      ((λ e. untrue e), (last a.before.before.before).loop-pos.invariant.2.inside),
     )
 
-no-sign-requires : tie.Need-no-sign-requires invariant_loop decreases_loop
+no-sign-requires : tie.Need-no_sign-requires invariant_loop decreases_loop
 no-sign-requires c κs = search rules
 
-same-length-4 : tie.Need-same-length-4 invariant_loop decreases_loop
+same-length-4 : tie.Need-shape_of-tab invariant_loop decreases_loop
 same-length-4 c = search rules
 
-returns-4 : tie.Need-returns-4 invariant_loop decreases_loop
+returns-4 : tie.Need-returns invariant_loop decreases_loop
 returns-4 c =
-    let o = c.before in
-    let a = o.before.before.before in
-    let s = (first a).requires in
-    let l = (last a).loop in
-    let e : entries (first a).args.tab.now ≡ (first a).args.n = omega (arith, l.inv.2.left, o.before.if3.false, s.table.most) in
-    let b = exact a e in
-    let w = over a e in
-    let i = l.inv.3 e in
-    let x : l.pos ≡ (first a).args.f = ended a in (
+    let o = c in
+    let a = o in
+    let s = (first a.before.before.before.before).requires in
+    let l = (last a.before.before.before.before).loop-pos in
+    let e : entries (first a.before.before.before.before).args.tab.now ≡ (first a.before.before.before.before).args.n = omega (arith, l.invariant.2.left, o.if-met-n.false, s.table.most) in
+    let b = exact a.before.before.before.before e in
+    let w = over a.before.before.before.before e in
+    let i = l.invariant.3 e in
+    let x : l.pos ≡ (first a.before.before.before.before).args.f = ended a.before.before.before.before in (
       says_same c.no_sign.result c.no_sign.ensures
-          (λ n. laid_of _ _ _ _ b _ _ _ _ w _ i.4 s.start o.before.before.if2.false o.before.if3.false (omega (arith, i.2.met (omega (arith, o.if4.false, x)), x)) n)
+          (λ n. laid_of _ _ _ _ b _ _ _ _ w _ i.4 s.start o.if-acc-ne0.false o.if-met-n.false (omega (arith, i.2.met (omega (arith, o.if-f-gap.false, x)), x)) n)
           (λ d. i.4.back d.natural),
-      ((λ _. marked_all _ _ _ _ b _ _ _ _ w _ (marks a e) o.before.if3.false), l.inv.2.inside),
+      ((λ _. marked_all _ _ _ _ b _ _ _ _ w _ (marks a.before.before.before.before e) o.if-met-n.false), l.invariant.2.inside),
     )
 
 pub walk_spec : {M : Type 1} → statement M

@@ -11,55 +11,55 @@ use Rattle.page_reader.proofs.inspect.Statement.{statement}
 use Rattle.page_reader.proofs.inspect.Tie as tie
 
 -- the page size that the length stands for
-module _ (c : tie.After-struct-known) where
+module _ (c : tie.After-struct_known-1) where
   abbrev given : tie.Start
   given = c.before.before.before.before
 
-  size_is : size c.before.shape-for.result ≡ size (shape_for (length given.args.page.now))
-  size_is = ap size c.before.shape-for.ensures
+  size_is : size c.shape_for-z.result ≡ size (shape_for (length given.args.page.now))
+  size_is = ap size c.shape_for-z.ensures
 
-long : (c : tie.Else1) → let g = (given c.before).args.page.now in length g ≡ size (shape_for (length g))
-long c = c.if1.false ∙ size_is c.before
+long : (c : tie.Else-page-z) → let g = (given c.before).args.page.now in length g ≡ size (shape_for (length g))
+long c = c.if-page-z.false ∙ size_is c.before
 
-shape-for-requires : tie.Need-shape-for-requires
+shape-for-requires : tie.Need-shape_for-z-requires
 shape-for-requires c κs = search rules
 
-add-if1 : tie.Need-overflow-add-if1
-add-if1 c = omega (arith, (subst Sized (sym c.before.shape-for.ensures) (sized_for (length (given c).args.page.now))).most)
+add-if1 : tie.Need-overflow_add-z
+add-if1 c = omega (arith, (subst Sized (sym c.shape_for-z.ensures) (sized_for (length (given c).args.page.now))).most)
 
-returns : tie.Need-returns
+returns : tie.Need-returns-then-page-z
 returns c =
     let a = (given c.before).args in
-    inspect_length a.page.now a.n a.out.now (λ e. c.if1.true (e ∙ sym (size_is c.before)))
+    inspect_length a.page.now a.n a.out.now (λ e. c.if-page-z.true (e ∙ sym (size_is c.before)))
 
-returns-2 : tie.Need-returns-2
+returns-2 : tie.Need-returns-then-out-lt64
 returns-2 c =
     let a = (given c.before.before).args in
     inspect_short a.page.now a.n a.out.now (long c.before) (omega arith)
 
-all-zero-requires : tie.Need-all-zero-requires
+all-zero-requires : tie.Need-all_zero-requires
 all-zero-requires c κs = search rules
 
-returns-3 : tie.Need-returns-3
+returns-3 : tie.Need-returns-then-all_zero
 returns-3 c =
-    let t = c.before in
-    let l = t.before.before in
-    let a = (given l.before).args in
-    inspect_free a.page.now a.n a.out.now (long l) (omega arith) (says_true t.all-zero.result c.if3.true t.all-zero.ensures)
+    let t = c in
+    let l = t in
+    let a = (given l.before.before.before.before).args in
+    inspect_free a.page.now a.n a.out.now (long l.before.before.before) (omega arith) (says_true t.all_zero.result c.if-all_zero.true t.all_zero.ensures)
 
 nth-requires : tie.Need-nth-requires
 nth-requires c κs = search rules
 
-same_length : tie.Need-same-length
+same_length : tie.Need-shape_of-out
 same_length c = search rules
 
-returns-4 : tie.Need-returns-4
+returns-4 : tie.Need-returns
 returns-4 c =
-    let e = c.before.before.before.before in
-    let t = e.before in
-    let l = t.before.before in
-    let a = (given l.before).args in
-    inspect_read a.page.now a.n a.out.now (long l) (omega arith) (says_false t.all-zero.result e.if3.false t.all-zero.ensures) _ c.before.before.nth.ensures
+    let e = c in
+    let t = e in
+    let l = t in
+    let a = (given l.before.before.before.before.before.before.before.before).args in
+    inspect_read a.page.now a.n a.out.now (long l.before.before.before.before.before.before.before) (omega arith) (says_false t.all_zero.result e.if-all_zero.false t.all_zero.ensures) _ c.nth.ensures
 
 pub inspect_spec : {M : Type 1} → statement M
 inspect_spec =

@@ -13,45 +13,45 @@ use Rattle.partition.proofs.run_of.Statement.{statement}
 use Rattle.partition.proofs.run_of.Tie as tie
 
 -- where the run begins, and that it ends in the directory
-module _ (c : tie.After-two-to) where
+module _ (c : tie.After-two_to-w) where
   abbrev d : ℕ
-  d = c.before.before.args.d
+  d = c.args.d
 
   abbrev k : ℕ
-  k = c.before.before.args.k
+  k = c.args.k
 
   abbrev v : ℕ
-  v = top k c.before.before.args.x
+  v = top k c.args.x
 
   within : v * 2 ^ (d - k) + 2 ^ (d - k) ≤ 2 ^ d
-  within = run_within c.before.before.args.x k d c.before.before.ranges.x.fits (omega arith)
+  within = run_within c.args.x k d c.ranges.x.fits (omega arith)
 
   small : 2 ^ d ≤ 2 ^ 12
   small = let l : d ≤ 12 = omega arith in pow_mono l
 
-  from : c.before.top-bits.result * c.two_to.result ≡ v * 2 ^ (d - k)
-  from = ap₂ ◌*◌ c.before.top-bits.ensures c.two_to.ensures
+  from : c.top_bits-v.result * c.two_to-w.result ≡ v * 2 ^ (d - k)
+  from = ap₂ ◌*◌ c.top_bits-v.ensures c.two_to-w.ensures
 
-top-bits-requires : tie.Need-top-bits-requires
+top-bits-requires : tie.Need-top_bits-v-requires
 top-bits-requires c κs = search rules
 
-sub-two-to : tie.Need-overflow-sub-two-to
+sub-two-to : tie.Need-overflow_sub-d
 sub-two-to c = search rules
 
-two-to-requires : tie.Need-two-to-requires
+two-to-requires : tie.Need-two_to-w-requires
 two-to-requires c κs = search rules
 
-mul-from : tie.Need-overflow-mul-from
+mul-from : tie.Need-overflow_mul-from
 mul-from c = record { fits = omega (arith, from c, within c, small c) }
 
-add-t9 : tie.Need-overflow-add-t9
-add-t9 c = record { fits = omega (arith, from c, c.two_to.ensures, within c, small c) }
+add-t9 : tie.Need-overflow_add-result
+add-t9 c = record { fits = omega (arith, from c, c.two_to-w.ensures, within c, small c) }
 
 returns : tie.Need-returns
 unfolding first after
 returns c =
     let e = from c in
-    let w = c.two_to.ensures in
+    let w = c.two_to-w.ensures in
     (e, omega (arith, e, w, add-mul (v c) 1 (2 ^ (d c - k c)), one-mul (2 ^ (d c - k c))), omega arith, omega (arith, e, w, within c))
 
 pub run_of_spec : {M : Type 1} → statement M

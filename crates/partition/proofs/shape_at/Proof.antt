@@ -1,6 +1,5 @@
 -- `partition::shape_at` meets its contract: one computed test over each array. Assumes nothing.
 use mathlib.Core.Path.{◌≡◌}
-use mathlib.Core.Bool.{Bool}
 use mathlib.Core.List.{List, [], ◌∷◌}
 use Prim.Native.Nat.{ℕ, ◌<◌}
 use lib.Dec.{T, eqb, eqb→eq}
@@ -12,23 +11,14 @@ use borrow.Author.Rules.{rules}
 use Rattle.partition.proofs.shape_at.Statement.{statement}
 use Rattle.partition.proofs.shape_at.Tie as tie
 
-mul-t3 : tie.Need-overflow-mul-t3
+mul-t3 : tie.Need-offset_bounds-i
 mul-t3 c = search rules
 
-array-read-t6 : tie.Need-array-read-t6
-array-read-t6 c = search rules
-
-mul-t8 : tie.Need-overflow-mul-t8
+mul-t8 : tie.Need-offset_bounds-i-2
 mul-t8 c = search rules
 
-array-read-t11 : tie.Need-array-read-t11
-array-read-t11 c = search rules
-
-mul-t13 : tie.Need-overflow-mul-t13
+mul-t13 : tie.Need-offset_bounds-i-3
 mul-t13 c = search rules
-
-array-read-t16 : tie.Need-array-read-t16
-array-read-t16 c = search rules
 
 -- the arrays
 abbrev capacities : List ℕ
@@ -54,6 +44,14 @@ returns c =
       deepest = column (λ S. S.deepest) depths tt i (search rules) j;
     }
 
+bounds-i : tie.Need-bounds-i
+bounds-i c = search rules
+
+bounds-i-2 : tie.Need-bounds-i-2
+bounds-i-2 c = search rules
+
+bounds-i-3 : tie.Need-bounds-i-3
+bounds-i-3 c = search rules
+
 pub shape_at_spec : {M : Type 1} → statement M
-shape_at_spec =
-    tie.close (tie.spec mul-t3 array-read-t6 mul-t8 array-read-t11 mul-t13 array-read-t16 returns)
+shape_at_spec = tie.close (tie.spec mul-t3 bounds-i mul-t8 bounds-i-2 mul-t13 bounds-i-3 returns)

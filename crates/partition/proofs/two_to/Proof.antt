@@ -8,7 +8,7 @@ use lib.Pow.{shl_exact}
 use Rattle.partition.proofs.two_to.Statement.{statement}
 use Rattle.partition.proofs.two_to.Tie as tie
 
-shl-result : tie.Need-overflow-shl-result
+shl-result : tie.Need-overflow_shl-result
 shl-result c = search rules
 
 returns : tie.Need-returns

@@ -20,63 +20,63 @@ use Rattle.query.proofs.count.Statement.{statement}
 use Rattle.query.proofs.count.Tie as tie
 
 -- past the length
-module _ (c : tie.After-struct-known) where
+module _ (c : tie.After-struct_known-1) where
   abbrev store : List ℕ
-  store = c.before.before.before.before.before.before.args.s.now
+  store = c.args.s.now
 
   abbrev z : Shape
-  z = c.before.before.z.given.0.0
+  z = c.in-Of.z
 
   said : (z ≡ shape_of store) × GoodLength z store
-  said = subst (SaidShape store) c.before.before.z.given.1 c.before.before.before.before.said-shape.ensures
+  said = subst (SaidShape store) c.in-Of.is c.said_shape.ensures
 
   sized : Sized z
   sized = said_sized store z said.0
 
-said-shape-requires : tie.Need-said-shape-requires
+said-shape-requires : tie.Need-said_shape-requires
 said-shape-requires c κs = search rules
 
-enum-known-z : tie.Need-enum-known-z
+enum-known-z : tie.Need-enum_known-z
 enum-known-z c = search rules
 
-enum_told : tie.Need-enum-told
+enum_told : tie.Need-enum_told-1
 enum_told c = search rules
 
-returns : tie.Need-returns
+returns : tie.Need-returns-in_default
 unfolding count_table
-returns c = let f = c.before.before in
-    inl (tt, (subst (SaidShape f.before.before.args.s.now) c.enum_told.given.1 f.said-shape.ensures, refl))
+returns c = let f = c in
+    inl (tt, (subst (SaidShape f.args.s.now) c.in_default.is f.said_shape.ensures, refl))
 
-add-n : tie.Need-overflow-add-n
+add-n : tie.Need-overflow_add-n
 add-n c = omega (arith, (sized c).most)
 
-div-n : tie.Need-nonzero-div-n
+div-n : tie.Need-nonzero_div-n
 div-n c = search rules
 
-first-bad-requires : tie.Need-first-bad-requires
+first-bad-requires : tie.Need-first_bad-p-requires
 first-bad-requires c κs = said c
 
-returns-2 : tie.Need-returns-2
+returns-2 : tie.Need-returns-then-p-n
 unfolding count_table
 returns-2 c =
-    let f = c.before in
-    let k = f.before in
-    subst (λ S. Answers (count_table S fnv (store k)) (refused_at 2 f.first-bad.result)) (said k).0
-    (inr ((λ _ n. n (said k).1), inl (f.first-bad.result, (f.first-bad.ensures.bad c.if1.true, refl))))
+    let f = c in
+    let k = f in
+    subst (λ S. Answers (count_table S fnv (store k.before.before)) (refused_at 2 f.first_bad-p.result)) (said k.before.before).0
+    (inr ((λ _ n. n (said k.before.before).1), inl (f.first_bad-p.result, (f.first_bad-p.ensures.bad c.if-p-n.true, refl))))
 
-rows-counted-requires : tie.Need-rows-counted-requires
+rows-counted-requires : tie.Need-rows_counted-requires
 rows-counted-requires c κs =
-    let k = c.before.before in
-    omega (arith, within (z k) (store k) 0 (omega (arith, (said k).1.least)), (sized k).least)
+    let k = c in
+    omega (arith, within (z k.before.before) (store k.before.before) 0 (omega (arith, (said k.before.before).1.least)), (sized k.before.before).least)
 
-returns-3 : tie.Need-returns-3
+returns-3 : tie.Need-returns
 unfolding count_table
 returns-3 c =
-    let f = c.before.before in
-    let k = f.before in
-    let a = f.first-bad.ensures.sound c.before.if1.false in
-    subst (λ S. Answers (count_table S fnv (store k)) (counted c.rows-counted.result)) (said k).0
-    (inr ((λ _ n. n (said k).1), inr (accepted_whole _ fnv _ a, (a, ap counted (c.rows-counted.ensures ∙ (opened _ fnv _ a).counts.rows)))))
+    let f = c in
+    let k = f in
+    let a = f.first_bad-p.ensures.sound c.if-p-n.false in
+    subst (λ S. Answers (count_table S fnv (store k.before.before.before)) (counted c.rows_counted.result)) (said k.before.before.before).0
+    (inr ((λ _ n. n (said k.before.before.before).1), inr (accepted_whole _ fnv _ a, (a, ap counted (c.rows_counted.ensures ∙ (opened _ fnv _ a).counts.rows)))))
 
 pub count_spec : {M : Type 1} → statement M
 count_spec =

@@ -23,9 +23,9 @@ use Rattle.query.proofs.lookup.Statement.{statement}
 use Rattle.query.proofs.lookup.Tie as tie
 
 -- past the length
-module _ (c : tie.After-known-told) where
+module _ (c : tie.In-Of) where
   abbrev start : tie.Start
-  start = c.before.before.before.before.before.before
+  start = c.before.before.before.before
 
   abbrev store : List ℕ
   store = start.args.s.now
@@ -34,76 +34,76 @@ module _ (c : tie.After-known-told) where
   key = start.args.key.now
 
   abbrev z : Shape
-  z = c.before.z.given.0.0
+  z = c.in-Of.z
 
   said : (z ≡ shape_of store) × GoodLength z store
-  said = subst (SaidShape store) c.before.z.given.1 c.before.before.before.said-shape.ensures
+  said = subst (SaidShape store) c.in-Of.is c.said_shape.ensures
 
   sized : Sized z
   sized = said_sized store z said.0
 
 -- past the door
-module _ (c : tie.Else1) where
-  abbrev first : tie.After-known-told
+module _ (c : tie.Else-not-good_code) where
+  abbrev first : tie.In-Of
   first = c.before.before
 
   good : GoodCode (key first)
-  good = says_true {P = GoodCode (key first)} c.before.good-code.result (not-false _ c.if1.false) c.before.good-code.ensures
+  good = says_true {P = GoodCode (key first)} c.good_code.result (not-false _ c.if-not-good_code.false-raw) c.good_code.ensures
 
-said-shape-requires : tie.Need-said-shape-requires
+said-shape-requires : tie.Need-said_shape-requires
 said-shape-requires c κs = search rules
 
-enum-known-z : tie.Need-enum-known-z
+enum-known-z : tie.Need-enum_known-z
 enum-known-z c = search rules
 
-enum_told : tie.Need-enum-told
+enum_told : tie.Need-enum_told-1
 enum_told c = search rules
 
-returns : tie.Need-returns
+returns : tie.Need-returns-in_default
 unfolding lookup_table
-returns c = let f = c.before.before in
-    inl (tt, (subst (SaidShape f.before.before.before.args.s.now) c.enum_told.given.1 f.said-shape.ensures, refl))
+returns c = let f = c in
+    inl (tt, (subst (SaidShape f.args.s.now) c.in_default.is f.said_shape.ensures, refl))
 
-good-code-requires : tie.Need-good-code-requires
+good-code-requires : tie.Need-good_code-requires
 good-code-requires c κs = search rules
 
-returns-2 : tie.Need-returns-2
+returns-2 : tie.Need-returns-then-not-good_code
 unfolding lookup_table
 returns-2 c =
-    let k = c.before.before in
-    let bad : GoodCode (key k) → ⊥ = says_false {P = GoodCode (key k)} c.before.good-code.result (not-true _ c.if1.true) c.before.good-code.ensures in
-    inr ((λ _ n. n (subst (λ S. GoodLength S (store k)) (said k).0 (said k).1)), inl (tt, (three (key k) bad, refl)))
+    let k = c in
+    let bad : GoodCode (key k.before.before) → ⊥ = says_false {P = GoodCode (key k.before.before)} c.good_code.result (not-true _ c.if-not-good_code.true-raw) c.good_code.ensures in
+    inr ((λ _ n. n (subst (λ S. GoodLength S (store k.before.before)) (said k.before.before).0 (said k.before.before).1)), inl (tt, (three (key k.before.before) bad, refl)))
 
-first-bad-requires : tie.Need-first-bad-requires
+first-bad-requires : tie.Need-first_bad-p-requires
 first-bad-requires c κs = said (first c)
 
-add-if2 : tie.Need-overflow-add-if2
+add-if2 : tie.Need-overflow_add-z
 add-if2 c = omega (arith, (sized (first c.before.before)).most)
 
-div-if2 : tie.Need-nonzero-div-if2
+div-if2 : tie.Need-nonzero_div-s
 div-if2 c = search rules
 
-returns-3 : tie.Need-returns-3
+returns-3 : tie.Need-returns-then-p-s
 unfolding lookup_table
 returns-3 c =
-    let f = c.before.before in
-    let d = f.before in
-    let k = first d in
-    subst (λ S. Answers (lookup_table S fnv (store k) (key k)) (refused_at 2 f.first-bad.result)) (said k).0
-    (inr ((λ _ n. n (said k).1), inr ((λ _ r. no_three _ (good d) r), inl (f.first-bad.result, (f.first-bad.ensures.bad c.if2.true, refl)))))
+    let f = c in
+    let d = f in
+    let k = first d.before.before.before in
+    subst (λ S. Answers (lookup_table S fnv (store k) (key k)) (refused_at 2 f.first_bad-p.result)) (said k).0
+    (inr ((λ _ n. n (said k).1), inr ((λ _ r. no_three _ (good d.before.before.before) r), inl (f.first_bad-p.result, (f.first_bad-p.ensures.bad c.if-p-s.true, refl)))))
 
-place-given-requires : tie.Need-place-given-requires
-place-given-requires c κs = let f = c.before.before in record { sized = sized (first f.before); accepted = f.first-bad.ensures.sound c.if2.false; good = good f.before }
+place-given-requires : tie.Need-place_given-requires
+place-given-requires c κs = let f = c in record { sized = sized (first f.before.before.before); accepted = f.first_bad-p.ensures.sound c.if-p-s.false; good = good f.before.before.before }
 
-returns-4 : tie.Need-returns-4
+returns-4 : tie.Need-returns
 unfolding lookup_table
 returns-4 c =
-    let f = c.before.before.before in
-    let d = f.before in
-    let k = first d in
-    let a = f.first-bad.ensures.sound c.before.if2.false in
-    subst (λ S. Answers (lookup_table S fnv (store k) (key k)) (meaning c.place-given.result)) (said k).0
-    (inr ((λ _ n. n (said k).1), inr ((λ _ r. no_three _ (good d) r), inr (accepted_whole _ fnv _ a, (a, c.place-given.ensures)))))
+    let f = c in
+    let d = f in
+    let k = first d.before.before.before.before in
+    let a = f.first_bad-p.ensures.sound c.if-p-s.false in
+    subst (λ S. Answers (lookup_table S fnv (store k) (key k)) (meaning c.place_given.result)) (said k).0
+    (inr ((λ _ n. n (said k).1), inr ((λ _ r. no_three _ (good d.before.before.before.before) r), inr (accepted_whole _ fnv _ a, (a, c.place_given.ensures)))))
 
 pub lookup_spec : {M : Type 1} → statement M
 lookup_spec =

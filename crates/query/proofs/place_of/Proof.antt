@@ -20,69 +20,69 @@ use Rattle.query.proofs.place_of.Statement.{statement}
 use Rattle.query.proofs.place_of.Tie as tie
 
 -- where the row was found
-module _ (b : tie.After-p) where
+module _ (b : tie.In-Here) where
   abbrev S : Shape
-  S = b.before.before.before.before.before.before.args.z
+  S = b.args.z
 
   abbrev store : List ℕ
-  store = b.before.before.before.before.before.before.args.s.now
+  store = b.args.s.now
 
   abbrev key : List ℕ
-  key = b.before.before.before.before.before.before.args.key.now
+  key = b.args.key.now
 
   abbrev page_no : ℕ
-  page_no = b.p.given.0.0
+  page_no = b.in-Here.p
 
   abbrev slot_no : ℕ
-  slot_no = b.p.given.0.1.0
+  slot_no = b.in-Here.i
 
   here : StandsAt S store key (Here page_no slot_no)
-  here = subst (StandsAt S store key) b.p.given.1 b.before.before.find-row.ensures
+  here = subst (StandsAt S store key) b.in-Here.is b.find_row.ensures
 
 hash-requires : tie.Need-hash-requires
 hash-requires c κs = search rules
 
-find-row-requires : tie.Need-find-row-requires
-find-row-requires c κs = let z = c.before.before.before in record { sized = z.requires.0; accepted = z.requires.1; hash = c.hash.ensures }
+find-row-requires : tie.Need-find_row-requires
+find-row-requires c κs = let z = c in record { sized = z.requires.0; accepted = z.requires.1; hash = c.hash.ensures }
 
-enum-known-p : tie.Need-enum-known-p
+enum-known-p : tie.Need-enum_known-p
 enum-known-p c = search rules
 
-add-size : tie.Need-overflow-add-size
-add-size c = omega (arith, (here c.before.before).0.within)
+add-size : tie.Need-overflow_add-size
+add-size c = omega (arith, (here c.before).0.within)
 
-mul-a : tie.Need-overflow-mul-a
-mul-a c = omega (arith, (here c.before.before).0.within)
+mul-a : tie.Need-overflow_mul-a
+mul-a c = omega (arith, (here c.before).0.within)
 
-add-e : tie.Need-overflow-add-e
-add-e c = omega (arith, (here c.before.before).0.within)
+add-e : tie.Need-overflow_add-e
+add-e c = omega (arith, (here c.before).0.within)
 
-sub-read-place : tie.Need-overflow-sub-read-place
+sub-read-place : tie.Need-slice_bounds-read_place-count
 sub-read-place c = search rules
 
-part-read-place-start : tie.Need-slice-bounds-read-place-start
+part-read-place-start : tie.Need-slice_bounds-read_place-start
 part-read-place-start c = search rules
 
-part-read-place-end : tie.Need-slice-bounds-read-place-end
-part-read-place-end c = omega (arith, (here c.before.before).0.within)
+part-read-place-end : tie.Need-slice_bounds-read_place-end
+part-read-place-end c = omega (arith, (here c.before).0.within)
 
-read-place-requires : tie.Need-read-place-requires
-read-place-requires c κs = let b = c.before.before.before in
-    let w = (here b).0 in
-    rw (page_lent (S b) (store b) (page_no b)) (w.rules.rules, omega (arith, w.slot))
+read-place-requires : tie.Need-read_place-requires
+read-place-requires c κs = let b = c in
+    let w = (here b.before.before).0 in
+    rw (page_lent (S b.before.before) (store b.before.before) (page_no b.before.before)) (w.rules.rules, omega (arith, w.slot))
 
-enum_told : tie.Need-enum-told
+enum_told : tie.Need-enum_told-1
 enum_told c = search rules
 
-returns : tie.Need-returns
-returns c = let b = c.before.before.before.before in
-    let e : c.read-place.result ≡ Places.place_from (place (page (S b) (store b) (page_no b)) (slot_no b)) =
-    c.read-place.ensures ∙ ap (λ g. Places.place_from (place g (slot_no b))) (page_lent (S b) (store b) (page_no b)) in
-    inl (place (page (S b) (store b) (page_no b)) (slot_no b), ((here b).2, ap found e))
+returns : tie.Need-returns-in-Here
+returns c = let b = c in
+    let e : c.read_place.result ≡ Places.place_from (place (page (S b.before.before.before) (store b.before.before.before) (page_no b.before.before.before)) (slot_no b.before.before.before)) =
+    c.read_place.ensures ∙ ap (λ g. Places.place_from (place g (slot_no b.before.before.before))) (page_lent (S b.before.before.before) (store b.before.before.before) (page_no b.before.before.before)) in
+    inl (place (page (S b.before.before.before) (store b.before.before.before) (page_no b.before.before.before)) (slot_no b.before.before.before), ((here b.before.before.before).2, ap found e))
 
-returns-2 : tie.Need-returns-2
-returns-2 c = let f = c.before.before in
-    let e : place_of _ _ ≡ none = subst (StandsAt _ _ _) c.enum_told.given.1 f.find-row.ensures in
+returns-2 : tie.Need-returns-in-Nowhere
+returns-2 c = let f = c in
+    let e : place_of _ _ ≡ none = subst (StandsAt _ _ _) c.in-Nowhere.is f.find_row.ensures in
     inr ((λ b q. none_some e q), refl)
 
 pub place_of_spec : {M : Type 1} → statement M

@@ -15,55 +15,55 @@ use Rattle.query.proofs.read_row.Tie as tie
 on : (b : tie.Start) → OnPage b.args.z b.args.s.now b.args.p b.args.i
 on b = b.requires.0
 
-add-size : tie.Need-overflow-add-size
+add-size : tie.Need-overflow_add-size
 add-size c = omega (arith, (on c.before.before.before).within)
 
-mul-a : tie.Need-overflow-mul-a
+mul-a : tie.Need-overflow_mul-a
 mul-a c = omega (arith, (on c.before.before.before).within)
 
-add-e : tie.Need-overflow-add-e
+add-e : tie.Need-overflow_add-e
 add-e c = omega (arith, (on c.before.before.before).within)
 
-sub-read-code : tie.Need-overflow-sub-read-code
+sub-read-code : tie.Need-slice_bounds-read_code-count
 sub-read-code c = search rules
 
-part-read-code-start : tie.Need-slice-bounds-read-code-start
+part-read-code-start : tie.Need-slice_bounds-read_code-start
 part-read-code-start c = search rules
 
-part-read-code-end : tie.Need-slice-bounds-read-code-end
+part-read-code-end : tie.Need-slice_bounds-read_code-end
 part-read-code-end c = omega (arith, (on c.before.before.before).within)
 
-read-code-requires : tie.Need-read-code-requires
-read-code-requires c κs = let b = c.before.before.before.before.before in
-    let w = on b in
+read-code-requires : tie.Need-read_code-len-requires
+read-code-requires c κs = let b = c in
+    let w = on b.before.before.before.before.before in
     rw (page_lent b.args.z b.args.s.now b.args.p) (record { page = w.rules.rules; within = w.slot; room = b.requires.1 })
 
-sub-read-place : tie.Need-overflow-sub-read-place
+sub-read-place : tie.Need-slice_bounds-read_place-count
 sub-read-place c = search rules
 
-part-read-place-start : tie.Need-slice-bounds-read-place-start
+part-read-place-start : tie.Need-slice_bounds-read_place-start
 part-read-place-start c = search rules
 
-part-read-place-end : tie.Need-slice-bounds-read-place-end
+part-read-place-end : tie.Need-slice_bounds-read_place-end
 part-read-place-end c = omega (arith, (on c.before.before.before.before.before.before.before.before).within)
 
-read-place-requires : tie.Need-read-place-requires
-read-place-requires c κs = let b = c.before.before.before.before.before.before.before.before.before in
-    let w = on b in
+read-place-requires : tie.Need-read_place-requires
+read-place-requires c κs = let b = c in
+    let w = on b.before.before.before.before.before.before.before.before.before in
     rw (page_lent b.args.z b.args.s.now b.args.p) (w.rules.rules, w.slot)
 
-same_length : tie.Need-same-length
+same_length : tie.Need-shape_of-out
 same_length c = search rules
 
 returns : tie.Need-returns
 returns c =
-    let d = c.before.before.before.before in
-    let b = d.before.before.before.before.before.before in
+    let d = c in
+    let b = d in
     let i = b.args.i in
     let g = page b.args.z b.args.s.now b.args.p in
     let l = page_lent b.args.z b.args.s.now b.args.p in
-    let k : CodeOut g i _ d.read-code.result d.read-code.new.1.1.0 = rw l at d.read-code.ensures in
-    let e : c.read-place.result ≡ Places.place_from (place g i) = c.read-place.ensures ∙ ap (λ q. Places.place_from (place q i)) l in
+    let k : CodeOut g i _ d.read_code-len.result d.read_code-len.new.out = rw l at d.read_code-len.ensures in
+    let e : c.read_place.result ≡ Places.place_from (place g i) = c.read_place.ensures ∙ ap (λ q. Places.place_from (place q i)) l in
     λ m. (row (k.size m) (e m), k.wrote m)
 
 pub read_row_spec : {M : Type 1} → statement M

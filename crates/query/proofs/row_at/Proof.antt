@@ -19,9 +19,9 @@ use Rattle.query.proofs.row_at.Statement.{statement}
 use Rattle.query.proofs.row_at.Tie as tie
 
 -- past the length
-module _ (c : tie.After-known-told) where
+module _ (c : tie.In-Of) where
   abbrev start : tie.Start
-  start = c.before.before.before.before.before.before
+  start = c.before.before.before.before
 
   abbrev store : List ℕ
   store = start.args.s.now
@@ -30,10 +30,10 @@ module _ (c : tie.After-known-told) where
   output = start.args.out.now
 
   abbrev z : Shape
-  z = c.before.z.given.0.0
+  z = c.in-Of.z
 
   said : (z ≡ shape_of store) × GoodLength z store
-  said = subst (SaidShape store) c.before.z.given.1 c.before.before.before.said-shape.ensures
+  said = subst (SaidShape store) c.in-Of.is c.said_shape.ensures
 
   long : GoodLength (shape_of store) store
   long = subst (λ S. GoodLength S store) said.0 said.1
@@ -41,61 +41,61 @@ module _ (c : tie.After-known-told) where
   sized : Sized z
   sized = said_sized store z said.0
 
-said-shape-requires : tie.Need-said-shape-requires
+said-shape-requires : tie.Need-said_shape-requires
 said-shape-requires c κs = search rules
 
-enum-known-z : tie.Need-enum-known-z
+enum-known-z : tie.Need-enum_known-z
 enum-known-z c = search rules
 
-enum_told : tie.Need-enum-told
+enum_told : tie.Need-enum_told-1
 enum_told c = search rules
 
-returns : tie.Need-returns
+returns : tie.Need-returns-in_default
 unfolding row_table
-returns c = let f = c.before.before in
-    inl (tt, (subst (SaidShape f.before.before.before.args.s.now) c.enum_told.given.1 f.said-shape.ensures, refl))
+returns c = let f = c in
+    inl (tt, (subst (SaidShape f.args.s.now) c.in_default.is f.said_shape.ensures, refl))
 
-returns-2 : tie.Need-returns-2
+returns-2 : tie.Need-returns-then-out-lt64
 unfolding row_table
-returns-2 c = inr ((λ _ n. n (long c.before)), inl (tt, (c.if1.true, refl)))
+returns-2 c = inr ((λ _ n. n (long c.before)), inl (tt, (c.if-out-lt64.true, refl)))
 
-first-bad-requires : tie.Need-first-bad-requires
+first-bad-requires : tie.Need-first_bad-p-requires
 first-bad-requires c κs = said c.before
 
-add-if2 : tie.Need-overflow-add-if2
+add-if2 : tie.Need-overflow_add-z
 add-if2 c = omega (arith, (sized c.before.before.before).most)
 
-div-if2 : tie.Need-nonzero-div-if2
+div-if2 : tie.Need-nonzero_div-s
 div-if2 c = search rules
 
-returns-3 : tie.Need-returns-3
+returns-3 : tie.Need-returns-then-p-s
 unfolding row_table
 returns-3 c =
-    let f = c.before.before in
-    let d = f.before in
-    let k = d.before in
-    subst (λ S. Answers (row_table S fnv (store k) (start k).args.n (output k)) (refused_at 2 f.first-bad.result, output k)) (said k).0
-    (inr ((λ _ n. n (said k).1), inr ((λ _ l. omega (arith, d.if1.false)), inl (f.first-bad.result, (f.first-bad.ensures.bad c.if2.true, refl)))))
+    let f = c in
+    let d = f in
+    let k = d in
+    subst (λ S. Answers (row_table S fnv (store k.before.before.before.before) (start k.before.before.before.before).args.n (output k.before.before.before.before)) (refused_at 2 f.first_bad-p.result, output k.before.before.before.before)) (said k.before.before.before.before).0
+    (inr ((λ _ n. n (said k.before.before.before.before).1), inr ((λ _ l. omega (arith, d.if-out-lt64.false)), inl (f.first_bad-p.result, (f.first_bad-p.ensures.bad c.if-p-s.true, refl)))))
 
-give-row-requires : tie.Need-give-row-requires
+give-row-requires : tie.Need-give_row-requires
 give-row-requires c κs =
-    let f = c.before.before.before in
-    record { sized = sized f.before.before; accepted = f.first-bad.ensures.sound c.before.if2.false; room = f.before.if1.false }
+    let f = c in
+    record { sized = sized f.before.before.before.before.before; accepted = f.first_bad-p.ensures.sound c.if-p-s.false; room = f.if-out-lt64.false }
 
-same_length : tie.Need-same-length
+same_length : tie.Need-shape_of-out
 same_length c = search rules
 
-returns-4 : tie.Need-returns-4
+returns-4 : tie.Need-returns
 unfolding row_table
 returns-4 c =
-    let g = c.before.before in
-    let e = g.before.before in
-    let f = e.before.before in
-    let d = f.before in
-    let k = d.before in
-    let a = f.first-bad.ensures.sound e.if2.false in
-    subst (λ S. Answers (row_table S fnv (store k) (start k).args.n (output k)) (meaning g.give-row.result, g.give-row.new.1.1.1.0)) (said k).0
-    (inr ((λ _ n. n (said k).1), inr ((λ _ l. omega (arith, d.if1.false)), inr (accepted_whole _ fnv _ a, (a, g.give-row.ensures)))))
+    let g = c in
+    let e = g in
+    let f = e in
+    let d = f in
+    let k = d in
+    let a = f.first_bad-p.ensures.sound e.if-p-s.false in
+    subst (λ S. Answers (row_table S fnv (store k.before.before.before.before.before.before.before.before) (start k.before.before.before.before.before.before.before.before).args.n (output k.before.before.before.before.before.before.before.before)) (meaning g.give_row.result, g.give_row.new.out)) (said k.before.before.before.before.before.before.before.before).0
+    (inr ((λ _ n. n (said k.before.before.before.before.before.before.before.before).1), inr ((λ _ l. omega (arith, d.if-out-lt64.false)), inr (accepted_whole _ fnv _ a, (a, g.give_row.ensures)))))
 
 pub row_at_spec : {M : Type 1} → statement M
 row_at_spec =

@@ -13,7 +13,6 @@ use Rattle.words.specs.Le.{le16, le32}
 use Rattle.ground.proofs.Sides.{side}
 use Rattle.ground.proofs.Parts.{byte_part}
 use Rattle.ground.specs.Lists.{tab}
-use Rattle.page.specs.Page.{depth}
 use Rattle.partition.specs.declared.Shape.{Shape}
 use Rattle.partition.specs.Sizes.{number_of_size}
 use Rattle.partition.proofs.Sizes.{number_small}

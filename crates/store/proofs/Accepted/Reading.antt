@@ -7,7 +7,7 @@ use native.Mathlib.Omega.{arith}
 use lib.ListN.{length, get_or, get_elem?, length-append, length-map}
 use Rattle.ground.specs.Lists.{tab, total}
 use Rattle.ground.proofs.Tables.{length_tab, tab_map}
-use Rattle.page.specs.Page.{Record, BucketPage, depth, count, code, place, rows, row_at}
+use Rattle.page.specs.Page.{Record, BucketPage, depth, count, rows, row_at}
 use Rattle.partition.specs.Bits.{top}
 use Rattle.partition.specs.declared.Shape.{Shape}
 use Rattle.partition.specs.Partition.{Row, rows_of}

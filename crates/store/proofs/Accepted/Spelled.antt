@@ -1,5 +1,5 @@
 -- Rows whose codes have no capital: those of an accepted store, with a row more, and with one less. Assumes nothing.
-use mathlib.Core.Path.{◌≡◌, sym, subst, ap, ◌∙◌}
+use mathlib.Core.Path.{sym, subst}
 use mathlib.Core.List.{List, ◌∷◌, map, Memᴰ}
 use Prim.Native.Nat.{ℕ, ◌+◌, ◌<◌}
 use Rattle.words.specs.Folds.{Folded}

@@ -9,7 +9,7 @@ use lib.ListN.{length, get_or, set, length-append, length-map}
 use Rattle.ground.proofs.Sides.{side}
 use Rattle.page.specs.Page.{Record}
 use Rattle.partition.specs.Partition.{Row}
-use Rattle.store.specs.Pages.{Page, free, bucket, as_row, rows_on, rows_in, depth_on, deepest_in}
+use Rattle.store.specs.Pages.{Page, free, bucket, as_row, rows_on, rows_in, deepest_in}
 use Rattle.store.specs.Moves.{find, is_free, frees, written, place_on, overwrite_on, overwritten}
 use Rattle.store.specs.Counts.{one_at, buckets_at}
 use Rattle.store.proofs.Counts.Ones.{Ones, ones}

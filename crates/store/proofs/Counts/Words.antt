@@ -9,7 +9,6 @@ use Rattle.ground.specs.Lists.{byte, tab}
 use Rattle.words.specs.Le.{le32}
 use Rattle.words.proofs.Bytes.{le32_same}
 use Rattle.partition.specs.declared.Shape.{Shape}
-use Rattle.page.specs.Page.{Record}
 use Rattle.store.specs.Pages.{Page, free, bucket, contents}
 use Rattle.store.specs.Counts.{one_at, buckets_at, counted, Counts}
 use Rattle.store.proofs.Counts.Ones.{ones, Ones}

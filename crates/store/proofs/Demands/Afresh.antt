@@ -10,13 +10,12 @@ use Rattle.ground.specs.Lists.{tab}
 use Rattle.ground.proofs.Tables.{tab_same}
 use Rattle.partition.specs.declared.Shape.{Shape}
 use Rattle.partition.specs.Partition.{Prefix, buckets, depth_of, entry}
-use Rattle.store.specs.Pages.{pages, page, dir_depth, entry_at, free, contents, rows_held}
+use Rattle.store.specs.Pages.{pages, dir_depth, entry_at, free, contents, rows_held}
 use Rattle.store.specs.Demands.{Sized, Hash, seen, named, directory, seen_afresh, afresh, AfreshAlways, PutIsMap, RemoveIsMap, SameRefusals}
 use Rattle.store.proofs.Accepted.Rules.{Opened, opened}
 use Rattle.store.proofs.Showing.Shows.{Shows}
 use Rattle.store.proofs.Showing.Shown.{within_pages}
 use Rattle.store.proofs.Accepted.Unique.{held}
-use Rattle.store.proofs.Counts.Bits.{bits_counted}
 use Rattle.store.proofs.Showing.Showing.{pages_held, accepted_shows}
 use Rattle.store.proofs.Accepted.Named.{Entry, nothing, names, deep_small, shown_depth, entry_page, entry_free, accepted_entry}
 use Rattle.store.proofs.Demands.Plan.{AcceptedIsAfresh, PutRows, OverRows, RemoveRows, afresh_always, put_is_map, remove_is_map}
@@ -60,13 +59,8 @@ module _ (S : Shape) (h : List ℕ → ℕ) (sized : Sized S) (hash : Hash h) wh
   pub accepted_afresh : AcceptedIsAfresh S h
   accepted_afresh s a =
       let w = accepted_shows S h sized hash s a in
-      let T = opened S h s a in (
-        w.once,
-        depth_afresh S h sized hash s T w,
-        directory_afresh S h sized hash s T w,
-        T.counts.rows,
-        λ k l. T.counts.buckets k l ∙ bits_counted S h hash (rows_held S s) (contents S s) w k,
-      )
+      let T = opened S h s a in
+      (w.once, depth_afresh S h sized hash s T w, directory_afresh S h sized hash s T w)
 
   pub overwritten_rows : OverRows S h
   overwritten_rows s r old a e = (over_shown S h sized hash s r old a e).same
@@ -74,13 +68,13 @@ module _ (S : Shape) (h : List ℕ → ℕ) (sized : Sized S) (hash : Hash h) wh
   -- what is left: the rows after a put of a new code, and after a remove
   module _ (puts : PutRows S h) (removes : RemoveRows S h) where
     pub always_afresh : AfreshAlways S h
-    always_afresh = afresh_always S h sized hash puts overwritten_rows removes accepted_afresh
+    always_afresh = afresh_always S h sized puts overwritten_rows removes accepted_afresh
 
     pub put_map : PutIsMap S h
-    put_map = put_is_map S h sized hash accepted_afresh puts overwritten_rows removes
+    put_map = put_is_map S h sized accepted_afresh puts overwritten_rows removes
 
     pub remove_map : RemoveIsMap S h
-    remove_map = remove_is_map S h sized hash accepted_afresh puts overwritten_rows removes
+    remove_map = remove_is_map S h sized accepted_afresh puts overwritten_rows removes
 
     pub next_put_same : SameRefusals S h
     next_put_same = same_refusals S h always_afresh

@@ -30,7 +30,7 @@ use Rattle.store.proofs.Remove.Rejoined.{Rejoined, rejoined}
 -- ---- from a list of pages to a store
 
 module _ (S : Shape) (h : List ℕ → ℕ) (s : List ℕ) where
-  pub has : (p : ℕ) (x : Prefix) → On S h s p x → Has h (contents S s) (p - 2) x
+  has : (p : ℕ) (x : Prefix) → On S h s p x → Has h (contents S s) (p - 2) x
   has p x o = go (read (page S s p)) (held S s p o.least o.below) o.is
     where
       go : (g : Page) → get_or (contents S s) (p - 2) free ≡ g → prefix_of h g ≡ some x → Has h (contents S s) (p - 2) x
@@ -41,10 +41,10 @@ module _ (S : Shape) (h : List ℕ → ℕ) (s : List ℕ) where
           let b : k ≡ x.bits = ap (λ p. p.bits) y in
           (r ∷ rs, e ∙ ap (λ n. bucket n (r ∷ rs)) b, ap (λ n. prefix_on h n (r ∷ rs)) (sym b) ∙ ap (λ p. p.value) y)
 
-  pub free_page : (p : ℕ) → Free S s p → get_or (contents S s) (p - 2) free ≡ free
+  free_page : (p : ℕ) → Free S s p → get_or (contents S s) (p - 2) free ≡ free
   free_page p f = held S s p f.least f.below ∙ f.is
 
-  pub page_free : (p : ℕ) → 2 ≤ p → p < pages S s → get_or (contents S s) (p - 2) free ≡ free → Free S s p
+  page_free : (p : ℕ) → 2 ≤ p → p < pages S s → get_or (contents S s) (p - 2) free ≡ free → Free S s p
   page_free p a b e = record { least = a; below = b; is = sym (held S s p a b) ∙ e }
 
   module _ (w : Shows S h (rows_held S s) (contents S s)) where
@@ -55,12 +55,12 @@ module _ (S : Shape) (h : List ℕ → ℕ) (s : List ℕ) where
         some_row [] l v = absurd (omega arith)
         some_row (r ∷ rs) l v = ap (λ n. some (pfx x.bits n)) v
 
-    pub at : (i : ℕ) (x : Prefix) → Has h (contents S s) i x → On S h s (i + 2) x
+    at : (i : ℕ) (x : Prefix) → Has h (contents S s) i x → On S h s (i + 2) x
     at i x u =
         let q : i + 2 - 2 ≡ i = omega arith in
         on (i + 2) x (omega arith) (omega (arith, within_pages (contents S s) i x.bits u.0 u.1, pages_held S s)) (subst (λ n. Has h (contents S s) n x) (sym q) u)
 
-    pub bucket_or : (p : ℕ) → 2 ≤ p → p < pages S s → (get_or (contents S s) (p - 2) free ≡ free → ⊥) → (x : Prefix) × On S h s p x
+    bucket_or : (p : ℕ) → 2 ≤ p → p < pages S s → (get_or (contents S s) (p - 2) free ≡ free → ⊥) → (x : Prefix) × On S h s p x
     bucket_or p a b n = go (get_or (contents S s) (p - 2) free) refl
       where
         go : (g : Page) → get_or (contents S s) (p - 2) free ≡ g → (x : Prefix) × On S h s p x

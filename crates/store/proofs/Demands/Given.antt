@@ -2,16 +2,16 @@
 -- Assumes nothing.
 use mathlib.Core.Path.{◌≡◌, refl, sym, ap, subst, ◌∙◌}
 use mathlib.Core.List.{List, [], ◌∷◌, ◌++◌, map, Memᴰ}
-use mathlib.Core.Logic.{inl, inr, ⊎_elim}
+use mathlib.Core.Logic.{inl, inr}
 use mathlib.Core.Option.{some}
-use Prim.Native.Nat.{ℕ, zero, suc, ◌+◌, ◌-◌, ◌≤◌, ◌<◌}
+use Prim.Native.Nat.{ℕ, zero, suc, ◌+◌, ◌-◌, ◌≤◌}
 use native.Mathlib.Omega.{arith}
 use lib.ListN.{length, drop, get_elem?, length-append, length-drop, get_or-append}
 use lib.Seq.{get_or-append-add, get_or-drop}
 use Rattle.ground.proofs.Tests.{none_some}
 use Rattle.ground.specs.Ladder.{Answers}
 use Rattle.ground.proofs.Ladders.{each}
-use Rattle.page.specs.Page.{Slotted, rows, code, place as bytes_at, off}
+use Rattle.page.specs.Page.{Slotted, rows, place as bytes_at, off}
 use Rattle.page.specs.Places.{place_from, stored, InRange}
 use Rattle.page.proofs.Sums.{len_of_code}
 use Rattle.page.proofs.Stored.{stored_place, place_stored, natural_page, natural_slot, natural_volume}

@@ -15,9 +15,8 @@ use Rattle.ground.specs.Ladder.{Answers}
 use Rattle.store.specs.Pages.{Page, rows_held}
 use Rattle.store.specs.Accepted.{Accepted}
 use Rattle.page.specs.Places.{stored, Negative}
-use Rattle.store.specs.Packing.{pack_table}
 use Rattle.store.specs.Tables.{Out, refused, accepted, Becomes, format_table, check_table, lookup_table, put_table, put_before, remove_table, row_table, inspect_table, Refusal3, Refusal6, Refusal7, Refusal14}
-use Rattle.store.specs.Demands.{format, check, count, pack, lookup, remove, put, row_at, inspect, Made, ok, RefusalKeeps, OutputKept, GoodCode, Mode, CheckExact, LookupIsMap, Refuses, no_code, negative, no_mode, known, absent, prefix_full, pages_full, PutRefused, EitherAsBefore, AcceptedAgain, map_of, answer_of}
+use Rattle.store.specs.Demands.{format, check, count, lookup, remove, put, row_at, inspect, Made, ok, RefusalKeeps, OutputKept, GoodCode, Mode, CheckExact, LookupIsMap, Refuses, no_code, negative, no_mode, known, absent, prefix_full, pages_full, PutRefused, EitherAsBefore, AcceptedAgain, map_of, answer_of}
 use Rattle.ground.proofs.Sides.{side}
 use Rattle.ground.proofs.Ladders.{each}
 use Rattle.store.proofs.Accepted.Rules.{accepted_whole}
@@ -44,10 +43,6 @@ module _ (S : Shape) (h : List ℕ → ℕ) where
   remove_keeps s c = each (Keeps s) (remove_table S h s c)
       ((λ _ _. row_keeps), (λ _. ((λ _ _. row_keeps), (λ _. ((λ _ _. row_keeps), (λ _ _. ((λ old _ r e. free _ r refl e.0), (λ _. row_keeps))))))))
 
-  pack_keeps : (s : List ℕ) (r : Out × List ℕ) → Answers (pack_table S h s) r → Keeps s r
-  unfolding pack_table
-  pack_keeps s = each (Keeps s) (pack_table S h s) ((λ _ _. row_keeps), (λ _. ((λ _ _. row_keeps), (λ _ _ r e. free _ r refl e.0))))
-
   put_keeps : (s c : List ℕ) (p : Place) (m : ℕ) (r : Out × List ℕ) → Answers (put_table S h s c p m) r → Keeps s r
   put_keeps s c p m = put_each S h s (Keeps s) c p (record { kept = λ o _ _. refl; over = λ old k t b f. absurd (true≢false f); fresh = λ un n6 n7 t b f. absurd (true≢false f) }) m
 
@@ -65,7 +60,6 @@ module _ (S : Shape) (h : List ℕ → ℕ) where
   refusal_keeps format s o t m = format_keeps s (o, t) m
   refusal_keeps check s o t m = λ _. m.1
   refusal_keeps count s o t m = λ _. m.1
-  refusal_keeps pack s o t m = pack_keeps s (o, t) m
   refusal_keeps (lookup c) s o t m = λ _. m.1
   refusal_keeps (remove c) s o t m = remove_keeps s c (o, t) m
   refusal_keeps (put c p mode) s o t m = put_keeps s c p mode (o, t) m
@@ -201,10 +195,6 @@ module _ (S : Shape) (h : List ℕ → ℕ) where
   pub put_again : (s c : List ℕ) (p : Place) (m : ℕ) → Accepted S h s → (r : Out × List ℕ) → Answers (put_table S h s c p m) r → Again s r
   put_again s c p m a = put_each S h s (Again s) c p (record { kept = λ o _. (a, refl); over = λ old k t b. (b.again, b.long); fresh = λ un n6 n7 t b. (b.again, b.long) }) m
 
-  pack_again : (s : List ℕ) → Accepted S h s → (r : Out × List ℕ) → Answers (pack_table S h s) r → Again s r
-  unfolding pack_table
-  pack_again s a = each (Again s) (pack_table S h s) ((λ _ _. same_again s a), (λ _. ((λ _ _. same_again s a), (λ _ _. wrote_again s _ _))))
-
   -- MODE 0 ANSWERS AS BEFORE
   to_before : (s c : List ℕ) (p : Place) (x : Out × List ℕ) → Answers (put_table S h s c p 0) x → Answers (put_before S h s c p) x
   unfolding put_table put_before
@@ -239,7 +229,6 @@ module _ (S : Shape) (h : List ℕ → ℕ) where
   accepted_again f format s o t a m = f s t a o m
   accepted_again f check s o t a m = kept_again s t a m.1
   accepted_again f count s o t a m = kept_again s t a m.1
-  accepted_again f pack s o t a m = pack_again s a (o, t) m
   accepted_again f (lookup c) s o t a m = kept_again s t a m.1
   accepted_again f (remove c) s o t a m = remove_again s c a (o, t) m
   accepted_again f (put c p mode) s o t a m = put_again s c p mode a (o, t) m

@@ -1,4 +1,4 @@
--- In each call but format and pack a bucket whose rows and depth come out the same keeps its page and all its bytes.
+-- In each call but format a bucket whose rows and depth come out the same keeps its page and all its bytes.
 -- Assumes nothing.
 use mathlib.Core.Path.{◌≡◌, refl, sym, ap, subst, ◌∙◌}
 use mathlib.Core.List.{List, map}
@@ -16,7 +16,7 @@ use Rattle.partition.specs.Partition.{Row}
 use Rattle.store.specs.Pages.{pages, page, Page, bucket, read, contents, as_row, rows_held}
 use Rattle.store.specs.Accepted.{Stands, unused, used, Accepted}
 use Rattle.store.specs.Tables.{Out, new, replaced, Becomes, put_table, remove_table}
-use Rattle.store.specs.Demands.{Sized, Hash, Call, format, check, count, pack, lookup, remove, put, row_at, inspect, Made, KeptPages}
+use Rattle.store.specs.Demands.{Sized, Hash, Call, format, check, count, lookup, remove, put, row_at, inspect, Made, KeptPages}
 use Rattle.store.proofs.Accepted.Rules.{opened}
 use Rattle.store.proofs.Showing.Shows.{Shows}
 use Rattle.store.proofs.Showing.Shown.{free_not}
@@ -86,16 +86,15 @@ module _ (S : Shape) (h : List ℕ → ℕ) (sized : Sized S) (hash : Hash h) wh
     )),
   )
 
-  kept : (c : Call) (s : List ℕ) (o : Out) (t : List ℕ) → (c ≡ format → ⊥) → (c ≡ pack → ⊥) → Accepted S h s → Made S h c s o t → Kept (contents S s) (contents S t)
-  kept format s o t n k a m = absurd (n refl)
-  kept pack s o t n k a m = absurd (k refl)
-  kept check s o t n k a m = unchanged s a (o, t) o (ap (λ y. (o, y)) m.1)
-  kept count s o t n k a m = unchanged s a (o, t) o (ap (λ y. (o, y)) m.1)
-  kept (lookup c) s o t n k a m = unchanged s a (o, t) o (ap (λ y. (o, y)) m.1)
-  kept (remove c) s o t n k a m = remove_keeps s c a (o, t) m
-  kept (put c p mode) s o t n k a m = put_keeps s c p mode a (o, t) m
-  kept (row_at i out) s o t n k a m = unchanged s a (o, t) o (ap (λ y. (o, y)) m.1)
-  kept (inspect g i out) s o t n k a m = unchanged s a (o, t) o (ap (λ y. (o, y)) m.1)
+  kept : (c : Call) (s : List ℕ) (o : Out) (t : List ℕ) → (c ≡ format → ⊥) → Accepted S h s → Made S h c s o t → Kept (contents S s) (contents S t)
+  kept format s o t n a m = absurd (n refl)
+  kept check s o t n a m = unchanged s a (o, t) o (ap (λ y. (o, y)) m.1)
+  kept count s o t n a m = unchanged s a (o, t) o (ap (λ y. (o, y)) m.1)
+  kept (lookup c) s o t n a m = unchanged s a (o, t) o (ap (λ y. (o, y)) m.1)
+  kept (remove c) s o t n a m = remove_keeps s c a (o, t) m
+  kept (put c p mode) s o t n a m = put_keeps s c p mode a (o, t) m
+  kept (row_at i out) s o t n a m = unchanged s a (o, t) o (ap (λ y. (o, y)) m.1)
+  kept (inspect g i out) s o t n a m = unchanged s a (o, t) o (ap (λ y. (o, y)) m.1)
 
   pub kept_pages : KeptPages S h
-  kept_pages c s o t n k a m = kept_bytes S h s t a (accepted_always S h sized c s o t a m).0 (kept c s o t n k a m)
+  kept_pages c s o t n a m = kept_bytes S h s t a (accepted_always S h sized c s o t a m).0 (kept c s o t n a m)

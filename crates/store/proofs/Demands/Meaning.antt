@@ -5,14 +5,14 @@ use mathlib.Core.List.{[], ◌∷◌}
 use Prim.Native.Nat.{ℕ}
 use lib.ListN.{get_or}
 use Rattle.store.specs.declared.Refusal.{Refusal}
-use Rattle.store.specs.declared.Refusal.TheVariants.{BadLength, BadPage, BadCode, BadPlace, NoCode, PrefixFull, PagesFull, ShortOutput, NoRow, BadRuns, KnownCode, BadMode, BadLine, IndexFull, BadIndex}
+use Rattle.store.specs.declared.Refusal.TheVariants.{BadLength, BadPage, BadCode, BadPlace, NoCode, PrefixFull, PagesFull, ShortOutput, NoRow, BadRuns, KnownCode, BadMode}
 use Rattle.store.specs.declared.Answer.{Answer}
 use Rattle.store.specs.declared.Answer.TheVariants.{Refused, Formatted, Accepted, New, Replaced, Found, Rows, RowOf}
 use Rattle.store.specs.Tables.{Out, refused, refused_at, formatted, accepted, new, replaced, found, counted, row, refusal, meaning}
 
 -- the case of each number and value
 abbrev case : Out → Answer
-case (refused n) = Refused (get_or (BadLength ∷ BadLength ∷ BadLength ∷ BadCode ∷ BadPlace ∷ NoCode ∷ PrefixFull ∷ PagesFull ∷ ShortOutput ∷ NoRow ∷ BadLength ∷ BadLength ∷ BadRuns ∷ KnownCode ∷ BadMode ∷ BadLine ∷ IndexFull ∷ BadIndex ∷ []) n BadLength)
+case (refused n) = Refused (get_or (BadLength ∷ BadLength ∷ BadLength ∷ BadCode ∷ BadPlace ∷ NoCode ∷ PrefixFull ∷ PagesFull ∷ ShortOutput ∷ NoRow ∷ BadLength ∷ BadLength ∷ BadRuns ∷ KnownCode ∷ BadMode ∷ []) n BadLength)
 case (refused_at n p) = Refused (BadPage p)
 case formatted = Formatted
 case accepted = Accepted
@@ -35,9 +35,6 @@ back_refusal NoRow = refl
 back_refusal BadRuns = refl
 back_refusal KnownCode = refl
 back_refusal BadMode = refl
-back_refusal BadLine = refl
-back_refusal IndexFull = refl
-back_refusal BadIndex = refl
 
 back : (a : Answer) → case (meaning a) ≡ a
 back (Refused r) = back_refusal r
@@ -66,6 +63,3 @@ by_refusal P f g NoRow = f 9
 by_refusal P f g BadRuns = f 12
 by_refusal P f g KnownCode = f 13
 by_refusal P f g BadMode = f 14
-by_refusal P f g BadLine = f 15
-by_refusal P f g IndexFull = f 16
-by_refusal P f g BadIndex = f 17

@@ -16,9 +16,8 @@ use Rattle.page.specs.Places.{Negative}
 use Rattle.partition.specs.declared.Shape.{Shape}
 use Rattle.store.specs.Pages.{size, pages}
 use Rattle.store.specs.Accepted.{GoodLength, Broken}
-use Rattle.store.specs.Packing.{pack_table}
 use Rattle.store.specs.Tables.{Out, refused, refused_at, formatted, accepted, new, replaced, found, counted, row, Refusal1, Refusal3, Refusal14, PageKeeps, format_table, check_table, count_table, lookup_table, put_table, remove_table, row_table, inspect_table}
-use Rattle.store.specs.Demands.{format, check, count, pack, lookup, remove, put, row_at, inspect, GoodCode, Mode, WholePages, StopsAt, NoPage, Faults, faults, ExactlyWhen, RefusedInOrder, FormatSucceeds}
+use Rattle.store.specs.Demands.{format, check, count, lookup, remove, put, row_at, inspect, GoodCode, Mode, WholePages, StopsAt, NoPage, Faults, faults, ExactlyWhen, RefusedInOrder, FormatSucceeds}
 use Rattle.store.proofs.Accepted.Rules.{broken_one, broken_stops, stops_broken}
 use Rattle.store.proofs.Demands.Kept.{no_three, three, no_fourteen, a_mode}
 
@@ -35,7 +34,7 @@ module _ (S : Shape) (s : List ℕ) where
 
 -- ---- one fault is the first
 
-abbrev pub number : Out → ℕ
+abbrev number : Out → ℕ
 number (refused n) = n
 number (refused_at n p) = n
 number formatted = 0
@@ -186,16 +185,6 @@ module _ (S : Shape) (h : List ℕ → ℕ) where
     )),
   )
 
-  pack_order : (s : List ℕ) (x : Out × List ℕ) → Answers (pack_table S h s) x → ExactlyWhen (faults S h pack s) x.0
-  unfolding pack_table
-  pack_order s = each (λ x. ExactlyWhen (faults S h pack s) x.0) (pack_table S h s) (
-    (λ _ r x e. says_one _ _ (bad s r) (ap (λ y. y.0) e)),
-    (λ n1. (
-      (λ p b x e. says_two _ _ (long s n1) no no no no p (broken_stops S h s p b) (λ q. only s p q b) (ap (λ y. y.0) e)),
-      (λ n2 _ x e. says_late _ _ (long s n1) no no no no (whole s n2) e.0 refl),
-    )),
-  )
-
   lookup_order : (s c : List ℕ) (o : Out) → Answers (lookup_table S h s c) o → ExactlyWhen (faults S h (lookup c) s) o
   unfolding lookup_table
   lookup_order s c = each (λ o. ExactlyWhen (faults S h (lookup c) s) o) (lookup_table S h s c) (
@@ -290,7 +279,7 @@ module _ (S : Shape) (h : List ℕ → ℕ) where
     (λ n1. (
       (λ _ r x e. says_eight _ _ (n1 tt) no no no r (ap (λ y. y.0) e)),
       (λ n8. (
-        (λ _ k x e. says_two _ _ (n1 tt) no no no (n8 tt) 0 (refl, (λ z. k (inl z)), (λ b f s d. k (inr (record { rules = b; folded = f; share = s }, d)))) (λ q y. y.0) (ap (λ y. y.0) e)),
+        (λ _ k x e. says_two _ _ (n1 tt) no no no (n8 tt) 0 (refl, (λ z. k (inl z)), (λ b d. k (inr (b, d)))) (λ q y. y.0) (ap (λ y. y.0) e)),
         (λ _ k. (
           (λ r _ x e. says_late _ _ (n1 tt) no no no (n8 tt) (stands k) (ap (λ y. y.0) e) refl),
           (λ _ x e. says_late _ _ (n1 tt) no no no (n8 tt) (stands k) (ap (λ y. y.0) e) refl),
@@ -300,13 +289,12 @@ module _ (S : Shape) (h : List ℕ → ℕ) where
   )
     where
       stands : PageKeeps S h g → (p : ℕ) → NoPage S h g p → ⊥
-      stands k p x = ⊎_elim x.1 (λ b. x.2 b.0.rules b.0.folded b.0.share b.1) k
+      stands k p x = ⊎_elim x.1 (λ b. x.2 b.0 b.1) k
 
   pub refused_in_order : RefusedInOrder S h
   refused_in_order format s o t m = format_order s (o, t) m
   refused_in_order check s o t m = check_order s o m.0
   refused_in_order count s o t m = count_order s o m.0
-  refused_in_order pack s o t m = pack_order s (o, t) m
   refused_in_order (lookup c) s o t m = lookup_order s c o m.0
   refused_in_order (remove c) s o t m = remove_order s c (o, t) m
   refused_in_order (put c p mode) s o t m = put_order s c p mode (o, t) m

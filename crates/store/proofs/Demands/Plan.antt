@@ -3,28 +3,24 @@ use mathlib.Core.Path.{◌≡◌, refl, sym, ap, subst, ◌∙◌}
 use mathlib.Core.Bool.{Bool, true, false, true≢false}
 use mathlib.Core.List.{List, [], ◌∷◌}
 use mathlib.Core.Option.{Option, some, none}
-use Prim.Native.Nat.{ℕ, ◌+◌, ◌*◌, ◌≤◌, ◌<◌}
-use lib.ListN.{length}
+use Prim.Native.Nat.{ℕ}
 use Rattle.partition.specs.declared.Shape.{Shape}
 use Rattle.partition.specs.Partition.{Row, Reordered, empty, front, chain, buckets, depth_of}
 use Rattle.partition.proofs.Laws.{reordered}
 use Rattle.words.specs.Folds.{fold}
-use Rattle.words.specs.Le.{le32}
 use Rattle.page.specs.declared.Place.{Place}
 use Rattle.ground.specs.Ladder.{Answers}
-use Rattle.ground.specs.Lists.{byte}
 use Rattle.partition.specs.Listing.{without, place_of}
 use Rattle.store.specs.Pages.{Page, contents, rows_in, rows_held, dir_depth}
 use Rattle.store.specs.Accepted.{Accepted}
 use Rattle.store.specs.Moves.{pick, overwritten, put_new, removed}
 use Rattle.page.specs.Places.{place_from, stored}
-use Rattle.store.specs.Packing.{store_in, pack_table}
 use Rattle.store.specs.Tables.{Out, new, replaced, Refusal6, Refusal7, Becomes, put_table, remove_table, format_table}
 use Rattle.partition.specs.Listing.{Once}
-use Rattle.store.specs.Demands.{Sized, of_bits, Hash, Call, format, check, count, pack, lookup, remove, put, row_at, inspect, Made, ok, rows_after, surviving, directory, afresh, History, begin, next, resize, AfreshAlways, GoodCode, map_of, update, answer_of, put_answer, PutIsMap, RemoveIsMap}
+use Rattle.store.specs.Demands.{Sized, Call, format, check, count, lookup, remove, put, row_at, inspect, Made, ok, rows_after, surviving, directory, afresh, History, begin, next, AfreshAlways, GoodCode, map_of, update, answer_of, put_answer, PutIsMap, RemoveIsMap}
 use Rattle.ground.proofs.Ladders.{each}
 use Rattle.partition.proofs.Sorted.{same_map}
-use Rattle.partition.proofs.Reorders.{same_order, length_same}
+use Rattle.partition.proofs.Reorders.{same_order}
 use Rattle.partition.proofs.Maps.{cut, cut_none, cut_same, map_remove, map_put}
 use Rattle.partition.proofs.Sorted.{listing_same}
 use Rattle.store.proofs.Showing.Sorted.{afresh_same}
@@ -32,16 +28,12 @@ use Rattle.store.proofs.Accepted.Rules.{accepted_whole}
 use Rattle.store.proofs.Demands.Modes.{nothing_there, put_each}
 use Rattle.store.proofs.Demands.Kept.{no_three, refusal_keeps}
 use Rattle.store.proofs.Accepted.Format.{format_accepted, accepted_always, no_rows}
-use Rattle.store.proofs.Packing.Archives.{packed_rows}
-use Rattle.store.proofs.Packing.Resizes.{resize_keeps}
-use Rattle.store.proofs.Demands.Bytes.{formatted_bytes, leaves_bytes}
 
 module _ (S : Shape) (h : List ℕ → ℕ) where
   -- an accepted store is what is worked out afresh from its own rows
   abbrev pub AcceptedIsAfresh : Type 0
   AcceptedIsAfresh = (s : List ℕ) → Accepted S h s
       → Once (rows_held S s) × (dir_depth s ≡ depth_of (buckets S h (rows_held S s))) × (directory S s ≡ afresh S h (rows_held S s))
-      × (le32 s 24 ≡ length (rows_held S s)) × ((k : ℕ) → k ≤ 12 → le32 s (28 + 4 * k) ≡ length (of_bits k (buckets S h (rows_held S s))))
 
   -- the rows after each of the three moves
   abbrev pub PutRows : Type 0
@@ -62,7 +54,6 @@ after_same : (c : Call) {rs qs : List Row} → Reordered rs qs → Reordered (ro
 after_same format p = empty
 after_same check p = p
 after_same count p = p
-after_same pack p = p
 after_same (lookup c) p = p
 after_same (remove c) p = cut_same (fold c) p
 after_same (put c pl m) p = front _ (cut_same (fold c) p)
@@ -94,7 +85,7 @@ module _ (S : Shape) (h : List ℕ → ℕ) where
       subst (λ k. Reordered (rows_held S x.1) (pick k (rows_after c (rows_held S s)) (rows_held S s))) (sym (ap ok e ∙ f))
       (subst (λ l. Reordered (rows_in l) (rows_after c (rows_held S s))) (sym b.held) p)
 
-  module _ (sized : Sized S) (hash : Hash h) (puts : PutRows S h) (over : OverRows S h) (removes : RemoveRows S h) where
+  module _ (sized : Sized S) (puts : PutRows S h) (over : OverRows S h) (removes : RemoveRows S h) where
     put_left : (s c : List ℕ) (p : Place) (m : ℕ) → Accepted S h s → (x : Out × List ℕ) → Answers (put_table S h s c p m) x → Left (put c p m) s x
     put_left s c p m a = put_each S h s (Left (put c p m) s) c p record {
       kept = λ o f. kept (put c p m) s (o, s) o refl f;
@@ -129,11 +120,6 @@ module _ (S : Shape) (h : List ℕ → ℕ) where
       (λ _ x e. subst (λ (y : Out × List ℕ). Left format s y) (sym e) (subst (λ l. Reordered l []) (sym (no_rows S s sized a.long)) empty)),
     )
 
-    pack_left : (s : List ℕ) → Accepted S h s → (x : Out × List ℕ) → Answers (pack_table S h s) x → Left pack s x
-    unfolding pack_table
-    pack_left s a = each (Left pack s) (pack_table S h s)
-        ((λ _ _ x e. kept pack s x _ e refl), (λ _. ((λ _ _ x e. kept pack s x _ e refl), (λ _ _ x e. moved pack s x _ _ e.0 refl e.1 (packed_rows S h sized hash s a)))))
-
     reads_left : (s t : List ℕ) (b : Bool) → t ≡ s → Reordered (rows_held S t) (pick b (rows_held S s) (rows_held S s))
     reads_left s t true e = subst (λ x. Reordered (rows_held S x) (rows_held S s)) (sym e) (same_order (rows_held S s))
     reads_left s t false e = subst (λ x. Reordered (rows_held S x) (rows_held S s)) (sym e) (same_order (rows_held S s))
@@ -143,7 +129,6 @@ module _ (S : Shape) (h : List ℕ → ℕ) where
     left format s o t a m = format_left s a (o, t) m
     left check s o t a m = reads_left s t (ok o) m.1
     left count s o t a m = reads_left s t (ok o) m.1
-    left pack s o t a m = pack_left s a (o, t) m
     left (lookup c) s o t a m = reads_left s t (ok o) m.1
     left (remove c) s o t a m = remove_left s c a (o, t) m
     left (put c p mode) s o t a m = put_left s c p mode a (o, t) m
@@ -151,38 +136,23 @@ module _ (S : Shape) (h : List ℕ → ℕ) where
     left (inspect g n out) s o t a m = reads_left s t (ok o) m.1
 
     -- what holds along a history
-    pub record Along (rs : List Row) (s : List ℕ) : Type 0 where
-      pub again : Accepted S h s
-      pub rows : Reordered (rows_held S s) rs
-      pub byte_size : (k : ℕ) → byte s k < 256
-
-    pub run : (rs : List Row) (s : List ℕ) → History S h rs s → Along rs s
-    run rs t (begin s m) = let f = format_accepted S h sized s t m in record { again = f.0; rows = subst (λ l. Reordered l []) (sym f.1) empty; byte_size = formatted_bytes S h s t m }
+    run : (rs : List Row) (s : List ℕ) → History S h rs s → Accepted S h s × Reordered (rows_held S s) rs
+    run rs t (begin s m) = let f = format_accepted S h sized s t m in (f.0, subst (λ l. Reordered l []) (sym f.1) empty)
     run _ t (next {rs = rs} {s = s} c o H m) =
         let i = run rs s H in
-        record {
-          again = (accepted_always S h sized c s o t i.again m).0;
-          rows = chain (left c s o t i.again m) (survives c o i.rows);
-          byte_size = leaves_bytes S h c s o t i.byte_size m;
-        }
-    run _ _ (resize {rs = rs} b m n c H x) =
-        let i = run rs (store_in S b m) H in
-        let w = resize_keeps S h sized hash b m n c i.byte_size x in
-        record { again = w.again; rows = chain w.same_rows i.rows; byte_size = w.byte_size }
+        ((accepted_always S h sized c s o t i.0 m).0, chain (left c s o t i.0 m) (survives c o i.1))
 
     pub afresh_always : AcceptedIsAfresh S h → AfreshAlways S h
     afresh_always fresh rs s H =
         let i = run rs s H in
-        let f = fresh s i.again in
+        let f = fresh s i.0 in
         record {
-          keeps = i.again;
-          same = i.rows;
-          once = (same_map i.rows f.0).0;
-          depth = f.1 ∙ ap depth_of (reordered S h i.rows);
-          buckets_and_entries = f.2 ∙ afresh_same S h (rows_held S s) rs i.rows f.0;
-          listed = listing_same S h (rows_held S s) rs i.rows f.0;
-          rows_counted = f.3 ∙ length_same i.rows;
-          buckets_counted = λ k l. f.4 k l ∙ ap (λ ps. length (of_bits k ps)) (reordered S h i.rows);
+          keeps = i.0;
+          same = i.1;
+          once = (same_map i.1 f.0).0;
+          depth = f.1 ∙ ap depth_of (reordered S h i.1);
+          buckets_and_entries = f.2 ∙ afresh_same S h (rows_held S s) rs i.1 f.0;
+          listed = listing_same S h (rows_held S s) rs i.1 f.0;
         }
 
 -- ---- demand 2's map, from the same statements
@@ -195,7 +165,7 @@ update_put : (r : Row) (x : List ℕ) (rs : List Row) → place_of (r ∷ cut r.
 unfolding update
 update_put r x rs = map_put r x rs
 
-module _ (S : Shape) (h : List ℕ → ℕ) (sized : Sized S) (hash : Hash h) (fresh : AcceptedIsAfresh S h) (puts : PutRows S h) (over : OverRows S h) (removes : RemoveRows S h) where
+module _ (S : Shape) (h : List ℕ → ℕ) (sized : Sized S) (fresh : AcceptedIsAfresh S h) (puts : PutRows S h) (over : OverRows S h) (removes : RemoveRows S h) where
   put_answer_lem : (s c : List ℕ) (p : Place) (m : ℕ) (x : Out × List ℕ) → Answers (put_table S h s c p m) x → ok x.0 ≡ true → x.0 ≡ put_answer (map_of S s (fold c))
   put_answer_lem s c p m = put_each S h s (λ x. ok x.0 ≡ true → x.0 ≡ put_answer (map_of S s (fold c))) c p
       (record { kept = λ o f g. absurd (true≢false (sym g ∙ f)); over = λ old k t b f. ap put_answer (sym k); fresh = λ un n6 n7 t b f. ap put_answer (sym un) }) m
@@ -218,7 +188,7 @@ module _ (S : Shape) (h : List ℕ → ℕ) (sized : Sized S) (hash : Hash h) (f
   map_after : (c : Call) (s : List ℕ) (o : Out) (t : List ℕ) → Accepted S h s → Made S h c s o t → ok o ≡ true → (x : List ℕ) → map_of S t x ≡ place_of (rows_after c (rows_held S s)) x
   map_after c s o t a m f x =
       let b : Accepted S h t = (accepted_always S h sized c s o t a m).0 in
-      (same_map (left S h sized hash puts over removes c s o t a m) (fresh t b).0).1 x ∙ ap (λ k. place_of (pick k (rows_after c (rows_held S s)) (rows_held S s)) x) f
+      (same_map (left S h sized puts over removes c s o t a m) (fresh t b).0).1 x ∙ ap (λ k. place_of (pick k (rows_after c (rows_held S s)) (rows_held S s)) x) f
 
   pub put_is_map : PutIsMap S h
   put_is_map s c p m o t a made = (

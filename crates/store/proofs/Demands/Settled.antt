@@ -8,7 +8,6 @@ use Rattle.partition.specs.Partition.{Row}
 use Rattle.page.specs.declared.Place.{Place}
 use Rattle.ground.specs.Ladder.{Answers}
 use Rattle.store.specs.Pages.{Page}
-use Rattle.store.specs.Packing.{pack_table}
 use Rattle.store.specs.Tables.{Out, writes, format_table, check_table, count_table, lookup_table, put_by_mode, put_table, remove_table, row_table, inspect_table}
 use Rattle.store.specs.Demands.{Sized}
 use Rattle.ground.proofs.Ladders.{Sure, one}
@@ -16,7 +15,7 @@ use Rattle.store.proofs.Accepted.Rules.{broken_one}
 use Rattle.store.proofs.Accepted.Unique.{becomes_one}
 
 -- the rung of a row that carries nothing, and an answer
-pub nothing : {P : Type 0} (x y : Unit {0}) → P → P → x ≡ y
+nothing : {P : Type 0} (x y : Unit {0}) → P → P → x ≡ y
 nothing x y p q = refl
 
 pub same : {A : Type 0} {a : A} (b c : A) → b ≡ a → c ≡ a → b ≡ c
@@ -25,7 +24,7 @@ same b c e f = e ∙ sym f
 pub some_one : {A : Type 0} {o : Option A} (a b : A) → o ≡ some a → o ≡ some b → a ≡ b
 some_one a b e f = cc
 
-pub wrote : (S : Shape) (h : List ℕ → ℕ) (s : List ℕ) (o : Out) (gs : List Page) → Sized S → Sure (writes S h s o gs)
+wrote : (S : Shape) (h : List ℕ → ℕ) (s : List ℕ) (o : Out) (gs : List Page) → Sized S → Sure (writes S h s o gs)
 wrote S h s o gs z a b p q =
     let x : a.0 ≡ b.0 = p.0 ∙ sym q.0 in
     let y : a.1 ≡ b.1 = becomes_one S h s gs a.1 b.1 z p.1 q.1 in
@@ -77,8 +76,3 @@ module _ (S : Shape) where
     unfolding remove_table
     remove_settled z s c = one (remove_table S h s c)
         (nothing, (λ _ _. same), (nothing, (λ _ _. same), (broken_one S h s, (λ _ _. same), (λ _. (some_one, (λ _ _. wrote S h s _ _ z), same)))))
-
-    pub pack_settled : Sized S → (s : List ℕ) (a b : Out × List ℕ) → Answers (pack_table S h s) a → Answers (pack_table S h s) b → a ≡ b
-    unfolding pack_table
-    pack_settled z s = one (pack_table S h s)
-        (nothing, (λ _ _. same), (broken_one S h s, (λ _ _. same), (λ _. wrote S h s _ _ z)))

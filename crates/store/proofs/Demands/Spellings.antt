@@ -12,7 +12,6 @@ use Rattle.page.specs.Places.{stored}
 use Rattle.partition.specs.declared.Shape.{Shape}
 use Rattle.partition.proofs.Reorders.{mem_reordered, turned}
 use Rattle.store.specs.Tables.{refused, Refusal1, Refusal4, Refusal14, checked, looked_up, put_by_mode, remove_accepted, lookup_table, put_table, remove_table}
-use Rattle.store.specs.Demands.{Sized, Hash}
 use Rattle.store.specs.Spellings.{SameLot, StoredFolded, OneLot}
 use Rattle.store.proofs.Accepted.Spelled.{held_folded}
 use Rattle.store.proofs.Showing.Walked.{listed_once}

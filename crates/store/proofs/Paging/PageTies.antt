@@ -1,6 +1,6 @@
 -- A page's rows, and what the page functions leave, in the words of the map, the listing and the moves. Assumes nothing.
-use borrow.Author.Tests.{le-leb, lt-leb, eq-eqb, ne_eqb}
-use mathlib.Core.Path.{◌≡◌, refl, sym, ap, subst, ◌∙◌}
+use borrow.Author.Tests.{le-leb, lt-leb}
+use mathlib.Core.Path.{◌≡◌, sym, ap, subst, ◌∙◌}
 use mathlib.Core.Bool.{true, false}
 use mathlib.Core.List.{List, [], ◌∷◌, ◌++◌, map, Memᴰ}
 use mathlib.Core.Logic.{◌↔◌, ⊎_elim}
@@ -8,7 +8,7 @@ use mathlib.Core.Option.{some, none}
 use Prim.Native.Nat.{Ordering}
 use Prim.Native.Nat.{ℕ, ◌+◌, ◌-◌, ◌*◌, ◌≤◌, ◌<◌}
 use native.Mathlib.Omega.{arith}
-use lib.Dec.{leb, eqb}
+use lib.Dec.{leb}
 use lib.ListN.{length, set, replicate, length-replicate, get_or-replicate, length-map, get_or-eq_default}
 use lib.Seq.{take-length, drop-length}
 use Rattle.ground.specs.Lists.{tab, total, insert_at, remove_at}
@@ -17,16 +17,16 @@ use Rattle.ground.proofs.Tables.{length_tab, tab_same, tab_set, tab_map, total_s
 use Rattle.words.specs.Codes.{GoodCode, order, Before}
 use Rattle.words.proofs.Orders.{order_refl, irrefl}
 use Rattle.partition.specs.declared.Shape.{Shape}
-use Rattle.partition.specs.Partition.{Row, record_length, row_need, need, needs}
+use Rattle.partition.specs.Partition.{Row, need, needs}
 use Rattle.partition.specs.Listing.{by, insert, without, in_order, place_of, Once, Rising}
-use Rattle.partition.proofs.Rising.{by_ne, unlike, unlike_after, tab_in, tab_member, rising_tab, tab_rising, insert_rising, insert_tab, without_rising, without_tab}
+use Rattle.partition.proofs.Rising.{by_ne, unlike, unlike_after, tab_in, tab_member, rising_tab, insert_tab, without_tab}
 use Rattle.partition.proofs.Sorted.{by_code, rising_once, order_own}
 use Rattle.partition.proofs.Maps.{placed, missing}
-use Rattle.partition.proofs.Rows.{body_short}
-use Rattle.page.specs.Page.{Slotted, Sorted, Belongs, Natural, Record, rows, row_at, count, frontier, free, depth, off, len, place, code}
+use Rattle.page.specs.Page.{Slotted, Belongs, Natural, Record, rows, row_at, count, frontier, free, depth, off, len, place, code}
 use Rattle.page.specs.Steps.{Insertable, Inserted, Removed, Overwritten}
 use Rattle.page.specs.Packed.{Packed, Fitting, Added}
-use Rattle.page.proofs.Sums.{len_of_code, slot_code}
+use Rattle.page.proofs.Sums.{len_of_code}
+use Rattle.page.proofs.Packs.{once_packed}
 use Rattle.store.specs.Pages.{size, bucket, read, reading, as_row}
 use Rattle.store.specs.Pages as Pages
 use Rattle.store.specs.Accepted.{Zero}
@@ -52,17 +52,17 @@ slot_of p r m = tab_member (row p) (count p) r (rw rows_tab at m)
 pub insert_belongs : (p : List ℕ) (s : ℕ) (r : Record) → Belongs p s r.code → insert_at s r (rows p) ≡ insert (λ q. q.code) r (rows p)
 insert_belongs p s r b = sym (insert_tab (λ q. q.code) (row_at p) (count p) s r b.within b.left b.right)
 
-module _ (p : List ℕ) (O : Sorted p) where
+module _ (p : List ℕ) (P : Slotted p) where
   -- two slots have two codes
   other_code : (s i : ℕ) → s < count p → i < count p → (i ≡ s → ⊥) → order (code p s) (code p i) ≡ Ordering.eq → ⊥
   other_code s i h m ne = ⊎_elim
-      (λ l. unlike (code p s) (code p i) (O.ascending s i l m))
-      (λ g. unlike_after (code p s) (code p i) (O.ascending i s (omega (arith, ne)) h))
+      (λ l. unlike (code p s) (code p i) (P.ascending s i l m))
+      (λ g. unlike_after (code p s) (code p i) (P.ascending i s (omega (arith, ne)) h))
       (side s i)
 
   -- taken out at slot s, its code is left out
   pub remove_without : (s : ℕ) → s < count p → remove_at s (rows p) ≡ without (λ q. q.code) (code p s) (rows p)
-  remove_without s h = sym (without_tab (λ q. q.code) (row_at p) (count p) s h (λ i l. O.ascending i s l h) (λ i l m. O.ascending s i l m))
+  remove_without s h = sym (without_tab (λ q. q.code) (row_at p) (count p) s h (λ i l. P.ascending i s l h) (λ i l m. P.ascending s i l m))
 
   -- the place of slot s replaced
   pub set_place_on : (s : ℕ) (pl : List ℕ) → s < count p
@@ -76,7 +76,7 @@ module _ (p : List ℕ) (O : Sorted p) where
 
   -- rows in code order, no code twice
   rising : Rising by_code (map as_row (rows p))
-  rising = rw rows_tab (rising_tab by_code (row p) (count p) O.ascending)
+  rising = rw rows_tab (rising_tab by_code (row p) (count p) P.ascending)
 
   pub page_once : Once (map as_row (rows p))
   page_once = rising_once (map as_row (rows p)) rising
@@ -88,27 +88,22 @@ module _ (p : List ℕ) (O : Sorted p) where
   pub found_at : (c : List ℕ) (i : ℕ) → i < count p → code p i ≡ c → place_of (map as_row (rows p)) c ≡ some (place p i)
   found_at c i h e = subst (λ x. place_of (map as_row (rows p)) x ≡ some (place p i)) e (placed (map as_row (rows p)) page_once (row p i) (row_in p i h))
 
-pub found_not : (p c : List ℕ) (s : ℕ) → Belongs p s c → place_of (map as_row (rows p)) c ≡ none
-found_not p c s b = missing (map as_row (rows p)) c (λ r m e. let w = slot_of p r m in ⊎_elim (lower w.0 (e ∙ ap by_code w.2)) (upper w.0 w.1 (e ∙ ap by_code w.2)) (side w.0 s))
-  where
-    lower : (i : ℕ) → c ≡ code p i → i < s → ⊥
-    lower i e l = irrefl c (subst (λ d. Before d c) (sym e) (b.left i l))
+  pub found_not : (c : List ℕ) (s : ℕ) → Belongs p s c → place_of (map as_row (rows p)) c ≡ none
+  found_not c s b = missing (map as_row (rows p)) c (λ r m e. let w = slot_of p r m in ⊎_elim (lower w.0 (e ∙ ap by_code w.2)) (upper w.0 w.1 (e ∙ ap by_code w.2)) (side w.0 s))
+    where
+      lower : (i : ℕ) → c ≡ code p i → i < s → ⊥
+      lower i e l = irrefl c (subst (λ d. Before d c) (sym e) (b.left i l))
 
-    upper : (i : ℕ) → i < count p → c ≡ code p i → s ≤ i → ⊥
-    upper i h e g = irrefl c (subst (λ d. Before c d) (sym e) (b.right i g h))
+      upper : (i : ℕ) → i < count p → c ≡ code p i → s ≤ i → ⊥
+      upper i h e g = irrefl c (subst (λ d. Before c d) (sym e) (b.right i g h))
 
--- a slot's record has the length that its code's record has
-pub record_long : (p : List ℕ) (i : ℕ) → Slotted p → i < count p → len p i ≡ record_length (code p i)
-record_long p i P h = omega (arith, len_of_code p i P h, body_short (length (code p i)) (slot_code p i P h).most)
-
-module _ (p : List ℕ) (P : Slotted p) where
   -- needs and total free
   pub page_needs : free p + needs (map as_row (rows p)) ≡ length p - 8
   unfolding need
   page_needs =
       let t : needs (map as_row (rows p)) ≡ total (λ i. need (row p i)) (count p) = ap needs (rows_tab p) ∙ needs_tab (row p) (count p) in
       let u : total (λ i. need (row p i)) (count p) ≡ total (λ i. 4 + len p i) (count p) =
-      total_same (λ i. need (row p i)) (λ i. 4 + len p i) (count p) (λ i h. omega (arith, record_long p i P h)) in
+      total_same (λ i. need (row p i)) (λ i. 4 + len p i) (count p) (λ i h. omega (arith, len_of_code p i P h)) in
       omega (arith, t, u, P.unused)
 
   -- a row fits exactly when total free is its need
@@ -123,12 +118,12 @@ module _ (p : List ℕ) (P : Slotted p) where
       H : Highest (row_at p) (count p) (frontier_of (rows p))
       H = highest (row_at p) (count p)
 
-      ends : (i : ℕ) → i < count p → off p i + record_length (code p i) ≡ off p i + len p i
-      ends i h = omega (arith, record_long p i P h)
+      ends : (i : ℕ) → i < count p → off p i + (8 + length (code p i)) ≡ off p i + len p i
+      ends i h = omega (arith, len_of_code p i P h)
 
       below : frontier_of (rows p) ≤ frontier p
       below = ⊎_elim
-          (λ a. let r : (i : ℕ) × (i < count p) × (off p i + record_length (code p i) ≡ frontier_of (rows p)) = H.reached a in omega (arith, r.2, ends r.0 r.1, P.inside r.0 r.1))
+          (λ a. let r : (i : ℕ) × (i < count p) × (off p i + (8 + length (code p i)) ≡ frontier_of (rows p)) = H.reached a in omega (arith, r.2, ends r.0 r.1, P.inside r.0 r.1))
           (λ b. omega (arith, P.start))
           (side 8 (frontier_of (rows p)))
 
@@ -143,8 +138,8 @@ module _ (p : List ℕ) (P : Slotted p) where
   -- a packed page
   pub packed_rows : (q : List ℕ) → Packed p q → rows q ≡ pack_from 8 (map as_row (rows p))
   packed_rows q K =
-      let l : ℕ → ℕ = λ j. record_length (code p j) in
-      let starts : (i : ℕ) → i < count p → total (len p) i ≡ total l i = λ i h. total_same (len p) l i (λ j m. record_long p j P (omega arith)) in
+      let l : ℕ → ℕ = λ j. 8 + length (code p j) in
+      let starts : (i : ℕ) → i < count p → total (len p) i ≡ total l i = λ i h. total_same (len p) l i (λ j m. len_of_code p j P (omega arith)) in
       rw K.counted (tab_same (row_at q) (λ i. record_at (8 + total l i) (row p i)) (count p) (λ i h. λ k. record {
         start = ((K.each i h).start ∙ ap (λ n. 8 + n) (starts i h)) k;
         place = (K.each i h).placed k;
@@ -156,23 +151,15 @@ module _ (p : List ℕ) (P : Slotted p) where
 abbrev row_of : List ℕ → List ℕ → Row
 row_of c pl = record { code = c; place = pl }
 
--- where a code belongs on a page, it belongs on that page packed
-pub packed_belongs : (p q : List ℕ) (s : ℕ) (c : List ℕ) → Packed p q → Belongs p s c → Belongs q s c
-packed_belongs p q s c K b = record {
-  within = omega (arith, K.counted, b.within);
-  left = λ j m. rw (K.each j (omega (arith, b.within))).coded (b.left j m);
-  right = λ j m n. let l : j < count p = omega (arith, K.counted) in rw (K.each j l).coded (b.right j m l);
-}
-
 -- what the page functions leave
 pub inserted_rows : (p : List ℕ) (s : ℕ) (c pl q : List ℕ) → Slotted p → Belongs p s c → Inserted p s c pl q → rows q ≡ at_frontier (rows p) (row_of c pl)
 unfolding at_frontier
 inserted_rows p s c pl q P b I =
     I.rows_of ∙ insert_belongs p s (record_at (frontier p) (row_of c pl)) b ∙ ap (λ f. insert (λ q. q.code) (record_at f (row_of c pl)) (rows p)) (page_frontier p P)
 
-pub added_rows : (S : Shape) (p : List ℕ) (s : ℕ) (c pl t q t' : List ℕ) → length p ≡ size S → Belongs p s c → Fitting p s c pl → Added p s c pl t q t' → rows q ≡ added S (rows p) (row_of c pl)
+pub added_rows : (S : Shape) (p : List ℕ) (s : ℕ) (c pl t q t' : List ℕ) → length p ≡ size S → Fitting p s c pl → Added p s c pl t q t' → rows q ≡ added S (rows p) (row_of c pl)
 unfolding added need
-added_rows S p s c pl t q t' z b F A =
+added_rows S p s c pl t q t' z F A =
     let r : Row = row_of c pl in
     let f : frontier p ≡ frontier_of (rows p) = page_frontier p F.page in
     let n : length (rows p) ≡ count p = length_tab (row_at p) (count p) in
@@ -182,81 +169,20 @@ added_rows S p s c pl t q t' z b F A =
     let T = A.tight (omega arith) in
     let g : List ℕ = T.0.0 in
     let e : leb x (size S) ≡ false = lt-leb x (size S) (omega arith) in
-    inserted_rows g s c pl q T.0.1.page (packed_belongs p g s c T.0.1 b) T.0.2
+    inserted_rows g s c pl q T.0.1.page (once_packed F T.0.1).belongs T.0.2
     ∙ ap (λ rs. at_frontier rs r) (packed_rows p F.page g T.0.1)
     ∙ sym (ap (λ b. pick b (at_frontier (rows p) r) (at_frontier (pack_from 8 (map as_row (rows p))) r)) e))
     (λ h.
     let e : leb x (size S) ≡ true = le-leb x (size S) h in
-    inserted_rows p s c pl q F.page b (A.roomy (omega arith)).0
+    inserted_rows p s c pl q F.page F.belongs (A.roomy (omega arith)).0
     ∙ sym (ap (λ b. pick b (at_frontier (rows p) r) (at_frontier (pack_from 8 (map as_row (rows p))) r)) e))
     (side (size S) x)
 
-pub removed_rows : (p : List ℕ) (s : ℕ) (q : List ℕ) → Sorted p → s < count p → Removed p s q → rows q ≡ without (λ r. r.code) (code p s) (rows p)
-removed_rows p s q O h R = R.rows_of ∙ remove_without p O s h
+pub removed_rows : (p : List ℕ) (s : ℕ) (q : List ℕ) → Slotted p → s < count p → Removed p s q → rows q ≡ without (λ r. r.code) (code p s) (rows p)
+removed_rows p s q P h R = R.rows_of ∙ remove_without p P s h
 
-pub overwritten_rows : (p : List ℕ) (s : ℕ) (pl q : List ℕ) → Sorted p → s < count p → Overwritten p s pl q → rows q ≡ map (place_on (row_of (code p s) pl)) (rows p)
-overwritten_rows p s pl q O h W = W.rows_of ∙ set_place_on p O s pl h
-
--- ---- ORDER STAYS: a page function keeps the layout, and what it does to the list of rows keeps their order
-
-abbrev code_of : Record → List ℕ
-code_of r = r.code
-
-climbing : (p : List ℕ) → Sorted p → Rising code_of (rows p)
-climbing p O = rising_tab code_of (row_at p) (count p) O.ascending
-
-pub in_order_lem : (p : List ℕ) → Rising code_of (rows p) → Sorted p
-in_order_lem p u = record { ascending = tab_rising code_of (row_at p) (count p) u }
-
--- a page of packed rows that are in order
-pub packed_in_order : (p : List ℕ) (rs : List Row) → rows p ≡ pack_from 8 rs → Rising by_code rs → Sorted p
-packed_in_order p rs e u = record { ascending = tab_rising by_code (row p) (count p) (subst (Rising by_code) (sym (sym (rows_tab p) ∙ ap (map as_row) e ∙ pack_rows rs 8)) u) }
-
--- a row put in where its code belongs
-pub inserted_sorted : (p : List ℕ) (s : ℕ) (c pl q : List ℕ) → Sorted p → Belongs p s c → Inserted p s c pl q → Sorted q
-inserted_sorted p s c pl q O b I = in_order_lem q (subst (Rising code_of) (sym (I.rows_of ∙ insert_belongs p s new b)) (insert_rising code_of new (rows p) other (climbing p O)))
-  where
-    new : Record
-    new = record_at (frontier p) (row_of c pl)
-
-    other : (r : Record) → Memᴰ r (rows p) → order c r.code ≡ Ordering.eq → ⊥
-    other r m = let w = tab_member (row_at p) (count p) r m in
-        subst (λ (x : Record). order c x.code ≡ Ordering.eq → ⊥) (sym w.2)
-        (⊎_elim (λ l. unlike_after c (code p w.0) (b.left w.0 l)) (λ g. unlike c (code p w.0) (b.right w.0 g w.1)) (side w.0 s))
-
--- a row taken out
-pub removed_sorted : (p : List ℕ) (s : ℕ) (q : List ℕ) → Sorted p → s < count p → Removed p s q → Sorted q
-removed_sorted p s q O h R = in_order_lem q (subst (Rising code_of) (sym (removed_rows p s q O h R)) (without_rising code_of (code p s) (rows p) (climbing p O)))
-
--- a page packed
-pub packed_sorted : (p q : List ℕ) → Sorted p → Packed p q → Sorted q
-packed_sorted p q O K = record {
-  ascending = λ i j l m.
-      let h : j < count p = omega (arith, K.counted) in
-      rw ((K.each i (omega arith)).coded, (K.each j h).coded) (O.ascending i j l h);
-}
-
--- a place overwritten
-pub overwritten_sorted : (p : List ℕ) (s : ℕ) (pl q : List ℕ) → Sorted p → s < count p → Overwritten p s pl q → Sorted q
-overwritten_sorted p s pl q O h W = in_order_lem q (subst (Rising code_of) (sym (W.rows_of ∙ sym as_tab)) (rising_tab code_of new (count p) climbs))
-  where
-    new : ℕ → Record
-    new i = record { start = off p i; place = pick (eqb i s) pl (place p i); code = code p i }
-
-    as_tab : tab new (count p) ≡ set (rows p) s (record { start = off p s; place = pl; code = code p s })
-    as_tab =
-        tab_set (row_at p) new (count p) s h (λ i m ne. ap (λ t. record { start = off p i; place = pick t pl (place p i); code = code p i }) (ne_eqb i s ne))
-        ∙ ap (λ t. set (rows p) s (record { start = off p s; place = pick t pl (place p s); code = code p s })) (eq-eqb s s refl)
-
-    climbs : (i j : ℕ) → i < j → j < count p → Before (new i).code (new j).code
-    climbs i j l m = O.ascending i j l m
-
--- a row put in, the page packed first where the room is short
-pub added_sorted : (p : List ℕ) (s : ℕ) (c pl t q t' : List ℕ) → Sorted p → Belongs p s c → Added p s c pl t q t' → Sorted q
-added_sorted p s c pl t q t' O b A = ⊎_elim
-    (λ l. let T = A.tight l in inserted_sorted T.0.0 s c pl q (packed_sorted p T.0.0 O T.0.1) (packed_belongs p T.0.0 s c T.0.1 b) T.0.2)
-    (λ g. inserted_sorted p s c pl q O b (A.roomy g).0)
-    (side (length p) (frontier p + 4 * count p + row_need c))
+pub overwritten_rows : (p : List ℕ) (s : ℕ) (pl q : List ℕ) → Slotted p → s < count p → Overwritten p s pl q → rows q ≡ map (place_on (row_of (code p s) pl)) (rows p)
+overwritten_rows p s pl q P h O = O.rows_of ∙ set_place_on p P s pl h
 
 -- how a page reads
 pub read_slotted : (g : List ℕ) → Slotted g → read g ≡ bucket (depth g) (rows g)
@@ -283,14 +209,14 @@ module _ (q : List ℕ) (rs : List Row) (c pl : List ℕ) (Q : Slotted q) (K : r
   reach = omega (arith, page_frontier q Q, ap frontier_of K, Q.start, pack_top rs 8 (omega arith))
 
   -- there is room at its frontier for a row that fits
-  pub append_fits : Natural pl → GoodCode c → needs rs + row_need c ≤ length q - 8 → Insertable q (count q) c pl
-  append_fits n good h = record {
+  pub append_fits : ((i : ℕ) → i < count q → Before (code q i) c) → Natural pl → GoodCode c → needs rs + (12 + length c) ≤ length q - 8 → Insertable q (count q) c pl
+  append_fits lo n good h = record {
     page = Q;
-    within = omega arith;
+    belongs = record { within = omega arith; left = lo; right = λ i l m. absurd (omega arith) };
     natural = n;
     good = good;
     fits = omega (arith, page_needs q Q, ap needs (ap (map as_row) K ∙ pack_rows rs 8));
-    room = omega (arith, reach, many, needs_span rs, body_short (length c) good.most, Q.least);
+    room = omega (arith, reach, many, needs_span rs, Q.least);
   }
 
   pub appended_rows : (q' : List ℕ) → Inserted q (count q) c pl q' → rows q' ≡ pack_from 8 (rs ++ row_of c pl ∷ [])

@@ -12,7 +12,7 @@ use Rattle.ground.specs.Says.{Says}
 use Rattle.ground.proofs.Tests.{says_one}
 use Rattle.page.specs.Page.{Record}
 use Rattle.partition.specs.declared.Shape.{Shape}
-use Rattle.partition.specs.Partition.{Row, record_length, need, needs}
+use Rattle.partition.specs.Partition.{Row, need, needs}
 use Rattle.partition.specs.Listing.{insert}
 use Rattle.partition.proofs.Rising.{insert_map}
 use Rattle.store.specs.Pages.{size, as_row}
@@ -32,7 +32,7 @@ fits_false S rs r l = says_one (needs (r ∷ map as_row rs) ≤ S.capacity) (fit
 pub rows_packed : (o : ℕ) (rs : List Row) → map as_row (pack_from o rs) ≡ rs
 unfolding pack_from
 rows_packed o [] = refl
-rows_packed o (r ∷ rs) = ap (λ l. r ∷ l) (rows_packed (o + record_length r.code) rs)
+rows_packed o (r ∷ rs) = ap (λ l. r ∷ l) (rows_packed (o + (8 + length r.code)) rs)
 
 rows_frontier : (rs : List Record) (r : Row) → map as_row (at_frontier rs r) ≡ insert (λ q. q.code) r (map as_row rs)
 unfolding at_frontier

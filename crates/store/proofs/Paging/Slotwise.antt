@@ -9,7 +9,7 @@ use lib.ListN.{length}
 use Rattle.ground.specs.Lists.{tab, total}
 use Rattle.ground.proofs.Tables.{tab_same}
 use Rattle.ground.proofs.Sides.{side}
-use Rattle.partition.specs.Partition.{Row, record_length, need, needs}
+use Rattle.partition.specs.Partition.{Row, need, needs}
 use Rattle.page.specs.Page.{Record}
 use Rattle.store.specs.Pages.{as_row}
 use Rattle.store.specs.Moves.{record_at, pack_from, frontier_of}
@@ -20,11 +20,11 @@ needs_tab g zero = refl
 needs_tab g (suc n) = ap (λ m. need (g zero) + m) (needs_tab (λ i. g (suc i)) n)
 
 -- packed: each record starts where those before it end
-pub pack_tab : (g : ℕ → Row) (n o : ℕ) → pack_from o (tab g n) ≡ tab (λ i. record_at (o + total (λ j. record_length (g j).code) i) (g i)) n
+pub pack_tab : (g : ℕ → Row) (n o : ℕ) → pack_from o (tab g n) ≡ tab (λ i. record_at (o + total (λ j. 8 + length (g j).code) i) (g i)) n
 unfolding tab total pack_from
 pack_tab g zero o = refl
 pack_tab g (suc n) o =
-    let l : ℕ → ℕ = λ j. record_length (g j).code in
+    let l : ℕ → ℕ = λ j. 8 + length (g j).code in
     let e : o ≡ o + 0 = omega arith in
     let rest : pack_from (o + l zero) (tab (λ i. g (suc i)) n) ≡ tab (λ i. record_at (o + total l (suc i)) (g (suc i))) n =
     pack_tab (λ i. g (suc i)) n (o + l zero)
@@ -34,7 +34,7 @@ pack_tab g (suc n) o =
 
 -- the largest of 8 and the records' ends
 abbrev end : Record → ℕ
-end r = r.start + record_length r.code
+end r = r.start + (8 + length r.code)
 
 pub record Highest (f : ℕ → Record) (n t : ℕ) : Type 0 where
   pub least : 8 ≤ t
@@ -65,7 +65,7 @@ highest f (suc n) = let t : ℕ = frontier_of (tab (λ i. f (suc i)) n) in highe
 -- the bytes of the rows' records
 unfoldable pub span : List Row → ℕ
 span [] = 0
-span (r ∷ rs) = record_length r.code + span rs
+span (r ∷ rs) = 8 + length r.code + span rs
 
 pub needs_span : (rs : List Row) → needs rs ≡ span rs + 4 * length rs
 unfolding needs need span
@@ -76,13 +76,13 @@ needs_span (r ∷ rs) = omega (arith, needs_span rs)
 pub pack_rows : (rs : List Row) (o : ℕ) → map as_row (pack_from o rs) ≡ rs
 unfolding pack_from
 pack_rows [] o = refl
-pack_rows (r ∷ rs) o = ap (λ l. r ∷ l) (pack_rows rs (o + record_length r.code))
+pack_rows (r ∷ rs) o = ap (λ l. r ∷ l) (pack_rows rs (o + (8 + length r.code)))
 
 pub pack_more : (rs : List Row) (r : Row) (o : ℕ) → pack_from o (rs ++ r ∷ []) ≡ pack_from o rs ++ record_at (o + span rs) r ∷ []
 unfolding pack_from span
 pack_more [] r o = let e : o ≡ o + 0 = omega arith in ap (λ k. record_at k r ∷ []) e
 pack_more (q ∷ rs) r o =
-    let l : ℕ = record_length q.code in
+    let l : ℕ = 8 + length q.code in
     let e : o + l + span rs ≡ o + (l + span rs) = omega arith in
     ap (λ t. record_at o q ∷ t) (pack_more rs r (o + l) ∙ ap (λ k. pack_from (o + l) rs ++ record_at k r ∷ []) e)
 
@@ -91,5 +91,5 @@ pub pack_top : (rs : List Row) (o : ℕ) → 8 ≤ o → max o (frontier_of (pac
 unfolding pack_from span frontier_of
 pack_top [] o h = omega arith
 pack_top (r ∷ rs) o h =
-    let l : ℕ = record_length r.code in
-    omega (arith, pack_top rs (o + record_length r.code) (omega arith))
+    let l : ℕ = 8 + length r.code in
+    omega (arith, pack_top rs (o + (8 + length r.code)) (omega arith))

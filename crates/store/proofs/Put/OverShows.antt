@@ -16,7 +16,7 @@ use Rattle.words.proofs.Orders.{order_eq}
 use Rattle.page.specs.Page.{Record}
 use Rattle.partition.specs.Bits.{top}
 use Rattle.partition.specs.declared.Shape.{Shape}
-use Rattle.partition.specs.Partition.{Row, row_need, need, needs, keep, rows_of, IsBucket, Reordered, empty, front, swap, chain}
+use Rattle.partition.specs.Partition.{Row, need, needs, keep, rows_of, IsBucket, Reordered, empty, front, swap, chain}
 use Rattle.partition.specs.Listing.{by, insert, without, in_order, place_of, Once}
 use Rattle.partition.proofs.Rising.{insert_map}
 use Rattle.partition.proofs.Rows.{load, to_load, of_load}
@@ -51,7 +51,7 @@ module _ (f : Row → Row) (same : (r : Row) → (f r).code ≡ r.code) where
   map_needs : (l : List Row) → needs (map f l) ≡ needs l
   unfolding needs need
   map_needs [] = refl
-  map_needs (r ∷ l) = ap₂ (λ (c : List ℕ) (n : ℕ). row_need c + n) (same r) (map_needs l)
+  map_needs (r ∷ l) = ap₂ (λ (c : List ℕ) (n : ℕ). 12 + length c + n) (same r) (map_needs l)
 
   map_order : (l : List Row) → in_order (map f l) ≡ map f (in_order l)
   unfolding in_order

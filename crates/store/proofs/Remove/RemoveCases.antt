@@ -11,7 +11,7 @@ use lib.Dec.{eqb}
 use lib.ListN.{length, get_or, set}
 use Rattle.partition.specs.Bits.{top}
 use Rattle.partition.specs.declared.Shape.{Shape}
-use Rattle.partition.specs.Partition.{Row, row_need, need, needs, rows_of, IsBucket, Fine, Reordered, buckets}
+use Rattle.partition.specs.Partition.{Row, need, needs, rows_of, IsBucket, Fine, Reordered, buckets}
 use Rattle.partition.specs.Listing.{without, place_of}
 use Rattle.partition.proofs.Laws.{Shallowest, load_reordered, reordered}
 use Rattle.partition.proofs.Maps.{cut, cut_same, cut_front, once_remove}
@@ -44,7 +44,7 @@ module _ (S : Shape) (h : List ℕ → ℕ) (rows : List Row) (gs : List Page) (
   its_bucket = subst (IsBucket S h rows its.depth) its.begins (s.page (find (holds h x) gs) its.depth its.records its.there).is
 
   -- what the rows of a prefix of the hash need with the row and without it
-  pub needs_left : (i : ℕ) → needs (rows_of h rows i (top i x)) ≡ row_need c + needs (rows_of h W i (top i x))
+  pub needs_left : (i : ℕ) → needs (rows_of h rows i (top i x)) ≡ 12 + length c + needs (rows_of h W i (top i x))
   unfolding need
   needs_left i = load_reordered S h front i (top i x) ∙ load_on h (record { code = c; place = old }) W i
 

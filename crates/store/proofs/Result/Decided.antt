@@ -16,9 +16,9 @@ use Rattle.partition.specs.Bits.{top}
 use Rattle.partition.specs.declared.Shape.{Shape}
 use Rattle.partition.specs.Sizes.{number_of_size}
 use Rattle.partition.specs.Partition.{needs, rows_of}
-use Rattle.page.specs.Page.{Slotted, Sorted, Natural, In, depth, count, frontier, free, off, len, kind, slot_need, place, code}
+use Rattle.page.specs.Page.{Slotted, Natural, In, depth, count, frontier, free, off, len, kind, slot_need, place, code}
 use Rattle.store.specs.Pages.{size, pages, page, dir_depth, entry_at, contents, rows_held, deepest_in}
-use Rattle.store.specs.Accepted.{Page0From, GoodLength, Zero, Page0, Page1, Bucket, Calls, Stands, unused, used, Parted, Rule, rule, rules, upward, Every, Stops, Accepted, Broken}
+use Rattle.store.specs.Accepted.{Page0From, GoodLength, Zero, Page1, Bucket, Calls, Stands, unused, used, Parted, Rule, rule, rules, upward, Every, Stops, Accepted, Broken}
 use Rattle.store.specs.Tables.{PageKeeps}
 use Rattle.store.specs.Counts.{buckets_at, Counts}
 use Rattle.store.proofs.Result.Decisions.{both, either, implies, not, exactly, all, some, is_less}
@@ -97,19 +97,17 @@ module _ (p : List ℕ) where
       (both (implies (dec_le 1 n) (some n (λ i. off p i + len p i ≡ frontier p) (λ i l. ℕ_discrete (off p i + len p i) (frontier p))))
       (both (each (λ i. Natural (place p i)) (λ i. natural (place p i)))
       (both apart
+      (both ascending
       (both (ℕ_discrete (free p + total (slot_need p) n) (length p - 8))
-      clear))))))))))))))))
-
-  pub sorted : Dec (Sorted p)
-  sorted = map_dec (λ t. record { ascending = t }) (λ s. s.ascending) ascending
+      clear)))))))))))))))))
 
   module _ (h : List ℕ → ℕ) where
     pub bucket_or_not : Dec (Bucket h p)
     bucket_or_not = map_dec
-        (λ t. record { rules = record { rules = t.0; sorted = t.1.0; some = t.1.1.0 }; folded = t.1.1.1.0; share = λ i j a b. t.1.1.1.1 i a j b })
-        (λ b. (b.rules.rules, (b.rules.sorted, (b.rules.some, (b.folded, λ i a j c. b.share i j a c)))))
-        (both slotted (both sorted (both (dec_le 1 n) (both (each (λ i. Folded (code p i)) (λ i. folded_or_not (code p i))) (each (λ i. Each (λ j. top (depth p) (h (code p i)) ≡ top (depth p) (h (code p j))))
-        (λ i. each (λ j. top (depth p) (h (code p i)) ≡ top (depth p) (h (code p j))) (λ j. ℕ_discrete (top (depth p) (h (code p i))) (top (depth p) (h (code p j))))))))))
+        (λ t. record { rules = record { rules = t.0; some = t.1.0 }; folded = t.1.1.0; share = λ i j a b. t.1.1.1 i a j b })
+        (λ b. (b.rules.rules, (b.rules.some, (b.folded, λ i a j c. b.share i j a c))))
+        (both slotted (both (dec_le 1 n) (both (each (λ i. Folded (code p i)) (λ i. folded_or_not (code p i))) (each (λ i. Each (λ j. top (depth p) (h (code p i)) ≡ top (depth p) (h (code p j))))
+        (λ i. each (λ j. top (depth p) (h (code p i)) ≡ top (depth p) (h (code p j))) (λ j. ℕ_discrete (top (depth p) (h (code p i))) (top (depth p) (h (code p j)))))))))
 
     pub keeps_or_not : (S : Shape) → Dec (PageKeeps S h p)
     keeps_or_not S = either (zero_or_not p) (both bucket_or_not (dec_le (depth p) S.deepest))

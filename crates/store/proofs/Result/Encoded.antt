@@ -14,9 +14,7 @@ use Rattle.ground.proofs.Tables.{length_tab, get_d_tab, tab_same, total_same}
 use Rattle.words.specs.Le.{le16, le32, bytes}
 use Rattle.words.specs.Codes.{Before}
 use Rattle.words.proofs.Bytes.{le32_moved, Small, small_append, small_bytes}
-use Rattle.partition.specs.Partition.{body_length, record_length, row_need}
-use Rattle.partition.proofs.Rows.{body_short}
-use Rattle.page.specs.Page.{Slotted, Sorted, Natural, Record, In, rows, row_at, depth, count, frontier, free, word, off, len, kind, slot_need, place, code}
+use Rattle.page.specs.Page.{Slotted, Natural, Record, In, rows, row_at, depth, count, frontier, free, word, off, len, kind, slot_need, place, code}
 use Rattle.store.specs.Moves.{frontier_of}
 use Rattle.store.proofs.Result.Decisions.{both, some}
 use Rattle.store.proofs.Paging.Slotwise.{Highest, highest}
@@ -24,7 +22,7 @@ use Rattle.store.proofs.Paging.Slotwise.{Highest, highest}
 -- byte k is of the record
 pub record Of (r : Record) (k : ℕ) : Type 0 where
   pub from : r.start ≤ k
-  pub to : k < r.start + record_length r.code
+  pub to : k < r.start + (8 + length r.code)
 
 -- a place and a code that a page may hold
 pub record Storable (pl c : List ℕ) : Type 0 where
@@ -44,7 +42,7 @@ pub record Lay (z d n : ℕ) (f : ℕ → Record) : Type 0 where
   pub room : frontier_of (tab f n) + 4 * n ≤ z
   pub apart : (i j k : ℕ) → i < n → j < n → Of (f i) k → Of (f j) k → i ≡ j
   pub ascending : (i j : ℕ) → i < j → j < n → Before (f i).code (f j).code
-  pub fit : total (λ i. row_need (f i).code) n ≤ z - 8
+  pub fit : total (λ i. 12 + length (f i).code) n ≤ z - 8
 
 -- the number in four bytes comes back
 pub le32_of : (w : ℕ) → w < 2 ^ 32 → le32 (bytes 4 w) 0 ≡ w
@@ -52,14 +50,14 @@ unfolding bytes le32 le16
 le32_of w l = omega arith
 
 of_or_not : (r : Record) (k : ℕ) → Dec (Of r k)
-of_or_not r k = map_dec (λ t. search) (λ x. search) (both (dec_le r.start k) (dec_lt k (r.start + record_length r.code)))
+of_or_not r k = map_dec (λ t. search) (λ x. search) (both (dec_le r.start k) (dec_lt k (r.start + (8 + length r.code))))
 
 module _ (z d n : ℕ) (f : ℕ → Record) where
   abbrev F : ℕ
   F = frontier_of (tab f n)
 
   abbrev needed : ℕ
-  needed = total (λ i. row_need (f i).code) n
+  needed = total (λ i. 12 + length (f i).code) n
 
   abbrev head : List ℕ
   head = 1 ∷ d ∷ (bytes 2 n ++ (bytes 2 F ++ bytes 2 (z - 8 - needed)))
@@ -76,7 +74,7 @@ module _ (z d n : ℕ) (f : ℕ → Record) where
   own k (no _) = 0
 
   abbrev slot_word : ℕ → ℕ
-  slot_word i = (f i).start + 16384 * record_length (f i).code + 268435456
+  slot_word i = (f i).start + 16384 * (8 + length (f i).code) + 268435456
 
   abbrev slot_byte : ℕ → ℕ
   slot_byte k = byte (bytes 4 (slot_word ((z - 1 - k) / 4))) (k + 4 * ((z - 1 - k) / 4 + 1) - z)
@@ -147,11 +145,8 @@ module _ (z d n : ℕ) (f : ℕ → Record) where
 
     -- ---- slots
 
-    ends : (i : ℕ) → i < n → (f i).start + record_length (f i).code + 4 * n ≤ z
+    ends : (i : ℕ) → i < n → (f i).start + (8 + length (f i).code) + 4 * n ≤ z
     ends i l = omega (arith, H.most i l, L.room)
-
-    short : (i : ℕ) → i < n → body_length (length (f i).code) ≡ length (f i).code
-    short i l = body_short (length (f i).code) (L.good i l).most
 
     word_is : (i : ℕ) → i < n → word g i ≡ slot_word i
     unfolding word
@@ -162,19 +157,19 @@ module _ (z d n : ℕ) (f : ℕ → Record) where
         let e : (z - 1 - (z - 4 * (i + 1) + j)) / 4 ≡ i = omega arith in
         let q : z - 4 * (i + 1) + j + 4 * (i + 1) - z ≡ 0 + j = omega arith in
         slot_is (z - 4 * (i + 1) + j) (omega arith) (omega arith) ∙ ap (λ t. byte (bytes 4 (slot_word t)) (z - 4 * (i + 1) + j + 4 * (t + 1) - z)) e ∙ ap (byte (bytes 4 (slot_word i))) q)
-        ∙ le32_of (slot_word i) (omega (arith, ends i l, L.most, short i l, r.most)))
+        ∙ le32_of (slot_word i) (omega (arith, ends i l, L.most, r.most)))
 
     off_is : (i : ℕ) → i < n → off g i ≡ (f i).start
     unfolding off
     off_is i l = omega (arith, word_is i l, ends i l, L.most)
 
-    len_is : (i : ℕ) → i < n → len g i ≡ record_length (f i).code
+    len_is : (i : ℕ) → i < n → len g i ≡ 8 + length (f i).code
     unfolding len
-    len_is i l = omega (arith, word_is i l, ends i l, L.most, short i l, (L.good i l).most)
+    len_is i l = omega (arith, word_is i l, ends i l, L.most, (L.good i l).most)
 
     kind_is : (i : ℕ) → i < n → kind g i ≡ 1
     unfolding kind
-    kind_is i l = omega (arith, word_is i l, ends i l, L.most, short i l, (L.good i l).most)
+    kind_is i l = omega (arith, word_is i l, ends i l, L.most, (L.good i l).most)
 
     in_of : (i k : ℕ) → i < n → In g i k → Of (f i) k
     in_of i k l x = record { from = omega (arith, off_is i l, x.from); to = omega (arith, off_is i l, len_is i l, x.to) }
@@ -211,7 +206,6 @@ module _ (z d n : ℕ) (f : ℕ → Record) where
     unfolding code
     code_is i l =
         let p : length (f i).place ≡ 8 = (L.good i l).natural.long in
-        let s : body_length (length (f i).code) ≡ length (f i).code = short i l in
         let q : len g i - 8 ≡ length (f i).code = omega (arith, len_is i l) in
         rw (off_is i l, q) (part_is g ((f i).start + 8) (f i).code (omega (arith, ends i l, encode_long)) (λ j b.
         let e : (f i).start + 8 + j - (f i).start ≡ length (f i).place + j = omega arith in
@@ -249,8 +243,8 @@ module _ (z d n : ℕ) (f : ℕ → Record) where
       one = head_is 0 (omega arith);
       room = omega (arith, counted, fronted, encode_long, L.room);
       kinds = λ i l. kind_is i (below i l);
-      short = λ i l. omega (arith, len_is i (below i l), short i (below i l), (L.good i (below i l)).some);
-      long = λ i l. omega (arith, len_is i (below i l), short i (below i l), (L.good i (below i l)).most);
+      short = λ i l. omega (arith, len_is i (below i l), (L.good i (below i l)).some);
+      long = λ i l. omega (arith, len_is i (below i l), (L.good i (below i l)).most);
       after = λ i l. omega (arith, off_is i (below i l), L.after i (below i l));
       inside = λ i l. omega (arith, off_is i (below i l), len_is i (below i l), fronted, H.most i (below i l));
       start = omega (arith, fronted, H.least);
@@ -259,14 +253,12 @@ module _ (z d n : ℕ) (f : ℕ → Record) where
           (w.0, omega (arith, w.1, counted), omega (arith, w.2, off_is w.0 w.1, len_is w.0 w.1, fronted));
       places = λ i l. rw (place_is i (below i l)) (L.good i (below i l)).natural;
       apart = λ i j k a b x y. L.apart i j k (below i a) (below j b) (in_of i k (below i a) x) (in_of j k (below j b) y);
+      ascending = λ i j a b. rw (code_is i (omega (arith, counted)), code_is j (below j b)) (L.ascending i j a (below j b));
       unused =
-          let t : total (slot_need g) n ≡ needed = total_same (slot_need g) (λ i. row_need (f i).code) n (λ i l. omega (arith, len_is i l)) in
+          let t : total (slot_need g) n ≡ needed = total_same (slot_need g) (λ i. 12 + length (f i).code) n (λ i l. omega (arith, len_is i l)) in
           omega (arith, freed, ap (total (slot_need g)) counted, t, encode_long, L.fit);
       clear = λ k a b u. own_none k a (omega (arith, counted, encode_long)) (λ i l x. u i (omega (arith, counted)) (of_in i k l x));
     }
-
-    pub encode_sorted : Sorted g
-    encode_sorted = record { ascending = λ i j a b. rw (code_is i (omega (arith, counted)), code_is j (below j b)) (L.ascending i j a (below j b)) }
 
     -- and their rows are the records
     pub encode_rows : rows g ≡ tab f n

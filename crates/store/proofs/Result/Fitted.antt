@@ -15,7 +15,6 @@ use Rattle.ground.proofs.Tables.{length_tab}
 use Rattle.ground.proofs.Tests.{none_some}
 use Rattle.partition.specs.Bits.{top}
 use Rattle.partition.specs.declared.Shape.{Shape}
-use Rattle.partition.proofs.Rows.{body_short}
 use Rattle.partition.specs.Partition.{Row, Prefix, keep, need, needs, rows_of, buckets, or_else}
 use Rattle.partition.specs.Listing.{without, in_order}
 use Rattle.partition.proofs.Members.{mem_reordered, in_order_reordered}
@@ -47,7 +46,7 @@ pub record Fits (z n : ℕ) (gs : List Page) : Type 0 where
   pub each : Each z gs
   pub many : length gs ≡ n
 
-abbrev pub AllStore : List Row → Type 0
+abbrev AllStore : List Row → Type 0
 AllStore rs = (r : Row) → Memᴰ r rs → Stores r
 
 -- ---- lists of pages
@@ -62,7 +61,7 @@ module _ (z : ℕ) where
   map_each f k [] a = tt
   map_each f k (g ∷ gs) a = (k g a.0, map_each f k gs a.1)
 
-  pub all_each : (f : Prefix → Page) (ps : List Prefix) → ((p : Prefix) → Memᴰ p ps → FitPage z (f p)) → Each z (map f ps)
+  all_each : (f : Prefix → Page) (ps : List Prefix) → ((p : Prefix) → Memᴰ p ps → FitPage z (f p)) → Each z (map f ps)
   all_each f [] k = tt
   all_each f (p ∷ ps) k = (k p (Memᴰ.head refl), all_each f ps (λ q m. k q (Memᴰ.tail m)))
 
@@ -81,7 +80,7 @@ module _ (z : ℕ) where
   page_fits (x ∷ gs) zero a = a.0
   page_fits (x ∷ gs) (suc i) a = page_fits gs i a.1
 
-  pub rows_stored : (gs : List Page) → Each z gs → AllStore (rows_in gs)
+  rows_stored : (gs : List Page) → Each z gs → AllStore (rows_in gs)
   rows_stored gs a r m = let w = row_on gs r m in rows_store {z = z} (subst (FitPage z) w.3 (page_fits gs w.0 a)) r w.4
 
   module _ (n : ℕ) where
@@ -136,7 +135,7 @@ module _ (S : Shape) (h : List ℕ → ℕ) where
       pack_fit (size S) (in_order own) (λ r m. f r (prefix_row h rs p.bits p.value r (mem_reordered (in_order_reordered own) m)).0) (omega (arith, needs_same (in_order_reordered own)))
 
   module _ (hash : Hash h) where
-    pub bucket_fit : (rs : List Row) → AllStore rs → (p : Prefix) → Memᴰ p (buckets S h rs) → FitPage (size S) (packed h rs p)
+    bucket_fit : (rs : List Row) → AllStore rs → (p : Prefix) → Memᴰ p (buckets S h rs) → FitPage (size S) (packed h rs p)
     bucket_fit rs f p m = packed_fit rs p f ((listed S h hash rs p.bits p.value).0 m).0.fit
 
     with_row : (r : Row) (rs : List Row) → Stores r → AllStore rs → AllStore (r ∷ rs)
@@ -154,7 +153,7 @@ module _ (S : Shape) (h : List ℕ → ℕ) where
       -- a row needs no more than a page has
       alone : (r : Row) → Stores r → 76 ≤ S.capacity → (k v : ℕ) → needs (rows_of h (r ∷ []) k v) ≤ S.capacity
       unfolding needs need
-      alone r s l k v = omega (arith, prefix_needs h (r ∷ []) k v, body_short (length r.code) s.most, s.most)
+      alone r s l k v = omega (arith, prefix_needs h (r ∷ []) k v, s.most)
 
       pub put_fits : (r : Row) → Stores r → Sized S → Fits (size S) n (put_new S h gs r)
       unfolding put_new

@@ -13,7 +13,7 @@ use Rattle.words.specs.Codes.{Before}
 use Rattle.words.proofs.Bytes.{Small, small_zeros}
 use Rattle.words.proofs.Orders.{irrefl}
 use Rattle.partition.specs.declared.Shape.{Shape}
-use Rattle.partition.specs.Partition.{Row, row_need, need, needs, rows_of}
+use Rattle.partition.specs.Partition.{Row, need, needs, rows_of}
 use Rattle.partition.proofs.Members.{in_order_reordered}
 use Rattle.partition.proofs.Reorders.{needs_same}
 use Rattle.partition.proofs.Rising.{tab_in}
@@ -25,7 +25,7 @@ use Rattle.store.specs.Pages.{size, Page, free, bucket, read, as_row}
 use Rattle.store.specs.Moves.{frontier_of}
 use Rattle.store.specs.Demands.{Sized}
 use Rattle.store.proofs.Accepted.Accepting.{Whole}
-use Rattle.store.proofs.Result.Encoded.{Lay, encode, encode_long, encode_deep, encode_slotted, encode_sorted, encode_rows, encode_some}
+use Rattle.store.proofs.Result.Encoded.{Lay, encode, encode_long, encode_deep, encode_slotted, encode_rows, encode_some}
 use Rattle.store.proofs.Result.Fitted.{FitPage, Each, page_fits}
 use Rattle.store.proofs.Result.Together.{Fit}
 use Rattle.store.proofs.Accepted.Named.{deep_small}
@@ -79,7 +79,7 @@ module _ (S : Shape) (h : List ℕ → ℕ) (sized : Sized S) (shown : List Row)
     unfolding own
     rising = subst (Rising by_code) (sym on.ordered) (order_rising own (some_once h k (prefix_on h k rs) shown w.once))
 
-    needed : total (λ i. row_need (slot rs i).code) (length rs) ≤ S.capacity
+    needed : total (λ i. 12 + length (slot rs i).code) (length rs) ≤ S.capacity
     unfolding own need
     needed =
         let t = sym (needs_tab (λ i. as_row (slot rs i)) (length rs)) ∙ ap needs (sym (tab_map as_row (slot rs) (length rs)) ∙ ap (map as_row) (tab_list nothing rs) ∙ on.ordered) in
@@ -108,7 +108,7 @@ module _ (S : Shape) (h : List ℕ → ℕ) (sized : Sized S) (shown : List Row)
         record {
           long = encode_long (size S) k (length rs) (slot rs) lay;
           small = record { at = P.bytes };
-          whole = inr (record { rules = P; sorted = encode_sorted (size S) k (length rs) (slot rs) lay; some = encode_some (size S) k (length rs) (slot rs) lay on.some });
+          whole = inr (record { rules = P; some = encode_some (size S) k (length rs) (slot rs) lay on.some });
           reads = read_slotted g P ∙ λ t. bucket (encode_deep (size S) k (length rs) (slot rs) lay t) ((encode_rows (size S) k (length rs) (slot rs) lay ∙ tab_list nothing rs) t);
         }
 

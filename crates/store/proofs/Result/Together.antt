@@ -17,7 +17,7 @@ use Rattle.words.specs.Codes.{order}
 use Rattle.words.proofs.Bytes.{Small}
 use Rattle.words.proofs.Orders.{order_eq}
 use Rattle.partition.specs.declared.Shape.{Shape}
-use Rattle.partition.specs.Partition.{Row, record_length, need, needs}
+use Rattle.partition.specs.Partition.{Row, need, needs}
 use Rattle.partition.specs.Listing.{by, insert, without}
 use Rattle.partition.proofs.Rising.{tab_member, insert_member, without_member}
 use Rattle.page.specs.Page.{Slotted, Record, rows, row_at, count, off, len, place, code}
@@ -26,12 +26,12 @@ use Rattle.page.proofs.Sums.{len_of_code}
 use Rattle.store.specs.Pages.{size, as_row}
 use Rattle.store.specs.Moves.{pick, record_at, pack_from, frontier_of, at_frontier, added, place_on}
 use Rattle.store.proofs.Result.Encoded.{Of, Storable}
-use Rattle.store.proofs.Paging.PageTies.{record_long, page_frontier}
+use Rattle.store.proofs.Paging.PageTies.{page_frontier}
 use Rattle.store.proofs.Paging.Slotwise.{needs_span, pack_rows, pack_top}
 
 -- where a record ends
 abbrev end : Record → ℕ
-end r = r.start + record_length r.code
+end r = r.start + (8 + length r.code)
 
 abbrev pub Stores : Row → Type 0
 Stores r = Storable r.place r.code
@@ -80,7 +80,7 @@ part_small g k n b l = record {
 
 module _ (g : List ℕ) (P : Slotted g) where
   slot_end : (i : ℕ) → i < count g → end (row_at g i) ≡ off g i + len g i
-  slot_end i l = omega (arith, record_long g i P l)
+  slot_end i l = omega (arith, len_of_code g i P l)
 
   slot_stores : (i : ℕ) → i < count g → Storable (place g i) (code g i)
   unfolding place code
@@ -128,11 +128,11 @@ stayed_fit {z} {rs} {qs} F l f = record {
   after = λ q m. let w = f q m in subst (λ n. 8 ≤ n) w.start (F.after w.was w.there);
   good = λ q m. (f q m).stores;
   apart = λ r q m n k a b. let u = f r m in let v = f q n in sym u.code ∙ F.apart u.was v.was u.there v.there k (of u a) (of v b) ∙ v.code;
-  room = omega (arith, F.room, frontier_least qs (frontier_of rs) (frontier_start rs) (λ q m. let w = f q m in omega (arith, frontier_most rs w.was w.there, w.start, ap record_length w.code)));
+  room = omega (arith, F.room, frontier_least qs (frontier_of rs) (frontier_start rs) (λ q m. let w = f q m in omega (arith, frontier_most rs w.was w.there, w.start, ap length w.code)));
 }
   where
     of : {q : Record} {k : ℕ} (w : Stayed rs q) → Of q k → Of w.was k
-    of w a = record { from = omega (arith, a.from, w.start); to = omega (arith, a.to, w.start, ap record_length w.code) }
+    of w a = record { from = omega (arith, a.from, w.start); to = omega (arith, a.to, w.start, ap length w.code) }
 
 -- a code left out
 length_without : (c : List ℕ) (rs : List Record) → length (without (λ q. q.code) c rs) ≤ length rs
@@ -170,21 +170,21 @@ unfolding pack_from
 pack_from_lem [] o q m = absurd (Memᴰ.not-nil m)
 pack_from_lem (r ∷ rs) o q m = ⊎_elim
     (λ e. let f : q.start ≡ o = ap (λ t. t.start) e in omega arith)
-    (λ t. omega (arith, pack_from_lem rs (o + record_length r.code) q t))
+    (λ t. omega (arith, pack_from_lem rs (o + (8 + length r.code)) q t))
     (Memᴰ.cases_cons m)
 
 pack_row : (rs : List Row) (o : ℕ) (q : Record) → Memᴰ q (pack_from o rs) → Memᴰ (as_row q) rs
 unfolding pack_from
 pack_row [] o q m = absurd (Memᴰ.not-nil m)
-pack_row (r ∷ rs) o q m = ⊎_elim (λ e. Memᴰ.head (ap as_row e)) (λ t. Memᴰ.tail (pack_row rs (o + record_length r.code) q t)) (Memᴰ.cases_cons m)
+pack_row (r ∷ rs) o q m = ⊎_elim (λ e. Memᴰ.head (ap as_row e)) (λ t. Memᴰ.tail (pack_row rs (o + (8 + length r.code)) q t)) (Memᴰ.cases_cons m)
 
 pack_apart : (rs : List Row) (o : ℕ) (p q : Record) → Memᴰ p (pack_from o rs) → Memᴰ q (pack_from o rs) → (k : ℕ) → Of p k → Of q k → p.code ≡ q.code
 unfolding pack_from
 pack_apart [] o p q m n k a b = absurd (Memᴰ.not-nil m)
-pack_apart (r ∷ rs) o p q m n k a b = go (Memᴰ.cases_cons m) (Memᴰ.cases_cons n) (λ t u. pack_apart rs (o + record_length r.code) p q t u k a b)
+pack_apart (r ∷ rs) o p q m n k a b = go (Memᴰ.cases_cons m) (Memᴰ.cases_cons n) (λ t u. pack_apart rs (o + (8 + length r.code)) p q t u k a b)
   where
     next : ℕ
-    next = o + record_length r.code
+    next = o + (8 + length r.code)
 
     -- the first ends where the others begin
     first : (x y : Record) → x ≡ record_at o r → Memᴰ y (pack_from next rs) → Of x k → Of y k → ⊥

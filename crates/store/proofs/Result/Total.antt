@@ -24,7 +24,7 @@ use Rattle.store.specs.Pages.{pages, Page, contents, rows_held}
 use Rattle.store.specs.Accepted.{Accepted}
 use Rattle.store.specs.Moves.{overwritten, put_new, removed}
 use Rattle.store.specs.Tables.{Out, new, replaced, found, Refusal3, Becomes, writes, put_accepted, put_by_mode, put_table, remove_table}
-use Rattle.store.specs.Demands.{Sized, Hash, format, check, count, pack, lookup, remove, put, row_at, inspect, Answered}
+use Rattle.store.specs.Demands.{Sized, Hash, format, check, count, lookup, remove, put, row_at, inspect, Answered}
 use Rattle.store.proofs.Result.Answered.{Result, answered, refused_or, unless, checked_or, found_or, three_or_not, negative_or_not, format_answered, check_answered, count_answered, lookup_answered, row_answered, inspect_answered}
 use Rattle.store.proofs.Accepted.Spelled.{held_folded, one_more, one_less}
 use Rattle.store.proofs.Result.Assembled.{store_of}
@@ -32,7 +32,6 @@ use Rattle.store.proofs.Result.Decided.{good_or_not}
 use Rattle.store.proofs.Result.Decisions.{both}
 use Rattle.store.proofs.Result.Fitted.{accepted_fits, over_fits, put_fits, remove_fits}
 use Rattle.store.proofs.Result.Together.{Stores}
-use Rattle.store.proofs.Packing.Results.{pack_answered}
 use Rattle.store.proofs.Demands.Kept.{good_code}
 use Rattle.store.proofs.Remove.MoveRows.{over_shown, remove_shown}
 use Rattle.store.proofs.Put.PutRows.{put_shown}
@@ -100,7 +99,6 @@ answered_always S h sized hash = made
     made format s _ = let w = format_answered S h s in (w.is.0, w.is.1, w.allowed)
     made check s _ = let w = check_answered S h s in (w.is, s, (w.allowed, refl))
     made count s _ = let w = count_answered S h s in (w.is, s, (w.allowed, refl))
-    made pack s _ = let w = pack_answered S h sized hash s in (w.is.0, w.is.1, w.allowed)
     made (lookup c) s _ = let w = lookup_answered S h s c in (w.is, s, (w.allowed, refl))
     made (remove c) s _ = let w = remove_answered S h sized hash s c in (w.is.0, w.is.1, w.allowed)
     made (put c p m) s g = let w = put_answered S h sized hash s c p m (λ k. omega (arith, g.0 k)) g.1 in (w.is.0, w.is.1, w.allowed)

@@ -147,7 +147,7 @@ find_free gs l =
 
 module _ (h : List ℕ → ℕ) where
   -- the prefixes of the pages in use
-  abbrev pub shown : List Page → List Prefix
+  abbrev shown : List Page → List Prefix
   shown [] = []
   shown (free ∷ gs) = shown gs
   shown (bucket k rs ∷ gs) = pfx k (prefix_on h k rs) ∷ shown gs
@@ -210,25 +210,14 @@ module _ (S : Shape) (h : List ℕ → ℕ) (small : (c : List ℕ) → h c < 2 
         both x (inl m) = in_list x.bits x.value (shown_in x m).0
         both x (inr m) = in_list x.bits x.value (new x m).0
 
-  module _ (gs : List Page) (s : Shows S h rows gs) where
-    -- the pages in use have the prefixes of the buckets, each once
-    pub shown_distinct : Distinct (shown h gs)
-    shown_distinct = distinct h gs s.apart
-
-    pub buckets_distinct : Distinct (buckets S h rows)
-    buckets_distinct = asc_distinct S.deepest 0 (2 ^ S.deepest) (buckets S h rows) (in_order_lem S h rows)
-
-    pub shown_listed : (x : Prefix) → Memᴰ x (shown h gs) → Memᴰ x (buckets S h rows)
-    shown_listed x m = in_list x.bits x.value (shown_in Any gs (whole S h rows gs s) x m).0
-
-    pub listed_shown : (x : Prefix) → Memᴰ x (buckets S h rows) → Memᴰ x (shown h gs)
-    listed_shown x m =
-        let w = paged S h rows gs s x.bits x.value ((listed S h small rows x.bits x.value).0 m).0 in
-        subst (λ v. Memᴰ (pfx x.bits v) (shown h gs)) w.3 (is_shown h gs w.0 x.bits w.1 w.2)
-
-    -- THE COUNT. Each bucket takes one page, and the others are free
-    pub rooms : length (buckets S h rows) + frees gs ≡ length gs
-    rooms =
-        let a : length (shown h gs) ≤ length (buckets S h rows) = no_longer (shown h gs) (buckets S h rows) shown_distinct shown_listed in
-        let b : length (buckets S h rows) ≤ length (shown h gs) = no_longer (buckets S h rows) (shown h gs) buckets_distinct listed_shown in
-        omega (arith, in_use h gs)
+  -- THE COUNT. Each bucket takes one page, and the others are free
+  pub rooms : (gs : List Page) → Shows S h rows gs → length (buckets S h rows) + frees gs ≡ length gs
+  rooms gs s =
+      let a : length (shown h gs) ≤ length (buckets S h rows) = no_longer (shown h gs) (buckets S h rows) (distinct h gs s.apart) (λ x m. in_list x.bits x.value (shown_in Any gs (whole S h rows gs s) x m).0) in
+      let b : length (buckets S h rows) ≤ length (shown h gs) = no_longer (buckets S h rows) (shown h gs) (asc_distinct S.deepest 0 (2 ^ S.deepest) (buckets S h rows) (in_order_lem S h rows)) back in
+      omega (arith, in_use h gs)
+    where
+      back : (x : Prefix) → Memᴰ x (buckets S h rows) → Memᴰ x (shown h gs)
+      back x m =
+          let w = paged S h rows gs s x.bits x.value ((listed S h small rows x.bits x.value).0 m).0 in
+          subst (λ v. Memᴰ (pfx x.bits v) (shown h gs)) w.3 (is_shown h gs w.0 x.bits w.1 w.2)

@@ -255,8 +255,8 @@ module _ (S : Shape) (h : List ℕ → ℕ) (sized : Sized S) (hash : Hash h) (s
         subst₂ (λ n t. (r : Row) → Memᴰ r (map as_row t) → top n (h r.code) ≡ prefix_on h n t) (sym u.deep) (sym u.its)
         (λ r m. let w = slot_of (pg i) r m in
         ap (λ q. top (depth (pg i)) (h q.code)) w.2 ∙ u.bytes.share w.0 0 w.1 u.bytes.rules.some ∙ sym (first_code_lem h (pg i) u.bytes.rules));
-    ordered = λ i k rs e. let u = under i k rs e in subst (λ t. in_order (map as_row t) ≡ map as_row t) (sym u.its) (page_order (pg i) u.bytes.rules.sorted);
-    once = λ i k rs e. let u = under i k rs e in subst (λ t. Once (map as_row t)) (sym u.its) (page_once (pg i) u.bytes.rules.sorted);
+    ordered = λ i k rs e. let u = under i k rs e in subst (λ t. in_order (map as_row t) ≡ map as_row t) (sym u.its) (page_order (pg i) u.bytes.rules.rules);
+    once = λ i k rs e. let u = under i k rs e in subst (λ t. Once (map as_row t)) (sym u.its) (page_once (pg i) u.bytes.rules.rules);
     fits = λ i k rs e. let u = under i k rs e in subst (λ t. needs (map as_row t) ≤ S.capacity) (sym u.its)
         (omega (arith, page_needs (pg i) u.bytes.rules.rules, page_long S s (i + 2) u.within));
     parted = λ i j rs e. let u = under i (suc j) rs e in

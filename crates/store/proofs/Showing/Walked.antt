@@ -2,9 +2,10 @@
 use borrow.Author.Tests.{le-leb, lt-leb}
 use mathlib.Core.Path.{◌≡◌, refl, sym, ap, subst, ◌∙◌}
 use mathlib.Core.Bool.{Bool, true, false}
+use mathlib.Core.List.Memᴰ
 use mathlib.Core.List.{List, [], ◌∷◌, ◌++◌, flat_map, Memᴰ}
 use mathlib.Core.Logic.{◌⊎◌, inl, inr}
-use mathlib.Core.Option.{some, none}
+use mathlib.Core.Option.{some}
 use Prim.Native.Nat.{ℕ, ◌+◌, ◌-◌, ◌^◌, ◌≤◌, ◌<◌, zero-le}
 use native.Mathlib.Omega.{arith}
 use native.Mathlib.Nat.{le_trans, pow-le-pow_right}
@@ -73,24 +74,24 @@ module _ (d : ℕ) where
   unfolding from
   from_end i lo hi [] b a = refl
   from_end i lo hi (p ∷ l) b a =
-      leave_it i p l (omega (arith, first_lt_after d p, asc_last d lo hi (p ∷ l) a p (mathlib.Core.List.Memᴰ.head refl))) ∙ from_end i (after d p) hi l b a.1
+      leave_it i p l (omega (arith, first_lt_after d p, asc_last d lo hi (p ∷ l) a p (Memᴰ.head refl))) ∙ from_end i (after d p) hi l b a.1
 
   -- none begins at entry i
   from_next : (i : ℕ) (l : List Prefix) → ((p : Prefix) → Memᴰ p l → first d p ≡ i → ⊥) → from d i l ≡ from d (i + 1) l
   unfolding from
   from_next i [] n = refl
-  from_next i (p ∷ l) n = go (side (first d p) i) (from_next i l (λ q m. n q (mathlib.Core.List.Memᴰ.tail m)))
+  from_next i (p ∷ l) n = go (side (first d p) i) (from_next i l (λ q m. n q (Memᴰ.tail m)))
     where
       go : (first d p < i) ⊎ (i ≤ first d p) → from d i l ≡ from d (i + 1) l → from d i (p ∷ l) ≡ from d (i + 1) (p ∷ l)
       go (inl b) e = leave_it i p l b ∙ e ∙ sym (leave_it (i + 1) p l (omega arith))
       go (inr b) e =
-          let x : first d p ≡ i → ⊥ = n p (mathlib.Core.List.Memᴰ.head refl) in
+          let x : first d p ≡ i → ⊥ = n p (Memᴰ.head refl) in
           take_it i p l b ∙ ap (λ m. p ∷ m) e ∙ sym (take_it (i + 1) p l (omega arith))
 
   -- p begins there
   from_here : (i lo hi : ℕ) (l : List Prefix) → Ascending d lo hi l → (p : Prefix) → Memᴰ p l → first d p ≡ i → from d i l ≡ p ∷ from d (after d p) l
-  from_here i lo hi [] a p m e = absurd (mathlib.Core.List.Memᴰ.not-nil m)
-  from_here i lo hi (q ∷ l) a p m e = go (mathlib.Core.List.Memᴰ.cases_cons m) (from_here i (after d q) hi l a.1 p)
+  from_here i lo hi [] a p m e = absurd (Memᴰ.not-nil m)
+  from_here i lo hi (q ∷ l) a p m e = go (Memᴰ.cases_cons m) (from_here i (after d q) hi l a.1 p)
     where
       go : (p ≡ q) ⊎ Memᴰ p l → (Memᴰ p l → first d p ≡ i → from d i l ≡ p ∷ from d (after d p) l) → from d i (q ∷ l) ≡ p ∷ from d (after d p) (q ∷ l)
       go (inl x) rest =
@@ -189,9 +190,13 @@ module _ (S : Shape) (h : List ℕ → ℕ) (sized : Sized S) (hash : Hash h) (s
       let m : 2 ^ d ≤ 2 ^ S.deepest = pow-le-pow_right (omega arith) (opened S h s a).page0.depth in
       omega (arith, m, sized.deep)
 
-  -- an entry that names nothing is no bucket's
-  no_bucket : (i : ℕ) → i < 2 ^ dir_depth s → entry_at S s i ≡ 0 → (p : Prefix) → Memᴰ p bs → Holds d i p → ⊥
-  no_bucket i l z = free_of (accepted_entry S h sized hash s (opened S h s a) i (inside i l))
+  -- an entry that names nothing: on to the next
+  pub walk_none : (i : ℕ) → i < 2 ^ dir_depth s → entry_at S s i ≡ 0 → (walk_from S h s i ≡ walk_from S h s (i + 1)) × Start S h s (i + 1)
+  unfolding walk_from
+  walk_none i l z = (
+    ap (flat_map (rows_at h (rows_held S s))) (from_next d i bs (λ p m e. none p m ((holds_range d i p).1 (omega arith, omega (arith, first_lt_after d p))))),
+    record { begins = starts_next d i bs none },
+  )
     where
       free_of : Entry S h s (contents S s) d (pages S s - 2) i → (p : Prefix) → Memᴰ p bs → Holds d i p → ⊥
       free_of (names j k rs b q g c) p m x = omega arith
@@ -199,45 +204,8 @@ module _ (S : Shape) (h : List ℕ → ℕ) (sized : Sized S) (hash : Hash h) (s
           let b = bucket_shown S h hash (rows_held S s) (contents S s) w p m in
           f b.0 p.bits b.1 (omega (arith, within_pages (contents S s) b.0 p.bits b.1 b.2, pages_held S s)) b.2 (record { below = l; bits = x ∙ sym b.3 })
 
-  -- the page that an entry names, and its prefix
-  abbrev pub named : ℕ → List ℕ
-  named i = page S s (entry_at S s i)
-
-  abbrev pub prefix_at : ℕ → Prefix
-  prefix_at i = pfx (depth (named i)) (prefix_on h (depth (named i)) (rows (named i)))
-
-  -- a bucket's first entry names its page
-  pub record BucketAt (i : ℕ) : Type 0 where
-    pub naming : Naming S h s i (entry_at S s i)
-    pub member : Memᴰ (prefix_at i) bs
-    pub begins : first d (prefix_at i) ≡ i
-    pub next : after d (prefix_at i) ≡ behind S s i
-
-  pub bucket_at : (i : ℕ) → i < 2 ^ dir_depth s → (entry_at S s i ≡ 0 → ⊥) → Start S h s i → BucketAt i
-  bucket_at i l z t =
-      let u : Naming S h s i (entry_at S s i) = naming S h sized hash s a i (inside i l) z in
-      let m : Memᴰ (prefix_at i) bs = shown_bucket S h hash (rows_held S s) (contents S s) w (entry_at S s i - 2) (depth (named i)) (rows (named i)) u.holding in
-      let b : first d (prefix_at i) ≡ i = t.begins (prefix_at i) m u.calls.bits in
-      record { naming = u; member = m; begins = b; next = entries_size d (prefix_at i) ∙ ap (λ n. n + 2 ^ (d - depth (named i))) b }
-
-  -- ---- the buckets in prefix order, by their first entries
-
-  pub heads_start : from (dir_depth s) 0 (buckets S h (rows_held S s)) ≡ buckets S h (rows_held S s)
-  heads_start = from_all d 0 0 (2 ^ d) bs zero-le ascending
-
-  pub heads_end : (i : ℕ) → 2 ^ dir_depth s ≤ i → from (dir_depth s) i (buckets S h (rows_held S s)) ≡ []
-  heads_end i l = from_end d i 0 (2 ^ d) bs l ascending
-
-  pub heads_none : (i : ℕ) → i < 2 ^ dir_depth s → entry_at S s i ≡ 0 → from (dir_depth s) i (buckets S h (rows_held S s)) ≡ from (dir_depth s) (i + 1) (buckets S h (rows_held S s))
-  heads_none i l z = from_next d i bs (λ p m e. no_bucket i l z p m ((holds_range d i p).1 (omega arith, omega (arith, first_lt_after d p))))
-
-  pub heads_page : (i : ℕ) → BucketAt i → from (dir_depth s) i (buckets S h (rows_held S s)) ≡ prefix_at i ∷ from (dir_depth s) (behind S s i) (buckets S h (rows_held S s))
-  heads_page i b = from_here d i 0 (2 ^ d) bs ascending (prefix_at i) b.member b.begins ∙ ap (λ n. prefix_at i ∷ from d n bs) b.next
-
-  -- an entry that names nothing: on to the next
-  pub walk_none : (i : ℕ) → i < 2 ^ dir_depth s → entry_at S s i ≡ 0 → (walk_from S h s i ≡ walk_from S h s (i + 1)) × Start S h s (i + 1)
-  unfolding walk_from
-  walk_none i l z = (ap (flat_map (rows_at h (rows_held S s))) (heads_none i l z), record { begins = starts_next d i bs (no_bucket i l z) })
+      none : (p : Prefix) → Memᴰ p bs → Holds d i p → ⊥
+      none = free_of (accepted_entry S h sized hash s (opened S h s a) i (inside i l))
 
   -- an entry that names a page: the page's rows, and on past the bucket's entries
   pub walk_page : (i : ℕ) → i < 2 ^ dir_depth s → (entry_at S s i ≡ 0 → ⊥) → Start S h s i
@@ -247,18 +215,34 @@ module _ (S : Shape) (h : List ℕ → ℕ) (sized : Sized S) (hash : Hash h) (s
       × (behind S s i ≤ 2 ^ dir_depth s)
   unfolding walk_from
   walk_page i l z t = (
-    b.naming,
-    ap (flat_map f) (heads_page i b) ∙ flat_cons f (prefix_at i) (from d (behind S s i) bs)
-        ∙ ap (λ r. r ++ flat_map f (from d (behind S s i) bs)) (sym (ap rows_on (read_used (named i) b.naming.bytes.rules) ∙ (w.page (entry_at S s i - 2) (depth (named i)) (rows (named i)) b.naming.holding).ordered)),
-    record { begins = subst (Starts d bs) b.next (starts_after d 0 (2 ^ d) bs ascending (prefix_at i) b.member) },
-    subst (λ n. n ≤ 2 ^ d) b.next (asc_last d 0 (2 ^ d) bs ascending (prefix_at i) b.member),
+    u,
+    ap (flat_map f) (from_here d i 0 (2 ^ d) bs ascending p m begin) ∙ flat_cons f p (from d (after d p) bs)
+        ∙ ap (λ r. r ++ flat_map f (from d (after d p) bs)) (sym (ap rows_on (read_used g u.bytes.rules) ∙ (w.page (entry_at S s i - 2) (depth g) (rows g) u.holding).ordered))
+        ∙ ap (λ n. rows_on (read g) ++ flat_map f (from d n bs)) next,
+    record { begins = subst (Starts d bs) next (starts_after d 0 (2 ^ d) bs ascending p m) },
+    subst (λ n. n ≤ 2 ^ d) next (asc_last d 0 (2 ^ d) bs ascending p m),
   )
     where
+      g : List ℕ
+      g = page S s (entry_at S s i)
+
       f : Prefix → List Row
       f = rows_at h (rows_held S s)
 
-      b : BucketAt i
-      b = bucket_at i l z t
+      u : Naming S h s i (entry_at S s i)
+      u = naming S h sized hash s a i (inside i l) z
+
+      p : Prefix
+      p = pfx (depth g) (prefix_on h (depth g) (rows g))
+
+      m : Memᴰ p bs
+      m = shown_bucket S h hash (rows_held S s) (contents S s) w (entry_at S s i - 2) (depth g) (rows g) u.holding
+
+      begin : first d p ≡ i
+      begin = t.begins p m u.calls.bits
+
+      next : after d p ≡ i + 2 ^ (d - depth g)
+      next = entries_size d p ∙ ap (λ n. n + 2 ^ (d - depth g)) begin
 
   -- row n of what is listed from an entry on: of its page, or further on
   pub walk_here : (i n : ℕ) → i < 2 ^ dir_depth s → (entry_at S s i ≡ 0 → ⊥) → Start S h s i → n < count (page S s (entry_at S s i))

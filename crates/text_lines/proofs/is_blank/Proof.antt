@@ -10,14 +10,14 @@ last : (t : Bool) → t ≡ eqb (cond t 1 0) 1
 last true = refl
 last false = refl
 
-returns : tie.Need-returns
-returns c = rw (eq-eqb _ 32 c.if1.true)
+returns : tie.Need-returns-then-b-eq32
+returns c = rw (eq-eqb _ 32 c.if-b-eq32.true)
 
-returns-2 : tie.Need-returns-2
-returns-2 c = rw (ne_eqb _ 32 c.before.if1.false, eq-eqb _ 9 c.if2.true)
+returns-2 : tie.Need-returns-then-b-eq9
+returns-2 c = rw (ne_eqb _ 32 c.if-b-eq32.false, eq-eqb _ 9 c.if-b-eq9.true)
 
-returns-3 : tie.Need-returns-3
-returns-3 c = rw (ne_eqb _ 32 c.before.if1.false, ne_eqb _ 9 c.if2.false) (last (eqb c.before.before.args.b 13))
+returns-3 : tie.Need-returns
+returns-3 c = rw (ne_eqb _ 32 c.if-b-eq32.false, ne_eqb _ 9 c.if-b-eq9.false) (last (eqb c.args.b 13))
 
 pub is_blank_spec : {M : Type 1} → statement M
 is_blank_spec = tie.close (tie.spec returns returns-2 returns-3)

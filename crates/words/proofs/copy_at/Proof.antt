@@ -9,42 +9,42 @@ use Rattle.words.proofs.Bytes.{wrote_none, wrote_more}
 use Rattle.words.proofs.copy_at.Statement.{statement}
 use Rattle.words.proofs.copy_at.Tie as tie
 
-abbrev invariant_loop : tie.invariant-loop
+abbrev invariant_loop : tie.invariant-loop-i
 invariant_loop dst₀ at src i₀ dst i = (i ≤ length src) × (at + length src ≤ length dst₀) × Wrote dst₀ at i (λ j. byte src j) dst × (length dst ≡ length dst₀)
 
-abbrev decreases_loop : tie.decreases-loop
+abbrev decreases_loop : tie.decreases-loop-i
 decreases_loop dst₀ at src i₀ dst i = length src - i
 
-loop-holds : tie.Need-loop-init invariant_loop decreases_loop
+loop-holds : tie.Need-loop-i-init invariant_loop decreases_loop
 loop-holds c = (omega arith, c.requires, wrote_none c.args.dst.now c.args.at (λ j. byte c.args.src.now j), refl)
 
-shared-slice-read-dst : tie.Need-shared-slice-read-dst invariant_loop decreases_loop
+shared-slice-read-dst : tie.Need-bounds-src-i invariant_loop decreases_loop
 shared-slice-read-dst c = omega arith
 
-add-dst : tie.Need-overflow-add-dst invariant_loop decreases_loop
+add-dst : tie.Need-overflow_add-dst invariant_loop decreases_loop
 add-dst c = omega arith
 
-slice-write-dst : tie.Need-slice-write-dst invariant_loop decreases_loop
+slice-write-dst : tie.Need-bounds-dst-at invariant_loop decreases_loop
 slice-write-dst c = omega arith
 
-add-i : tie.Need-overflow-add-i invariant_loop decreases_loop
+add-i : tie.Need-overflow_add-i invariant_loop decreases_loop
 add-i c = omega arith
 
-loop-less : tie.Need-loop-smaller invariant_loop decreases_loop
+loop-less : tie.Need-loop-i-smaller invariant_loop decreases_loop
 loop-less c = omega arith
 
-loop-again : tie.Need-loop-preserved invariant_loop decreases_loop
+loop-again : tie.Need-loop-i-preserved invariant_loop decreases_loop
 loop-again c =
-    let l = c.before.before.loop in
-    (omega arith, l.invariant.1, wrote_more (byte c.before.before.before.args.src.now l.i) l.invariant.2 (omega arith) refl, simp length-set l.invariant.3)
+    let l = c.loop-i in
+    (omega arith, l.invariant.1, wrote_more (byte c.args.src.now l.i) l.invariant.2 (omega arith) refl, simp length-set l.invariant.3)
 
-same_length : tie.Need-same-length invariant_loop decreases_loop
+same_length : tie.Need-shape_of-dst invariant_loop decreases_loop
 same_length c = omega arith
 
 returns : tie.Need-returns invariant_loop decreases_loop
 returns c =
-    let l = c.before.loop in
-    let e : l.i ≡ length c.before.before.args.src.now = omega arith in
+    let l = c.loop-i in
+    let e : l.i ≡ length c.args.src.now = omega arith in
     rw (← e) l.invariant.2
 
 pub copy_at_spec : {M : Type 1} → statement M

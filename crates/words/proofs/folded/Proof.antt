@@ -15,37 +15,37 @@ use Rattle.words.proofs.folded.Tie as tie
 abbrev Kept : List ℕ → ℕ → Type 0
 Kept s j = fold_byte (byte s j) ≡ byte s j
 
-abbrev invariant_loop : tie.invariant-loop
+abbrev invariant_loop : tie.invariant-loop-i
 invariant_loop s i₀ i = (i ≤ length s) × ((j : ℕ) → j < i → Kept s j)
 
-abbrev decreases_loop : tie.decreases-loop
+abbrev decreases_loop : tie.decreases-loop-i
 decreases_loop s i₀ i = length s - i
 
-loop-holds : tie.Need-loop-init invariant_loop decreases_loop
+loop-holds : tie.Need-loop-i-init invariant_loop decreases_loop
 loop-holds c = (omega arith, λ j l. absurd (omega arith))
 
-shared-slice-read-letter : tie.Need-shared-slice-read-letter invariant_loop decreases_loop
+shared-slice-read-letter : tie.Need-bounds-s-i invariant_loop decreases_loop
 shared-slice-read-letter c = omega arith
 
 letter-requires : tie.Need-letter-requires invariant_loop decreases_loop
 letter-requires c κs = tt
 
-returns : tie.Need-returns invariant_loop decreases_loop
-returns c f = let h = c.before.letter.ensures.1 (each_folded _ f c.before.before.before.before.loop.i) in omega (arith, h, c.if1.true)
+returns : tie.Need-returns-then-letter-lt26 invariant_loop decreases_loop
+returns c f = let h = c.letter.ensures.1 (each_folded _ f c.loop-i.i) in omega (arith, h, c.if-letter-lt26.true)
 
-add-i : tie.Need-overflow-add-i invariant_loop decreases_loop
+add-i : tie.Need-overflow_add-i invariant_loop decreases_loop
 add-i c = omega arith
 
-loop-less : tie.Need-loop-smaller invariant_loop decreases_loop
+loop-less : tie.Need-loop-i-smaller invariant_loop decreases_loop
 loop-less c = omega arith
 
-loop-again : tie.Need-loop-preserved invariant_loop decreases_loop
+loop-again : tie.Need-loop-i-preserved invariant_loop decreases_loop
 loop-again c =
-    let l = c.before.before.before.before in
-    (omega arith, below_more (Kept l.before.before.args.s.now) _ l.loop.invariant.1 (c.before.letter.ensures.0 (omega (arith, c.if1.false))))
+    let l = c in
+    (omega arith, below_more (Kept l.args.s.now) _ l.loop-i.invariant.1 (c.letter.ensures.0 (omega (arith, c.if-letter-lt26.false))))
 
-returns-2 : tie.Need-returns-2 invariant_loop decreases_loop
-returns-2 c = folded_each _ (λ k l. c.before.loop.invariant.1 k (omega arith))
+returns-2 : tie.Need-returns invariant_loop decreases_loop
+returns-2 c = folded_each _ (λ k l. c.loop-i.invariant.1 k (omega arith))
 
 pub folded_spec : {M : Type 1} → statement M
 folded_spec =

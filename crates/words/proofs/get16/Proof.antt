@@ -5,16 +5,16 @@ use Rattle.words.specs.Le.{le16}
 use Rattle.words.proofs.get16.Statement.{statement}
 use Rattle.words.proofs.get16.Tie as tie
 
-add_wide : tie.Need-overflow-add-wide
+add_wide : tie.Need-overflow_add-k
 add_wide c = search rules
 
-shared-slice-read-wide : tie.Need-shared-slice-read-wide
+shared-slice-read-wide : tie.Need-bounds-s-k
 shared-slice-read-wide c = search rules
 
 wide-requires : tie.Need-wide-requires
 wide-requires c κs = search rules
 
-shared-slice-read-wide-2 : tie.Need-shared-slice-read-wide-2
+shared-slice-read-wide-2 : tie.Need-bounds-s-k-2
 shared-slice-read-wide-2 c = search rules
 
 wide-requires-2 : tie.Need-wide-requires-2

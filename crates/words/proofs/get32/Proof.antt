@@ -7,19 +7,19 @@ use Rattle.words.specs.Le.{le16, le32}
 use Rattle.words.proofs.get32.Statement.{statement}
 use Rattle.words.proofs.get32.Tie as tie
 
-add_wide : tie.Need-overflow-add-wide
+add_wide : tie.Need-overflow_add-k
 add_wide c = search rules
 
-shared-slice-read-wide : tie.Need-shared-slice-read-wide
+shared-slice-read-wide : tie.Need-bounds-s-k
 shared-slice-read-wide c = search rules
 
 wide-requires : tie.Need-wide-requires
 wide-requires c κs = search rules
 
-add-wide-2 : tie.Need-overflow-add-wide-2
+add-wide-2 : tie.Need-overflow_add-k-2
 add-wide-2 c = search rules
 
-shared-slice-read-wide-2 : tie.Need-shared-slice-read-wide-2
+shared-slice-read-wide-2 : tie.Need-bounds-s-k-2
 shared-slice-read-wide-2 c = search rules
 
 wide-requires-2 : tie.Need-wide-requires-2
@@ -37,7 +37,7 @@ on-requires-2 c κs = search rules
 returns : tie.Need-returns
 unfolding le16 le32
 returns c =
-    let k = c.before.before.before.before.before.before.before.before.args.k in
+    let k = c.args.k in
     let e : k + 2 + 1 ≡ k + 3 = omega arith in
     rw e (omega arith)
 

@@ -8,7 +8,7 @@ use lib.Bits.{bit_or, or_shifted}
 use Rattle.words.proofs.on.Statement.{statement}
 use Rattle.words.proofs.on.Tie as tie
 
-shl-result : tie.Need-overflow-shl-result
+shl-result : tie.Need-overflow_shl-result
 shl-result c = search rules
 
 returns : tie.Need-returns

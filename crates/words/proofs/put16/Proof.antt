@@ -8,22 +8,22 @@ use Rattle.words.proofs.Bytes.{byte_set, byte_other, frame_set, frame_join}
 use Rattle.words.proofs.put16.Statement.{statement}
 use Rattle.words.proofs.put16.Tie as tie
 
-cast-s : tie.Need-overflow-cast-s
+cast-s : tie.Need-overflow_cast-s
 cast-s c = search rules
 
-slice-write-s : tie.Need-slice-write-s
+slice-write-s : tie.Need-bounds-s-k
 slice-write-s c = search rules
 
-cast-s-2 : tie.Need-overflow-cast-s-2
+cast-s-2 : tie.Need-overflow_cast-s-2
 cast-s-2 c = search rules
 
-add-s : tie.Need-overflow-add-s
+add-s : tie.Need-overflow_add-s
 add-s c = search rules
 
-slice-write-s-2 : tie.Need-slice-write-s-2
+slice-write-s-2 : tie.Need-bounds-s-k-2
 slice-write-s-2 c = simp length-set (omega arith)
 
-same_length : tie.Need-same-length
+same_length : tie.Need-shape_of-s
 same_length c = search rules
 
 returns : tie.Need-returns
@@ -39,5 +39,4 @@ returns c =
     }
 
 pub put16_spec : {M : Type 1} → statement M
-put16_spec =
-    tie.close (tie.spec cast-s slice-write-s cast-s-2 add-s slice-write-s-2 same_length returns)
+put16_spec = tie.close (tie.spec cast-s slice-write-s cast-s-2 add-s slice-write-s-2 same_length returns)

@@ -9,23 +9,23 @@ use Rattle.words.proofs.put32.Tie as tie
 put16-requires : tie.Need-put16-requires
 put16-requires c κs = search rules
 
-add-put16 : tie.Need-overflow-add-put16
+add-put16 : tie.Need-overflow_add-k
 add-put16 c = search rules
 
 put16-requires-2 : tie.Need-put16-requires-2
 put16-requires-2 c κs = search rules
 
-same_length : tie.Need-same-length
+same_length : tie.Need-shape_of-s
 same_length c = search rules
 
 returns : tie.Need-returns
 unfolding le32
 returns c =
-    let at_two = c.before.before in
-    let at_one = at_two.before.before.before.before in
-    let k = at_one.before.before.before.args.k in
+    let at_two = c in
+    let at_one = at_two in
+    let k = at_one.args.k in
     let one = at_one.put16.ensures in
-    let two = at_two.put162.ensures in
+    let two = at_two.put16-2.ensures in
     record {
       val = omega (arith, le16_below k two.old (omega arith), one.val, two.val);
       old = frame_join k 4 one.old two.old (omega arith) (omega arith) (omega arith) (omega arith);

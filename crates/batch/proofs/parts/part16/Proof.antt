@@ -9,22 +9,22 @@ use borrow.Author.Rules.{rules}
 use Rattle.batch.proofs.parts.part16.Statement.{statement}
 use Rattle.batch.proofs.parts.part16.Tie as tie
 
-cast-result : tie.Need-overflow-cast-result
+cast-result : tie.Need-overflow_cast-result
 cast-result c = search rules
 
-returns : tie.Need-returns
-returns c = read_signed w16 c.before.args.x refl
+returns : tie.Need-returns-then-x-lt32768
+returns c = read_signed w16 c.args.x refl
 
-sub-result : tie.Need-overflow-sub-result
+sub-result : tie.Need-overflow_sub-result
 sub-result c = search rules
 
-cast-result-2 : tie.Need-overflow-cast-result-2
+cast-result-2 : tie.Need-overflow_cast-result-2
 cast-result-2 c = search rules
 
-returns-2 : tie.Need-returns-2
+returns-2 : tie.Need-returns
 returns-2 c =
-    let x = c.before.args.x in
-    let e : 65535 - (65535 - x) ≡ x = omega (arith, c.before.requires) in
+    let x = c.args.x in
+    let e : 65535 - (65535 - x) ≡ x = omega (arith, c.requires) in
     ap (to_z w16) e ∙ read_signed w16 x refl
 
 pub part16_spec : {M : Type 1} → statement M

@@ -9,22 +9,22 @@ use borrow.Author.Rules.{rules}
 use Rattle.batch.proofs.parts.part32.Statement.{statement}
 use Rattle.batch.proofs.parts.part32.Tie as tie
 
-cast-result : tie.Need-overflow-cast-result
+cast-result : tie.Need-overflow_cast-result
 cast-result c = search rules
 
-returns : tie.Need-returns
-returns c = read_signed w32 c.before.args.x refl
+returns : tie.Need-returns-then-x-lt2147483648
+returns c = read_signed w32 c.args.x refl
 
-sub-result : tie.Need-overflow-sub-result
+sub-result : tie.Need-overflow_sub-result
 sub-result c = search rules
 
-cast-result-2 : tie.Need-overflow-cast-result-2
+cast-result-2 : tie.Need-overflow_cast-result-2
 cast-result-2 c = search rules
 
-returns-2 : tie.Need-returns-2
+returns-2 : tie.Need-returns
 returns-2 c =
-    let x = c.before.args.x in
-    let e : 4294967295 - (4294967295 - x) ≡ x = omega (arith, c.before.requires) in
+    let x = c.args.x in
+    let e : 4294967295 - (4294967295 - x) ≡ x = omega (arith, c.requires) in
     ap (to_z w32) e ∙ read_signed w32 x refl
 
 pub part32_spec : {M : Type 1} → statement M

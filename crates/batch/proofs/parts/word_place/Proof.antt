@@ -19,11 +19,11 @@ part16-requires-2 c κs = search rules
 
 returns : tie.Need-returns
 returns c =
-    let w = c.before.before.before.args.w in
+    let w = c.args.w in
     λ k. record {
-      page = kept_signed w32 c.before.before.part32.result (w % 2 ^ 32) refl (record { fits = omega arith }) c.before.before.part32.ensures k;
-      slot = kept_signed w16 c.before.part16.result (w / 2 ^ 32 % 2 ^ 16) refl (record { fits = omega arith }) c.before.part16.ensures k;
-      volume = kept_signed w16 c.part162.result (w / 2 ^ 48 % 2 ^ 16) refl (record { fits = omega arith }) c.part162.ensures k;
+      page = kept_signed w32 c.part32.result (w % 2 ^ 32) refl (record { fits = omega arith }) c.part32.ensures k;
+      slot = kept_signed w16 c.part16.result (w / 2 ^ 32 % 2 ^ 16) refl (record { fits = omega arith }) c.part16.ensures k;
+      volume = kept_signed w16 c.part16-2.result (w / 2 ^ 48 % 2 ^ 16) refl (record { fits = omega arith }) c.part16-2.ensures k;
     }
 
 pub word_place_spec : {M : Type 1} → statement M

@@ -5,20 +5,20 @@ use borrow.Author.Rules.{rules}
 use Rattle.batch.proofs.runs.good_runs.Statement.{statement}
 use Rattle.batch.proofs.runs.good_runs.Tie as tie
 
-returns : tie.Need-returns
+returns : tie.Need-returns-then-places-lengths
 returns c = search rules
 
-returns-2 : tie.Need-returns-2
+returns-2 : tie.Need-returns-then-answers-lengths
 returns-2 c = search rules
 
-add-up-requires : tie.Need-add-up-requires
+add-up-requires : tie.Need-add_up-requires
 add-up-requires c κs = search rules
 
-returns-3 : tie.Need-returns-3
+returns-3 : tie.Need-returns
 returns-3 c =
-    let e = c.before in
-    says_same c.add-up.result c.add-up.ensures
-    (λ s. record { places = omega (arith, e.before.if1.false); answers = omega (arith, e.if2.false); codes = s })
+    let e = c in
+    says_same c.add_up.result c.add_up.ensures
+    (λ s. record { places = omega (arith, e.if-places-lengths.false); answers = omega (arith, e.if-answers-lengths.false); codes = s })
     (λ g. g.codes)
 
 pub good_runs_spec : {M : Type 1} → statement M

@@ -23,9 +23,9 @@ use Rattle.batch.proofs.tender.put_all.Statement.{statement}
 use Rattle.batch.proofs.tender.put_all.Tie as tie
 
 -- past the length
-module _ (c : tie.After-known-told) where
+module _ (c : tie.In-Of) where
   abbrev start : tie.Start
-  start = c.before.before.before.before.before.before.before.before.before.before
+  start = c.before.before.before.before.before.before.before
 
   abbrev store : List ℕ
   store = start.args.s.now
@@ -34,10 +34,10 @@ module _ (c : tie.After-known-told) where
   lent = runs start.args.codes.now start.args.lengths.now start.args.places.now start.args.answers.now
 
   abbrev z : Shape
-  z = c.before.z.given.0.0
+  z = c.in-Of.z
 
   said : (z ≡ shape_of store) × GoodLength z store
-  said = subst (SaidShape store) c.before.z.given.1 c.before.before.before.said-shape.ensures
+  said = subst (SaidShape store) c.in-Of.is c.said_shape.ensures
 
   sized : Sized z
   sized = said_sized store z said.0
@@ -46,118 +46,118 @@ module _ (c : tie.After-known-told) where
   long = subst (λ S. GoodLength S store) said.0 said.1
 
 -- past the runs
-module _ (c : tie.Else1) where
-  abbrev first : tie.After-known-told
-  first = c.before.before.before
+module _ (c : tie.Else-not-good_runs) where
+  abbrev first : tie.In-Of
+  first = c.before.before
 
   fit : GoodRuns (lent first)
-  fit = says_true {P = GoodRuns (lent first)} c.before.good-runs.result (not-false _ c.if1.false) c.before.good-runs.ensures
+  fit = says_true {P = GoodRuns (lent first)} c.good_runs.result (not-false _ c.if-not-good_runs.false-raw) c.good_runs.ensures
 
 -- past the mode
-known_mode : (c : tie.Else2) → Refusal14 (start (first c.before)).args.mode → ⊥
-known_mode c l = omega (arith, c.if2.false)
+known_mode : (c : tie.Else-mode-gt2) → Refusal14 (start (first c.before)).args.mode → ⊥
+known_mode c l = omega (arith, c.if-mode-gt2.false)
 
 -- past the check
-module _ (c : tie.Else3) where
-  abbrev e : tie.Else2
-  e = c.before.before.before.before
+module _ (c : tie.Else-p-s) where
+  abbrev e : tie.Else-mode-gt2
+  e = c.before.before.before
 
-  abbrev k : tie.After-known-told
+  abbrev k : tie.In-Of
   k = first e.before
 
   sound : Accepted (z k) fnv (store k)
-  sound = c.before.before.first-bad.ensures.sound c.if3.false
+  sound = c.first_bad-p.ensures.sound c.if-p-s.false
 
-said-shape-requires : tie.Need-said-shape-requires
+said-shape-requires : tie.Need-said_shape-requires
 said-shape-requires c κs = search rules
 
-enum-known-z : tie.Need-enum-known-z
+enum-known-z : tie.Need-enum_known-z
 enum-known-z c = search rules
 
-enum_told : tie.Need-enum-told
+enum_told : tie.Need-enum_told-1
 enum_told c = search rules
 
-same_length : tie.Need-same-length
+same_length : tie.Need-shape_of-s-in_default
 same_length c = search rules
 
-returns : tie.Need-returns
+returns : tie.Need-returns-in_default
 unfolding batch_table
 returns c =
-    let f = c.before.before in
-    inl (tt, (subst (SaidShape f.before.before.before.before.before.before.before.args.s.now) c.enum_told.given.1 f.said-shape.ensures, refl))
+    let f = c in
+    inl (tt, (subst (SaidShape f.args.s.now) c.in_default.is f.said_shape.ensures, refl))
 
-good-runs-requires : tie.Need-good-runs-requires
+good-runs-requires : tie.Need-good_runs-requires
 good-runs-requires c κs = search rules
 
-same-length-2 : tie.Need-same-length-2
+same-length-2 : tie.Need-shape_of-s-then-not-good_runs
 same-length-2 c = search rules
 
-same-length-3 : tie.Need-same-length-3
+same-length-3 : tie.Need-shape_of-answers-then-not-good_runs
 same-length-3 c = search rules
 
-returns-2 : tie.Need-returns-2
+returns-2 : tie.Need-returns-then-not-good_runs
 unfolding batch_table
 returns-2 c =
-    let k = c.before.before.before in
-    inr ((λ _ n. n (long k)), inl (tt, (says_false {P = GoodRuns (lent k)} c.before.good-runs.result (not-true _ c.if1.true) c.before.good-runs.ensures, refl)))
+    let k = c in
+    inr ((λ _ n. n (long k.before.before)), inl (tt, (says_false {P = GoodRuns (lent k.before.before)} c.good_runs.result (not-true _ c.if-not-good_runs.true-raw) c.good_runs.ensures, refl)))
 
-same-length-4 : tie.Need-same-length-4
+same-length-4 : tie.Need-shape_of-s-then-mode-gt2
 same-length-4 c = search rules
 
-same-length-5 : tie.Need-same-length-5
+same-length-5 : tie.Need-shape_of-answers-then-mode-gt2
 same-length-5 c = search rules
 
-returns-3 : tie.Need-returns-3
+returns-3 : tie.Need-returns-then-mode-gt2
 unfolding batch_table
 returns-3 c =
-    let d = c.before in
-    inr ((λ _ n. n (long (first d))), inr ((λ _ n. n (fit d)), inl (tt, (c.if2.true, refl))))
+    let d = c in
+    inr ((λ _ n. n (long (first d.before))), inr ((λ _ n. n (fit d.before)), inl (tt, (c.if-mode-gt2.true, refl))))
 
-first-bad-requires : tie.Need-first-bad-requires
-first-bad-requires c κs = said (first c.before.before)
+first-bad-requires : tie.Need-first_bad-p-requires
+first-bad-requires c κs = said (first c.before)
 
-add-if3 : tie.Need-overflow-add-if3
-add-if3 c = omega (arith, (sized (first c.before.before.before.before)).most)
+add-if3 : tie.Need-overflow_add-z
+add-if3 c = omega (arith, (sized (first c.before.before.before)).most)
 
-div-if3 : tie.Need-nonzero-div-if3
+div-if3 : tie.Need-nonzero_div-s
 div-if3 c = search rules
 
-same-length-6 : tie.Need-same-length-6
+same-length-6 : tie.Need-shape_of-s-then-p-s
 same-length-6 c = search rules
 
-same-length-7 : tie.Need-same-length-7
+same-length-7 : tie.Need-shape_of-answers-then-p-s
 same-length-7 c = search rules
 
-returns-4 : tie.Need-returns-4
+returns-4 : tie.Need-returns-then-p-s
 unfolding batch_table
 returns-4 c =
-    let b = c.before.before in
-    let f = b.before.before in
-    let d = f.before in
-    let k = first d in
-    subst (λ S. Answers (batch_table S fnv (store k) (lent k) (start k).args.mode) (refused_at 2 b.first-bad.result, (store k, (lent k).answers))) (said k).0
-    (inr ((λ _ n. n (said k).1), inr ((λ _ n. n (fit d)), inr ((λ _ l. known_mode f l), inl (b.first-bad.result, (b.first-bad.ensures.bad c.if3.true, refl))))))
+    let b = c in
+    let f = b in
+    let d = f in
+    let k = first d.before.before.before.before in
+    subst (λ S. Answers (batch_table S fnv (store k) (lent k) (start k).args.mode) (refused_at 2 b.first_bad-p.result, (store k, (lent k).answers))) (said k).0
+    (inr ((λ _ n. n (said k).1), inr ((λ _ n. n (fit d.before.before.before.before)), inr ((λ _ l. known_mode f.before.before.before l), inl (b.first_bad-p.result, (b.first_bad-p.ensures.bad c.if-p-s.true, refl))))))
 
-put-each-requires : tie.Need-put-each-requires
+put-each-requires : tie.Need-put_each-requires
 put-each-requires c κs =
-    let h = c.before.before in
-    (record { sized = sized (k h); accepted = sound h; mode = a_mode (start (k h)).args.mode (known_mode (e h)) }, fit (e h).before)
+    let h = c in
+    (record { sized = sized (k h.before.before); accepted = sound h.before.before; mode = a_mode (start (k h.before.before)).args.mode (known_mode (e h.before.before)) }, fit (e h.before.before).before)
 
-same-length-8 : tie.Need-same-length-8
+same-length-8 : tie.Need-shape_of-s
 same-length-8 c = search rules
 
-same-length-9 : tie.Need-same-length-9
+same-length-9 : tie.Need-shape_of-answers
 same-length-9 c = search rules
 
-returns-5 : tie.Need-returns-5
+returns-5 : tie.Need-returns
 unfolding batch_table
 returns-5 c =
-    let y = c.before.before.before.before in
-    let h = y.before.before.before in
-    subst (λ S. Answers (batch_table S fnv (store (k h)) (lent (k h)) (start (k h)).args.mode) (accepted, (y.put-each.new.0, y.put-each.new.1.1.1.1.1.0))) (said (k h)).0
+    let y = c in
+    let h = y in
+    subst (λ S. Answers (batch_table S fnv (store (k h.before.before.before.before.before.before.before)) (lent (k h.before.before.before.before.before.before.before)) (start (k h.before.before.before.before.before.before.before)).args.mode) (accepted, (y.put_each.new.s, y.put_each.new.answers))) (said (k h.before.before.before.before.before.before.before)).0
     (inr (
-      (λ _ n. n (said (k h)).1),
-      inr ((λ _ n. n (fit (e h).before)), inr ((λ _ l. known_mode (e h) l), inr (accepted_whole _ fnv _ (sound h), (sound h, (refl, y.put-each.ensures))))),
+      (λ _ n. n (said (k h.before.before.before.before.before.before.before)).1),
+      inr ((λ _ n. n (fit (e h.before.before.before.before.before.before.before).before)), inr ((λ _ l. known_mode (e h.before.before.before.before.before.before.before) l), inr (accepted_whole _ fnv _ (sound h.before.before.before.before.before.before.before), (sound h.before.before.before.before.before.before.before, (refl, y.put_each.ensures))))),
     ))
 
 pub put_all_spec : {M : Type 1} → statement M

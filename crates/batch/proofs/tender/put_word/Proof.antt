@@ -7,30 +7,28 @@ use borrow.Author.Rules.{rules}
 use Rattle.batch.proofs.tender.put_word.Statement.{statement}
 use Rattle.batch.proofs.tender.put_word.Tie as tie
 
-word-place-requires : tie.Need-word-place-requires
+word-place-requires : tie.Need-word_place-requires
 word-place-requires c κs = search rules
 
-put-checked-requires : tie.Need-put-checked-requires
+put-checked-requires : tie.Need-put_checked-requires
 put-checked-requires c κs = search rules
 
-answer-number-requires : tie.Need-answer-number-requires
+answer-number-requires : tie.Need-answer_number-requires
 answer-number-requires c κs = search rules
 
-same_length : tie.Need-same-length
+same_length : tie.Need-shape_of-s
 same_length c = search rules
 
 returns : tie.Need-returns
 returns c =
-    let w = c.before.before.before.put-checked in
-    let p = c.before.before.before.before.word-place in
-    let z = c.before.before.before.before.before.before.before.before in
+    let w = c.put_checked in
+    let p = c.word_place in
+    let z = c in
     record {
       out = meaning w.result;
-      made = subst (λ x. Answers (put_table z.args.z fnv z.args.s.now z.args.key.now x z.args.mode) (meaning w.result, w.new.0)) p.ensures w.ensures;
-      is = c.answer-number.ensures;
+      made = subst (λ x. Answers (put_table z.args.z fnv z.args.s.now z.args.key.now x z.args.mode) (meaning w.result, w.new.s)) p.ensures w.ensures;
+      is = c.answer_number.ensures;
     }
 
 pub put_word_spec : {M : Type 1} → statement M
-put_word_spec =
-    tie.close
-    (tie.spec word-place-requires put-checked-requires answer-number-requires same_length returns)
+put_word_spec = tie.close (tie.spec word-place-requires put-checked-requires answer-number-requires same_length returns)

@@ -4,19 +4,19 @@ use Rattle.commands.proofs.Adding.{added}
 use Rattle.commands.proofs.answers.add.Statement.{statement}
 use Rattle.commands.proofs.answers.add.Tie as tie
 
-copy-at-requires : tie.Need-copy-at-requires
+copy-at-requires : tie.Need-copy_at-requires
 copy-at-requires c κs = search rules
 
-add-result : tie.Need-overflow-add-result
+add-result : tie.Need-overflow_add-result
 add-result c = search rules
 
-same_length : tie.Need-same-length
+same_length : tie.Need-shape_of-out
 same_length c = search rules
 
 returns : tie.Need-returns
 returns c =
-    let s = c.before.before.before.before.before.before in
-    added _ _ _ _ s.requires c.before.before.copy_at.ensures
+    let s = c in
+    added _ _ _ _ s.requires c.copy_at.ensures
 
 pub add_spec : {M : Type 1} → statement M
 add_spec = tie.close (tie.spec copy-at-requires add-result same_length returns)

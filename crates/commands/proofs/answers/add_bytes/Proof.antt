@@ -10,42 +10,42 @@ use Rattle.commands.proofs.Adding.{nothing, code_more, code_end, as_text}
 use Rattle.commands.proofs.answers.add_bytes.Statement.{statement}
 use Rattle.commands.proofs.answers.add_bytes.Tie as tie
 
-abbrev invariant_loop : tie.invariant-loop
+abbrev invariant_loop : tie.invariant-loop-i
 invariant_loop out₀ at code r₀ i₀ out r i = (i ≤ length code) × (r ≤ at + 3 * i) × Adds (shown (take i code)) out₀ at out r
 
-abbrev decreases_loop : tie.decreases-loop
+abbrev decreases_loop : tie.decreases-loop-i
 decreases_loop out₀ at code r₀ i₀ out r i = length code - i
 
-loop-holds : tie.Need-loop-init invariant_loop decreases_loop
-loop-holds c = (omega arith, omega arith, nothing _ c.before.before.args.code.now _)
+loop-holds : tie.Need-loop-i-init invariant_loop decreases_loop
+loop-holds c = (omega arith, omega arith, nothing _ c.args.code.now _)
 
-shared-slice-read-add-byte : tie.Need-shared-slice-read-add-byte invariant_loop decreases_loop
+shared-slice-read-add-byte : tie.Need-bounds-code-i invariant_loop decreases_loop
 shared-slice-read-add-byte c = omega arith
 
-add-byte-requires : tie.Need-add-byte-requires invariant_loop decreases_loop
-add-byte-requires c κs = omega (arith, c.before.before.before.loop.invariant.2.long)
+add-byte-requires : tie.Need-add_byte-r-requires invariant_loop decreases_loop
+add-byte-requires c κs = omega (arith, c.loop-i.invariant.2.long)
 
-add-i : tie.Need-overflow-add-i invariant_loop decreases_loop
+add-i : tie.Need-overflow_add-i invariant_loop decreases_loop
 add-i c = omega arith
 
-loop-less : tie.Need-loop-smaller invariant_loop decreases_loop
+loop-less : tie.Need-loop-i-smaller invariant_loop decreases_loop
 loop-less c = omega arith
 
-loop-again : tie.Need-loop-preserved invariant_loop decreases_loop
+loop-again : tie.Need-loop-i-preserved invariant_loop decreases_loop
 loop-again c =
-    let b = c.before.before in
-    let l = b.before.before.before.before in
-    let t = b.before.before.before.loop-test.true in
-    (omega arith, omega (arith, code_end _ _ _ _ _ _ _ _ t l.loop.invariant.2 b.add-byte.ensures), code_more _ _ _ _ _ _ _ _ t l.loop.invariant.2 b.add-byte.ensures)
+    let b = c in
+    let l = b in
+    let t = b.loop-i-test.true in
+    (omega arith, omega (arith, code_end _ _ _ _ _ _ _ _ t l.loop-i.invariant.2 b.add_byte-r.ensures), code_more _ _ _ _ _ _ _ _ t l.loop-i.invariant.2 b.add_byte-r.ensures)
 
-same_length : tie.Need-same-length invariant_loop decreases_loop
-same_length c = c.before.loop.invariant.2.long
+same_length : tie.Need-shape_of-out invariant_loop decreases_loop
+same_length c = c.loop-i.invariant.2.long
 
 returns : tie.Need-returns invariant_loop decreases_loop
 returns c =
-    let l = c.before.loop in
-    let e : l.i ≡ length c.before.before.before.before.args.code.now = omega arith in
-    (as_text (ap (λ (n : ℕ). shown (take n c.before.before.before.before.args.code.now)) e ∙ ap shown (take-length c.before.before.before.before.args.code.now)) l.invariant.2, omega arith)
+    let l = c.loop-i in
+    let e : l.i ≡ length c.args.code.now = omega arith in
+    (as_text (ap (λ (n : ℕ). shown (take n c.args.code.now)) e ∙ ap shown (take-length c.args.code.now)) l.invariant.2, omega arith)
 
 pub add_bytes_spec : {M : Type 1} → statement M
 add_bytes_spec =

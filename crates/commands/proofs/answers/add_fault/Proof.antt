@@ -5,26 +5,20 @@ use borrow.Author.Rules.{rules}
 use Rattle.commands.proofs.answers.add_fault.Statement.{statement}
 use Rattle.commands.proofs.answers.add_fault.Tie as tie
 
-add-requires : tie.Need-add-requires
+add-requires : tie.Need-add-n-requires
 add-requires c κs = search rules
 
-add-because-requires : tie.Need-add-because-requires
-add-because-requires c κs = omega (arith, c.before.before.before.add.ensures.next, c.before.before.before.add.ensures.long)
+add-because-requires : tie.Need-add_because-requires
+add-because-requires c κs = omega (arith, c.add-n.ensures.next, c.add-n.ensures.long)
 
-same_length : tie.Need-same-length
+same_length : tie.Need-shape_of-out
 same_length c = search rules
 
 returns : tie.Need-returns
 returns c =
-    let b = c.before.before in
-    let a = b.before.before.before.before in
-    (then a.add.ensures b.add-because.ensures.0, omega (arith, a.add.ensures.next, b.add-because.ensures.1))
+    let b = c in
+    let a = b in
+    (then a.add-n.ensures b.add_because.ensures.0, omega (arith, a.add-n.ensures.next, b.add_because.ensures.1))
 
 pub add_fault_spec : {M : Type 1} → statement M
-add_fault_spec =
-    tie.close
-    (tie.spec
-    add-requires
-    add-because-requires
-    same_length
-    returns)
+add_fault_spec = tie.close (tie.spec add-requires add-because-requires same_length returns)

@@ -5,64 +5,64 @@ use borrow.Author.Rules.{rules}
 use Rattle.commands.proofs.answers.copy_eight.Statement.{statement}
 use Rattle.commands.proofs.answers.copy_eight.Tie as tie
 
-shared-slice-read-t7 : tie.Need-shared-slice-read-t7
+shared-slice-read-t7 : tie.Need-bounds-code-i
 shared-slice-read-t7 c = search rules
 
-add-t8 : tie.Need-overflow-add-t8
+add-t8 : tie.Need-overflow_add-text
 add-t8 c = search rules
 
-shared-slice-read-t10 : tie.Need-shared-slice-read-t10
+shared-slice-read-t10 : tie.Need-bounds-code-i-2
 shared-slice-read-t10 c = search rules
 
-add-t11 : tie.Need-overflow-add-t11
+add-t11 : tie.Need-overflow_add-text-2
 add-t11 c = search rules
 
-shared-slice-read-t13 : tie.Need-shared-slice-read-t13
+shared-slice-read-t13 : tie.Need-bounds-code-i-3
 shared-slice-read-t13 c = search rules
 
-add-t14 : tie.Need-overflow-add-t14
+add-t14 : tie.Need-overflow_add-text-3
 add-t14 c = search rules
 
-shared-slice-read-t16 : tie.Need-shared-slice-read-t16
+shared-slice-read-t16 : tie.Need-bounds-code-i-4
 shared-slice-read-t16 c = search rules
 
-add-t17 : tie.Need-overflow-add-t17
+add-t17 : tie.Need-overflow_add-text-4
 add-t17 c = search rules
 
-shared-slice-read-t19 : tie.Need-shared-slice-read-t19
+shared-slice-read-t19 : tie.Need-bounds-code-i-5
 shared-slice-read-t19 c = search rules
 
-add-t20 : tie.Need-overflow-add-t20
+add-t20 : tie.Need-overflow_add-text-5
 add-t20 c = search rules
 
-shared-slice-read-t22 : tie.Need-shared-slice-read-t22
+shared-slice-read-t22 : tie.Need-bounds-code-i-6
 shared-slice-read-t22 c = search rules
 
-add-t23 : tie.Need-overflow-add-t23
+add-t23 : tie.Need-overflow_add-text-6
 add-t23 c = search rules
 
-shared-slice-read-t25 : tie.Need-shared-slice-read-t25
+shared-slice-read-t25 : tie.Need-bounds-code-i-7
 shared-slice-read-t25 c = search rules
 
-add-t26 : tie.Need-overflow-add-t26
+add-t26 : tie.Need-overflow_add-text-7
 add-t26 c = search rules
 
-shared-slice-read-t28 : tie.Need-shared-slice-read-t28
+shared-slice-read-t28 : tie.Need-bounds-code-i-8
 shared-slice-read-t28 c = search rules
 
-slice-aggregate-add : tie.Need-slice-aggregate-add
+slice-aggregate-add : tie.Need-slice_bounds-add-end
 slice-aggregate-add c = search rules
 
 add-requires : tie.Need-add-requires
 add-requires c κs = search rules
 
-same_length : tie.Need-same-length
+same_length : tie.Need-shape_of-out
 same_length c = search rules
 
 returns : tie.Need-returns
 returns c =
-    let a = c.before.before in
-    let s = a.before.before.before.before.before.before.before.before.before.before.before.before.before in
+    let a = c in
+    let s = a in
     as_text (eight s.args.code.now s.args.i s.requires.1) a.add.ensures
 
 pub copy_eight_spec : {M : Type 1} → statement M

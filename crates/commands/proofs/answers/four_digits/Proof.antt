@@ -6,34 +6,34 @@ use borrow.Author.Rules.{rules}
 use Rattle.commands.proofs.answers.four_digits.Statement.{statement}
 use Rattle.commands.proofs.answers.four_digits.Tie as tie
 
-mul-both : tie.Need-overflow-mul-both
+mul-both : tie.Need-overflow_mul-both
 mul-both c = search rules
 
-mul-both-2 : tie.Need-overflow-mul-both-2
+mul-both-2 : tie.Need-overflow_mul-both-2
 mul-both-2 c = search rules
 
-sub-both : tie.Need-overflow-sub-both
+sub-both : tie.Need-overflow_sub-both
 sub-both c = search rules
 
-mul-x : tie.Need-overflow-mul-x
+mul-x : tie.Need-overflow_mul-x
 mul-x c = search rules
 
-mul-tens : tie.Need-overflow-mul-tens
+mul-tens : tie.Need-overflow_mul-tens
 mul-tens c = search rules
 
-add-tens : tie.Need-overflow-add-tens
+add-tens : tie.Need-overflow_add-tens
 add-tens c = search rules
 
-mul-result : tie.Need-overflow-mul-result
+mul-result : tie.Need-overflow_mul-result
 mul-result c = search rules
 
-add-result : tie.Need-overflow-add-result
+add-result : tie.Need-overflow_add-result
 add-result c = search rules
 
-mul-result-2 : tie.Need-overflow-mul-result-2
+mul-result-2 : tie.Need-overflow_mul-result-2
 mul-result-2 c = search rules
 
-sub-result : tie.Need-overflow-sub-result
+sub-result : tie.Need-overflow_sub-result
 sub-result c = search rules
 
 returns : tie.Need-returns

@@ -9,7 +9,7 @@ use Rattle.commands.proofs.Signs.{wide_fits, wide_is}
 use Rattle.commands.proofs.answers.wide16.Statement.{statement}
 use Rattle.commands.proofs.answers.wide16.Tie as tie
 
-cast-result : tie.Need-overflow-cast-result
+cast-result : tie.Need-overflow_cast-result
 cast-result c = wide_fits w16 _ c.ranges.z tt
 
 returns : tie.Need-returns

@@ -9,7 +9,7 @@ use Rattle.commands.proofs.Signs.{wide_fits, wide_is}
 use Rattle.commands.proofs.answers.wide32.Statement.{statement}
 use Rattle.commands.proofs.answers.wide32.Tie as tie
 
-cast-result : tie.Need-overflow-cast-result
+cast-result : tie.Need-overflow_cast-result
 cast-result c = wide_fits w32 _ c.ranges.z tt
 
 returns : tie.Need-returns

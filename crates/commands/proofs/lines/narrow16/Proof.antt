@@ -5,7 +5,7 @@ use Rattle.commands.proofs.Signs.{narrow_fits, narrow_is}
 use Rattle.commands.proofs.lines.narrow16.Statement.{statement}
 use Rattle.commands.proofs.lines.narrow16.Tie as tie
 
-cast-result : tie.Need-overflow-cast-result
+cast-result : tie.Need-overflow_cast-result
 cast-result c = narrow_fits w16 _ c.ranges.z (omega arith)
 
 returns : tie.Need-returns

@@ -9,52 +9,52 @@ use Rattle.commands.proofs.Phrases.{cut, of_line}
 use Rattle.commands.proofs.lines.parse.Statement.{statement}
 use Rattle.commands.proofs.lines.parse.Tie as tie
 
-returns : tie.Need-returns
-returns c = inl c.if1.true
+returns : tie.Need-returns-then-line-eq0
+returns c = inl c.if-line-eq0.true
 
-shared-slice-read-if2 : tie.Need-shared-slice-read-if2
+shared-slice-read-if2 : tie.Need-bounds-line-0
 shared-slice-read-if2 c = search rules
 
-returns-2 : tie.Need-returns-2
-returns-2 c = inr c.if2.true
+returns-2 : tie.Need-returns-then-line-eq35
+returns-2 c = inr c.if-line-eq35.true
 
-first-space-requires : tie.Need-first-space-requires
+first-space-requires : tie.Need-first_space-e-requires
 first-space-requires c κs = search rules
 
 bare-requires : tie.Need-bare-requires
-bare-requires c κs = (all_spaceless _ _ c.before.first-space.ensures c.if3.true, record { some = c.before.before.before.before.if1.false; said = c.before.before.if2.false })
+bare-requires c κs = (all_spaceless _ _ c.first_space-e.ensures c.if-e-line.true, record { some = c.if-line-eq0.false; said = c.if-line-eq35.false })
 
-returns-3 : tie.Need-returns-3
+returns-3 : tie.Need-returns-then-e-line
 returns-3 c = c.bare.ensures _
 
-add-s : tie.Need-overflow-add-s
+add-s : tie.Need-overflow_add-s
 add-s c = search rules
 
-slice-aggregate-phrase : tie.Need-slice-aggregate-phrase
-slice-aggregate-phrase c = sym (length-take-le _ _ c.before.before.first-space.ensures.within)
+slice-aggregate-phrase : tie.Need-slice_bounds-phrase-end
+slice-aggregate-phrase c = sym (length-take-le _ _ c.first_space-e.ensures.within)
 
-sub-phrase : tie.Need-overflow-sub-phrase
+sub-phrase : tie.Need-slice_bounds-phrase-count
 sub-phrase c = search rules
 
-part-phrase-start : tie.Need-slice-bounds-phrase-start
+part-phrase-start : tie.Need-slice_bounds-phrase-start
 part-phrase-start c = search rules
 
-part-phrase-end : tie.Need-slice-bounds-phrase-end
+part-phrase-end : tie.Need-slice_bounds-phrase-end-2
 part-phrase-end c = search rules
 
 phrase-requires : tie.Need-phrase-requires
 phrase-requires c κs =
-    let f = c.before.before.before.before.first-space in
-    (first_spaceless _ _ f.ensures, subst Spoken (cut _ _ f.ensures c.before.before.before.if3.false) (record { some = c.before.before.before.before.before.before.before.if1.false; said = c.before.before.before.before.before.if2.false }))
+    let f = c.first_space-e in
+    (first_spaceless _ _ f.ensures, subst Spoken (cut _ _ f.ensures c.if-e-line.false) (record { some = c.if-line-eq0.false; said = c.if-line-eq35.false }))
 
-same_length : tie.Need-same-length
+same_length : tie.Need-shape_of-code
 same_length c = search rules
 
-returns-4 : tie.Need-returns-4
+returns-4 : tie.Need-returns
 returns-4 c =
-    let p = c.before.before in
-    let e = p.before.before.before.before in
-    of_line _ _ _ p.phrase.result (cut _ _ e.before.first-space.ensures e.if3.false) p.phrase.ensures
+    let p = c in
+    let e = p in
+    of_line _ _ _ p.phrase.result (cut _ _ e.first_space-e.ensures e.if-e-line.false) p.phrase.ensures
 
 pub parse_spec : {M : Type 1} → statement M
 parse_spec =

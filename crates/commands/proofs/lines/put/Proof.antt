@@ -12,70 +12,70 @@ use Rattle.commands.proofs.Phrases.{cut}
 use Rattle.commands.proofs.lines.put.Statement.{statement}
 use Rattle.commands.proofs.lines.put.Tie as tie
 
-first-space-requires : tie.Need-first-space-requires
+first-space-requires : tie.Need-first_space-e-requires
 first-space-requires c κs = search rules
 
-returns : tie.Need-returns
-returns c = λ w q. put_alone w _ q c.before.before.before.before.args.rest.now c.before.before.before.before.args.code.now (all_spaceless _ _ c.before.first-space.ensures c.if1.true)
+returns : tie.Need-returns-then-e-rest
+returns c = λ w q. put_alone w _ q c.args.rest.now c.args.code.now (all_spaceless _ _ c.first_space-e.ensures c.if-e-rest.true)
 
-add-s : tie.Need-overflow-add-s
+add-s : tie.Need-overflow_add-s
 add-s c = search rules
 
-sub-read-place : tie.Need-overflow-sub-read-place
+sub-read-place : tie.Need-slice_bounds-read_place-count
 sub-read-place c = search rules
 
-part-read-place-start : tie.Need-slice-bounds-read-place-start
+part-read-place-start : tie.Need-slice_bounds-read_place-start
 part-read-place-start c = search rules
 
-part-read-place-end : tie.Need-slice-bounds-read-place-end
+part-read-place-end : tie.Need-slice_bounds-read_place-end
 part-read-place-end c = search rules
 
-read-place-requires : tie.Need-read-place-requires
+read-place-requires : tie.Need-read_place-requires
 read-place-requires c κs = search rules
 
-enum-known-place : tie.Need-enum-known-place
+enum-known-place : tie.Need-enum_known-place
 enum-known-place c = search rules
 
-enum_told : tie.Need-enum-told
+enum_told : tie.Need-enum_told-1
 enum_told c = search rules
 
-returns-2 : tie.Need-returns-2
+returns-2 : tie.Need-returns-in_default
 returns-2 c =
-    let r = c.before.before.before.before.before.before.before.before.args.rest.now in
-    let f = c.before.before.before.before.before.first-space in
-    λ w q. put_nowhere w _ q r c.before.before.before.before.before.before.before.before.args.code.now (take f.result r) (take (length r - (f.result + 1)) (drop (f.result + 1) r)) (cut _ _ f.ensures c.before.before.before.before.if1.false) (first_spaceless _ _ f.ensures) (subst (Places _) c.enum_told.given.1 c.before.before.read-place.ensures)
+    let r = c.args.rest.now in
+    let f = c.first_space-e in
+    λ w q. put_nowhere w _ q r c.args.code.now (take f.result r) (take (length r - (f.result + 1)) (drop (f.result + 1) r)) (cut _ _ f.ensures c.if-e-rest.false) (first_spaceless _ _ f.ensures) (subst (Places _) c.in_default.is c.read_place.ensures)
 
-slice-aggregate-decode : tie.Need-slice-aggregate-decode
-slice-aggregate-decode c = sym (length-take-le _ _ c.before.before.before.before.before.before.before.first-space.ensures.within)
+slice-aggregate-decode : tie.Need-slice_bounds-decode-end
+slice-aggregate-decode c = sym (length-take-le _ _ c.first_space-e.ensures.within)
 
 decode-requires : tie.Need-decode-requires
 decode-requires c κs = search rules
 
-enum-known-n : tie.Need-enum-known-n
+enum-known-n : tie.Need-enum_known-n
 enum-known-n c = search rules
 
-enum-told-2 : tie.Need-enum-told-2
+enum-told-2 : tie.Need-enum_told-in_default-decode
 enum-told-2 c = search rules
 
-same_length : tie.Need-same-length
+same_length : tie.Need-shape_of-code-in_default-decode
 same_length c = search rules
 
-returns-3 : tie.Need-returns-3
+returns-3 : tie.Need-returns-in_default-decode
 returns-3 c =
-    let r = c.before.before.before.before.before.before.before.before.before.before.before.before.before.before.before.before.args.rest.now in
-    let f = c.before.before.before.before.before.before.before.before.before.before.before.before.before.first-space in
-    let d = c.before.before.before.before.decode in
-    λ w q. put_wrong w _ q r d.new.1.0 (take f.result r) (take (length r - (f.result + 1)) (drop (f.result + 1) r)) (cut _ _ f.ensures c.before.before.before.before.before.before.before.before.before.before.before.before.if1.false) (first_spaceless _ _ f.ensures) (subst (Decodes _ _) c.enum-told2.given.1 d.ensures)
+    let r = c.args.rest.now in
+    let f = c.first_space-e in
+    let d = c.decode in
+    λ w q. put_wrong w _ q r d.new.out (take f.result r) (take (length r - (f.result + 1)) (drop (f.result + 1) r)) (cut _ _ f.ensures c.if-e-rest.false) (first_spaceless _ _ f.ensures) (subst (Decodes _ _) c.in_default-decode.is d.ensures)
 
-same-length-2 : tie.Need-same-length-2
+same-length-2 : tie.Need-shape_of-code
 same-length-2 c = search rules
 
-returns-4 : tie.Need-returns-4
+returns-4 : tie.Need-returns
 returns-4 c =
-    let n = c.before in
-    let d = n.before.before.before.before in
-    let p = d.before.before.before.before in
-    let f = p.before.before.before.before in
+    let n = c in
+    let d = n in
+    let p = d in
+    let f = p in
     λ w q. record {
       word = w;
       by = q;
@@ -84,8 +84,8 @@ returns-4 c =
         line = refl;
         says = record {
           code = _;
-          after = record { rest = _; line = cut _ _ f.before.first-space.ensures f.if1.false; says = subst (Places _) p.place.given.1 p.before.before.read-place.ensures };
-          coded = subst (Decodes _ _) n.n.given.1 d.decode.ensures;
+          after = record { rest = _; line = cut _ _ f.first_space-e.ensures f.if-e-rest.false; says = subst (Places _) p.in-At.is p.read_place.ensures };
+          coded = subst (Decodes _ _) n.in-Code.is d.decode.ensures;
         };
       };
     }

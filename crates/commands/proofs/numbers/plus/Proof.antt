@@ -5,7 +5,7 @@ use borrow.Author.Rules.{rules}
 use Rattle.commands.proofs.numbers.plus.Statement.{statement}
 use Rattle.commands.proofs.numbers.plus.Tie as tie
 
-cast-result : tie.Need-overflow-cast-result
+cast-result : tie.Need-overflow_cast-result
 cast-result c = search rules
 
 returns : tie.Need-returns

@@ -6,62 +6,55 @@ use mathlib.Core.Bool.{true, false}
 use borrow.Author.Rules.{rules}
 use Rattle.commands.proofs.sums.add_cents.Statement.{statement}
 use Rattle.commands.proofs.sums.add_cents.Tie as tie
-use Rattle.commands.proofs.answers.add.Reads as add_reads
-use Rattle.commands.proofs.answers.add_number.Reads as add_number_reads
-use Rattle.commands.proofs.sums.size_below.Reads as size_below_reads
 
-slice-aggregate-add : tie.Need-slice-aggregate-add
-slice-aggregate-add c = search rules
-
-add-requires : tie.Need-add-requires
+add-requires : tie.Need-add-next-requires
 add-requires c κs = search rules
 
-size-below-requires : tie.Need-size-below-requires
-size-below-requires c κs = c.before.before.before.before.before.before.if1.true
+size-below-requires : tie.Need-size_below-requires
+size-below-requires c κs = c.if-z-lt0.true
 
-add-number-requires : tie.Need-add-number-requires
-add-number-requires c κs = let a = c.before.before.before.before in omega (arith, a.add.ensures.next, a.add.ensures.long)
+add-number-requires : tie.Need-add_number-requires
+add-number-requires c κs = let a = c in omega (arith, a.add-next.ensures.next, a.add-next.ensures.long)
 
-same_length : tie.Need-same-length
+same_length : tie.Need-shape_of-out-then-z-lt0
 same_length c = search rules
 
-returns : tie.Need-returns
+returns : tie.Need-returns-then-z-lt0
 returns c =
-    let n = c.before.before in
-    let b = n.before in
-    let a = b.before.before.before.before in
-    let i = a.before.before.before in
-    let s = i.before.before in
-    let t = tested s.args.z s.ranges.z true i.if1.true in (
-      as_text (minus_text s.args.z _ (below_is s.args.z s.ranges.z t _ b.size_below.ensures) t) (then a.add.ensures n.add-number.ensures.0),
-      omega (arith, a.add.ensures.next, n.add-number.ensures.1),
+    let n = c in
+    let b = n in
+    let a = b in
+    let i = a in
+    let s = i in
+    let t = tested s.args.z s.ranges.z true i.if-z-lt0.true in (
+      as_text (minus_text s.args.z _ (below_is s.args.z s.ranges.z t _ b.size_below.ensures) t) (then a.add-next.ensures n.add_number.ensures.0),
+      omega (arith, a.add-next.ensures.next, n.add_number.ensures.1),
     )
 
-cast-add-number : tie.Need-overflow-cast-add-number
+cast-add-number : tie.Need-overflow_cast-z
 cast-add-number c =
-    let i = c.before in
-    let s = i.before.before in
-    keep_asks s.args.z s.ranges.z (tested s.args.z s.ranges.z false i.if1.false)
+    let i = c in
+    let s = i in
+    keep_asks s.args.z s.ranges.z (tested s.args.z s.ranges.z false i.if-z-lt0.false)
 
-add-number-requires-2 : tie.Need-add-number-requires-2
+add-number-requires-2 : tie.Need-add_number-requires-2
 add-number-requires-2 c κs = search rules
 
-same-length-2 : tie.Need-same-length-2
+same-length-2 : tie.Need-shape_of-out
 same-length-2 c = search rules
 
-returns-2 : tie.Need-returns-2
+returns-2 : tie.Need-returns
 returns-2 c =
-    let n = c.before.before in
-    let i = n.before.before in
-    let s = i.before.before in
-    let t = tested s.args.z s.ranges.z false i.if1.false in
-    (as_text (plain_text s.args.z _ (keep_is s.args.z s.ranges.z t) t) n.add-number2.ensures.0, omega (arith, n.add-number2.ensures.1))
+    let n = c in
+    let i = n in
+    let s = i in
+    let t = tested s.args.z s.ranges.z false i.if-z-lt0.false in
+    (as_text (plain_text s.args.z _ (keep_is s.args.z s.ranges.z t) t) n.add_number-2.ensures.0, omega (arith, n.add_number-2.ensures.1))
 
 pub add_cents_spec : {M : Type 1} → statement M
 add_cents_spec =
     tie.close
     (tie.spec
-    slice-aggregate-add
     add-requires
     size-below-requires
     add-number-requires

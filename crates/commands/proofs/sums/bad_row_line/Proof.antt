@@ -5,44 +5,25 @@ use Rattle.commands.proofs.Adding.{ended, then}
 use Rattle.commands.proofs.sums.bad_row_line.Statement.{statement}
 use Rattle.commands.proofs.sums.bad_row_line.Tie as tie
 
-slice-aggregate-add : tie.Need-slice-aggregate-add
-slice-aggregate-add c = search rules
-
-add-requires : tie.Need-add-requires
+add-requires : tie.Need-add-a-requires
 add-requires c κs = search rules
 
-slice-aggregate-add-because : tie.Need-slice-aggregate-add-because
-slice-aggregate-add-because c = search rules
-
-add-because-requires : tie.Need-add-because-requires
+add-because-requires : tie.Need-add_because-b-requires
 add-because-requires c κs = search rules
 
-slice-aggregate-add-2 : tie.Need-slice-aggregate-add-2
-slice-aggregate-add-2 c = search rules
-
-add-requires-2 : tie.Need-add-requires-2
+add-requires-2 : tie.Need-add-requires
 add-requires-2 c κs = search rules
 
-same_length : tie.Need-same-length
+same_length : tie.Need-shape_of-out
 same_length c = search rules
 
 returns : tie.Need-returns
 returns c =
-    let e = c.before.before in
-    let b = e.before.before.before.before.before in
-    let a = b.before.before.before.before.before in
-    ended (then a.add.ensures b.add-because.ensures.0) e.add2.ensures
-    (omega (arith, e.add2.ensures.next, e.add2.ensures.long, b.add-because.ensures.1, b.add-because.ensures.0.long, a.add.ensures.next, a.add.ensures.long))
+    let e = c in
+    let b = e in
+    let a = b in
+    ended (then a.add-a.ensures b.add_because-b.ensures.0) e.add.ensures
+    (omega (arith, e.add.ensures.next, e.add.ensures.long, b.add_because-b.ensures.1, b.add_because-b.ensures.0.long, a.add-a.ensures.next, a.add-a.ensures.long))
 
 pub bad_row_line_spec : {M : Type 1} → statement M
-bad_row_line_spec =
-    tie.close
-    (tie.spec
-    slice-aggregate-add
-    add-requires
-    slice-aggregate-add-because
-    add-because-requires
-    slice-aggregate-add-2
-    add-requires-2
-    same_length
-    returns)
+bad_row_line_spec = tie.close (tie.spec add-requires add-because-requires add-requires-2 same_length returns)

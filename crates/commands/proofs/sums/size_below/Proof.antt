@@ -1,17 +1,16 @@
 -- `commands::sums::size_below` meets its contract. Assumes nothing.
 use Rattle.commands.proofs.Cents.{flip_fits, flip_asks, flip_size, flip_is}
 use native.Mathlib.Omega.{arith}
-use mathlib.Core.Path.{◌≡◌}
 use Rattle.commands.proofs.sums.size_below.Statement.{statement}
 use Rattle.commands.proofs.sums.size_below.Tie as tie
 
-sub-result : tie.Need-overflow-sub-result
+sub-result : tie.Need-overflow_sub-result
 sub-result c = flip_fits c.args.z c.ranges.z c.requires
 
-cast-result : tie.Need-overflow-cast-result
+cast-result : tie.Need-overflow_cast-result
 cast-result c = flip_asks c.args.z c.ranges.z c.requires
 
-add-result : tie.Need-overflow-add-result
+add-result : tie.Need-overflow_add-result
 add-result c = omega (arith, flip_size c.args.z c.ranges.z c.requires, c.ranges.z.sfits)
 
 returns : tie.Need-returns

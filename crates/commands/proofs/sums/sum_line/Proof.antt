@@ -7,40 +7,26 @@ use native.Mathlib.Omega.{arith}
 use borrow.Author.Rules.{rules}
 use Rattle.commands.proofs.sums.sum_line.Statement.{statement}
 use Rattle.commands.proofs.sums.sum_line.Tie as tie
-use Rattle.commands.proofs.answers.add.Reads as add_reads
-use Rattle.commands.proofs.sums.add_cents.Reads as add_cents_reads
-use Rattle.commands.proofs.sums.begin.Reads as begin_reads
 
-begin-requires : tie.Need-begin-requires
+begin-requires : tie.Need-begin-a-requires
 begin-requires c κs = search rules
 
-add-cents-requires : tie.Need-add-cents-requires
+add-cents-requires : tie.Need-add_cents-b-requires
 add-cents-requires c κs = search rules
-
-slice-aggregate-add : tie.Need-slice-aggregate-add
-slice-aggregate-add c = search rules
 
 add-requires : tie.Need-add-requires
 add-requires c κs = search rules
 
-same_length : tie.Need-same-length
+same_length : tie.Need-shape_of-out
 same_length c = search rules
 
 returns : tie.Need-returns
 returns c =
-    let e = c.before.before in
-    let p = e.before.before.before.before.before in
-    let b = p.before.before.before.before in
-    ended (word_then b.before.before.before.before.args.word.now b.begin.ensures.0 (as_text (ap integer (to_z-of_z b.before.before.before.before.ranges.z)) p.add-cents.ensures.0)) e.add.ensures
-    (omega (arith, e.add.ensures.next, e.add.ensures.long, p.add-cents.ensures.1, p.add-cents.ensures.0.long, b.begin.ensures.1, b.begin.ensures.0.long, b.before.before.before.before.requires))
+    let e = c in
+    let p = e in
+    let b = p in
+    ended (word_then b.args.word.now b.begin-a.ensures.0 (as_text (ap integer (to_z-of_z b.ranges.z)) p.add_cents-b.ensures.0)) e.add.ensures
+    (omega (arith, e.add.ensures.next, e.add.ensures.long, p.add_cents-b.ensures.1, p.add_cents-b.ensures.0.long, b.begin-a.ensures.1, b.begin-a.ensures.0.long, b.requires))
 
 pub sum_line_spec : {M : Type 1} → statement M
-sum_line_spec =
-    tie.close
-    (tie.spec
-    begin-requires
-    add-cents-requires
-    slice-aggregate-add
-    add-requires
-    same_length
-    returns)
+sum_line_spec = tie.close (tie.spec begin-requires add-cents-requires add-requires same_length returns)

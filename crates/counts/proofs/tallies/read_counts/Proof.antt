@@ -11,43 +11,43 @@ use Rattle.words.specs.Le.{le32}
 use Rattle.counts.proofs.tallies.read_counts.Statement.{statement}
 use Rattle.counts.proofs.tallies.read_counts.Tie as tie
 
-abbrev invariant_loop : tie.invariant-loop
+abbrev invariant_loop : tie.invariant-loop-j
 invariant_loop s tallies₀ j₀ tallies j = (j ≤ 14) × (length tallies ≡ 14) × ((i : ℕ) → i < j → le32 s (24 + 4 * i) ≡ get_or tallies i 0)
 
-abbrev decreases_loop : tie.decreases-loop
+abbrev decreases_loop : tie.decreases-loop-j
 decreases_loop s tallies₀ j₀ tallies j = 14 - j
 
-loop-holds : tie.Need-loop-init invariant_loop decreases_loop
-loop-holds c = (omega arith, c.before.before.requires.1, λ i l. absurd (omega arith))
+loop-holds : tie.Need-loop-j-init invariant_loop decreases_loop
+loop-holds c = (omega arith, c.requires.1, λ i l. absurd (omega arith))
 
-mul-get32 : tie.Need-overflow-mul-get32 invariant_loop decreases_loop
-mul-get32 c = omega (arith, c.before.loop.invariant.0)
+mul-get32 : tie.Need-overflow_mul-j invariant_loop decreases_loop
+mul-get32 c = omega (arith, c.loop-j.invariant.0)
 
-add-get32 : tie.Need-overflow-add-get32 invariant_loop decreases_loop
-add-get32 c = omega (arith, c.before.loop.invariant.0)
+add-get32 : tie.Need-overflow_add-j invariant_loop decreases_loop
+add-get32 c = omega (arith, c.loop-j.invariant.0)
 
 get32-requires : tie.Need-get32-requires invariant_loop decreases_loop
-get32-requires c κs = omega (arith, c.before.loop.invariant.0, c.before.before.before.before.requires.0)
+get32-requires c κs = omega (arith, c.loop-j.invariant.0, c.requires.0)
 
-cast-tallies : tie.Need-overflow-cast-tallies invariant_loop decreases_loop
+cast-tallies : tie.Need-overflow_cast-tallies invariant_loop decreases_loop
 cast-tallies c = search rules
 
-mul-tallies : tie.Need-overflow-mul-tallies invariant_loop decreases_loop
+mul-tallies : tie.Need-offset_bounds-tallies-j invariant_loop decreases_loop
 mul-tallies c = search rules
 
-slice-write-tallies : tie.Need-slice-write-tallies invariant_loop decreases_loop
-slice-write-tallies c = omega (arith, c.before.before.loop.invariant.1)
+slice-write-tallies : tie.Need-bounds-tallies-j invariant_loop decreases_loop
+slice-write-tallies c = omega (arith, c.loop-j.invariant.1)
 
-add-j : tie.Need-overflow-add-j invariant_loop decreases_loop
+add-j : tie.Need-overflow_add-j-in-loop-j invariant_loop decreases_loop
 add-j c = omega arith
 
-loop-less : tie.Need-loop-smaller invariant_loop decreases_loop
+loop-less : tie.Need-loop-j-smaller invariant_loop decreases_loop
 loop-less c = omega arith
 
-loop-again : tie.Need-loop-preserved invariant_loop decreases_loop
+loop-again : tie.Need-loop-j-preserved invariant_loop decreases_loop
 loop-again c =
-    let l = c.before.before.loop in
-    let s = c.before.before.before.before.before in
+    let l = c.loop-j in
+    let s = c in
     let g = c.get32 in (
       omega arith,
       length-set l.tallies l.j g.result ∙ l.invariant.1,
@@ -59,11 +59,11 @@ loop-again c =
           (side i l.j),
     )
 
-same_length : tie.Need-same-length invariant_loop decreases_loop
-same_length c = let b = c.before.before.before.before in c.before.loop.invariant.1 ∙ sym b.requires.1
+same_length : tie.Need-shape_of-tallies invariant_loop decreases_loop
+same_length c = let b = c in c.loop-j.invariant.1 ∙ sym b.requires.1
 
 returns : tie.Need-returns invariant_loop decreases_loop
-returns c = let l = c.before.loop in (l.invariant.1, λ j m. l.invariant.2 j (omega (arith, l.invariant.0)))
+returns c = let l = c.loop-j in (l.invariant.1, λ j m. l.invariant.2 j (omega (arith, l.invariant.0)))
 
 pub read_counts_spec : {M : Type 1} → statement M
 read_counts_spec =

@@ -9,28 +9,28 @@ use Rattle.words.specs.Le.{le32}
 use Rattle.counts.proofs.tallies.write_counted.Statement.{statement}
 use Rattle.counts.proofs.tallies.write_counted.Tie as tie
 
-cast-tallies : tie.Need-overflow-cast-tallies
+cast-tallies : tie.Need-overflow_cast-tallies
 cast-tallies c = search rules
 
-slice-write-tallies : tie.Need-slice-write-tallies
+slice-write-tallies : tie.Need-bounds-tallies-0
 slice-write-tallies c = search rules
 
-write-counts-requires : tie.Need-write-counts-requires
+write-counts-requires : tie.Need-write_counts-requires
 write-counts-requires c κs = search rules
 
-same_length : tie.Need-same-length
+same_length : tie.Need-shape_of-s
 same_length c = search rules
 
-same-length-2 : tie.Need-same-length-2
+same-length-2 : tie.Need-shape_of-tallies
 same-length-2 c = search rules
 
 returns : tie.Need-returns
 returns c =
-    let w = c.before.before.write-counts in
-    let z = c.before.before.before.before.before.before.before in
+    let w = c.write_counts in
+    let z = c in
     let l : List ℕ = z.args.tallies.now in
     let m = z.args.rows in
-    let u = w.new.0 in
+    let u = w.new.s in
     record {
       old = w.ensures.old;
       rows = w.ensures.new 0 (omega arith) ∙ get_or-set_same l 0 m 0 (omega (arith, z.requires.fourteen));

@@ -33,72 +33,72 @@ module _ (c : tie.Start) where
   deep : depth (page S s p) ≡ byte s (p * size S + 1)
   deep = page_byte S s p 1 (omega arith)
 
-add-size : tie.Need-overflow-add-size
+add-size : tie.Need-overflow_add-size
 add-size c = search rules
 
-mul-a : tie.Need-overflow-mul-a
+mul-a : tie.Need-overflow_mul-a
 mul-a c = search rules
 
-add-e : tie.Need-overflow-add-e
+add-e : tie.Need-overflow_add-e
 add-e c = search rules
 
-slice-read-if1 : tie.Need-slice-read-if1
+slice-read-if1 : tie.Need-bounds-s-a
 slice-read-if1 c = search rules
 
-add-k : tie.Need-overflow-add-k
+add-k : tie.Need-overflow_add-k
 add-k c = search rules
 
-slice-read-k : tie.Need-slice-read-k
+slice-read-k : tie.Need-bounds-s-a-then-s-a-eq1
 slice-read-k c = search rules
 
-cast-k : tie.Need-overflow-cast-k
-cast-k c = let z = c.before.before.before.before.before in omega (arith, c.slice-known3.given (p z * size (S z) + 1))
+cast-k : tie.Need-overflow_cast-k
+cast-k c = let z = c in omega (arith, c.slice_known-then-s-a-eq1-1.given (p z.before.before.before.before.before * size (S z.before.before.before.before.before) + 1))
 
-sub-hash-slot : tie.Need-overflow-sub-hash-slot
+sub-hash-slot : tie.Need-slice_bounds-hash_slot-count
 sub-hash-slot c = search rules
 
-part-hash-slot-start : tie.Need-slice-bounds-hash-slot-start
+part-hash-slot-start : tie.Need-slice_bounds-hash_slot-start
 part-hash-slot-start c = search rules
 
-part-hash-slot-end : tie.Need-slice-bounds-hash-slot-end
+part-hash-slot-end : tie.Need-slice_bounds-hash_slot-end
 part-hash-slot-end c = search rules
 
-hash-slot-requires : tie.Need-hash-slot-requires
+hash-slot-requires : tie.Need-hash_slot-x-requires
 hash-slot-requires c κs =
-    let z = c.before.before.before.before.before.before.before in
-    let t = c.before.before.before.if1.true in
-    let b = z.requires.1.keeps.rules (kind z ∙ t) in
-    rw (page_lent (S z) (s z) (p z)) (b, b.some)
+    let z = c in
+    let t = c.if-s-a-eq1.true in
+    let b = z.requires.1.keeps.rules (kind z.before.before.before.before.before.before ∙ t) in
+    rw (page_lent (S z.before.before.before.before.before.before) (s z.before.before.before.before.before.before) (p z.before.before.before.before.before.before)) (b, b.some)
 
-name-prefix-requires : tie.Need-name-prefix-requires
+name-prefix-requires : tie.Need-name_prefix-requires
 name-prefix-requires c κs =
-    let z = c.before.before.before.before.before.before.before.before.before in
-    let t = c.before.before.before.before.before.if1.true in (
+    let z = c in
+    let t = c.if-s-a-eq1.true in (
       z.requires.0,
       record {
-        long = omega (arith, mul-le-mul_right (size (S z)) z.requires.1.least, z.requires.1.there);
-        low = omega (arith, deep z, z.requires.1.keeps.depths (kind z ∙ t));
+        long = omega (arith, mul-le-mul_right (size (S z.before.before.before.before.before.before.before.before)) z.requires.1.least, z.requires.1.there);
+        low = omega (arith, deep z.before.before.before.before.before.before.before.before, z.requires.1.keeps.depths (kind z.before.before.before.before.before.before.before.before ∙ t));
         deep = z.requires.1.deep;
         word = omega (arith, z.requires.1.most, z.requires.0.whole, z.requires.0.most);
       },
     )
 
-same_length : tie.Need-same-length
+same_length : tie.Need-shape_of-s
 same_length c = search rules
 
-returns : tie.Need-returns
+returns : tie.Need-returns-then-s-a-eq1
 returns c =
-    let z = c.before.before.before.before.before.before.before.before.before.before.before.before in
-    let t = c.before.before.before.before.before.before.before.before.if1.true in
-    let f = c.before.before.before.before.hash-slot.ensures in
-    let x = f ∙ ap (λ g. fnv (code g 0)) (page_lent (S z) (s z) (p z)) in
-    named_page (S z) fnv (s z) z.args.d (p z) c.before.before.name-prefix.new.0 (byte (s z) (p z * size (S z) + 1)) c.before.before.before.before.hash-slot.result
-    (kind z ∙ t) (deep z) (sym x) c.before.before.name-prefix.ensures
+    let z = c in
+    let t = c.if-s-a-eq1.true in
+    let f = c.hash_slot-x.ensures in
+    let x = f ∙ ap (λ g. fnv (code g 0)) (page_lent (S z.before.before.before.before.before.before.before.before.before.before.before) (s z.before.before.before.before.before.before.before.before.before.before.before) (p z.before.before.before.before.before.before.before.before.before.before.before)) in
+    named_page (S z.before.before.before.before.before.before.before.before.before.before.before) fnv (s z.before.before.before.before.before.before.before.before.before.before.before) z.args.d (p z.before.before.before.before.before.before.before.before.before.before.before) c.name_prefix.new.s (byte (s z.before.before.before.before.before.before.before.before.before.before.before) (p z.before.before.before.before.before.before.before.before.before.before.before * size (S z.before.before.before.before.before.before.before.before.before.before.before) + 1)) c.hash_slot-x.result
+    (kind z.before.before.before.before.before.before.before.before.before.before.before ∙ t) (deep z.before.before.before.before.before.before.before.before.before.before.before) (sym x) c.name_prefix.ensures
 
-returns-2 : tie.Need-returns-2
+returns-2 : tie.Need-returns-else-s-a-eq1
 returns-2 c =
-    let z = c.before.before.before.before in
-    unnamed_page (S z) fnv (s z) z.args.d (p z) (λ u. c.if1.false (sym (kind z) ∙ u))
+    let z = c in
+    unnamed_page (S z.before.before.before.before) fnv (s z.before.before.before.before) z.args.d (p z.before.before.before.before) (λ u. c.if-s-a-eq1.false (sym (kind z.before.before.before.before) ∙ u))
 
 pub name_page_spec : {M : Type 1} → statement M
 name_page_spec =

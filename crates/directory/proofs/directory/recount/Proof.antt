@@ -8,12 +8,12 @@ use Rattle.directory.proofs.Recounts.{all_shallow, counts_room, few_pages, recou
 use Rattle.directory.proofs.directory.recount.Statement.{statement}
 use Rattle.directory.proofs.directory.recount.Tie as tie
 
-slice-aggregate-tally : tie.Need-slice-aggregate-tally
+slice-aggregate-tally : tie.Need-slice_bounds-tally-end
 slice-aggregate-tally c = search rules
 
 tally-requires : tie.Need-tally-requires
 tally-requires c κs =
-    let a = c.before.before.before in
+    let a = c in
     let P = a.requires.1 in
     record {
       long = P.long;
@@ -24,21 +24,21 @@ tally-requires c κs =
       zero = zeros 14;
     }
 
-slice-aggregate-write-counts : tie.Need-slice-aggregate-write-counts
+slice-aggregate-write-counts : tie.Need-slice_bounds-write_counts-end
 slice-aggregate-write-counts c = search rules
 
-write-counts-requires : tie.Need-write-counts-requires
+write-counts-requires : tie.Need-write_counts-requires
 write-counts-requires c κs =
-    let a = c.before.before.before.before.before.before.before in
-    (counts_room a.args.z a.requires.0 a.args.s.now a.args.n a.requires.1, c.before.before.before.tally.ensures.long)
+    let a = c in
+    (counts_room a.args.z a.requires.0 a.args.s.now a.args.n a.requires.1, c.tally.ensures.long)
 
-same_length : tie.Need-same-length
+same_length : tie.Need-shape_of-s
 same_length c = search rules
 
 returns : tie.Need-returns
 returns c =
-    let a = c.before.before.before.before.before.before.before.before.before.before in
-    recounted_by a.args.z a.requires.0 a.args.s.now _ _ c.before.before.before.before.before.before.tally.ensures c.before.before.write-counts.ensures
+    let a = c in
+    recounted_by a.args.z a.requires.0 a.args.s.now _ _ c.tally.ensures c.write_counts.ensures
 
 pub recount_spec : {M : Type 1} → statement M
 recount_spec =

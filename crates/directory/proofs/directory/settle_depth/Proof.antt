@@ -9,32 +9,32 @@ use Rattle.directory.proofs.Laying.{directable, room_counts, told_depth}
 use Rattle.directory.proofs.directory.settle_depth.Statement.{statement}
 use Rattle.directory.proofs.directory.settle_depth.Tie as tie
 
-deepest-counted-requires : tie.Need-deepest-counted-requires
-deepest-counted-requires c κs = let z = c.before.before in (room_counts z.args.z z.args.s.now z.args.n z.requires.store, z.requires.limit)
+deepest-counted-requires : tie.Need-deepest_counted-e-requires
+deepest-counted-requires c κs = let z = c in (room_counts z.args.z z.args.s.now z.args.n z.requires.store, z.requires.limit)
 
-cast-write-directory : tie.Need-overflow-cast-write-directory
+cast-write-directory : tie.Need-overflow_cast-e
 cast-write-directory c = search rules
 
-write-directory-requires : tie.Need-write-directory-requires
+write-directory-requires : tie.Need-write_directory-requires
 write-directory-requires c κs =
-    let z = c.before.before.before.before.before in
-    (z.requires.store.sized, subst (λ d. Directable z.args.z z.args.s.now z.args.n d) (sym (told_depth z.args.z fnv z.args.s.now z.args.n z.args.d z.args.most z.requires _ c.before.before.deepest-counted.ensures)) (directable z.args.z z.args.s.now z.args.n z.requires.store.pages))
+    let z = c in
+    (z.requires.store.sized, subst (λ d. Directable z.args.z z.args.s.now z.args.n d) (sym (told_depth z.args.z fnv z.args.s.now z.args.n z.args.d z.args.most z.requires _ c.deepest_counted-e.ensures)) (directable z.args.z z.args.s.now z.args.n z.requires.store.pages))
 
-same_length : tie.Need-same-length
+same_length : tie.Need-shape_of-s-then-e-d
 same_length c = search rules
 
-returns : tie.Need-returns
+returns : tie.Need-returns-then-e-d
 returns c =
-    let z = c.before.before.before.before.before.before.before.before in
-    subst (λ d. Directed z.args.z fnv z.args.s.now d z.args.n c.before.before.write-directory.new.0) (told_depth z.args.z fnv z.args.s.now z.args.n z.args.d z.args.most z.requires _ c.before.before.before.before.before.deepest-counted.ensures) c.before.before.write-directory.ensures
+    let z = c in
+    subst (λ d. Directed z.args.z fnv z.args.s.now d z.args.n c.write_directory.new.s) (told_depth z.args.z fnv z.args.s.now z.args.n z.args.d z.args.most z.requires _ c.deepest_counted-e.ensures) c.write_directory.ensures
 
-same-length-2 : tie.Need-same-length-2
+same-length-2 : tie.Need-shape_of-s-else-e-d
 same-length-2 c = search rules
 
-returns-2 : tie.Need-returns-2
+returns-2 : tie.Need-returns-else-e-d
 returns-2 c =
-    let z = c.before.before.before.before in
-    let e : deepest_in (contents z.args.z z.args.s.now) ≡ z.args.d = omega (arith, told_depth z.args.z fnv z.args.s.now z.args.n z.args.d z.args.most z.requires _ c.before.deepest-counted.ensures, c.if1.false) in
+    let z = c in
+    let e : deepest_in (contents z.args.z z.args.s.now) ≡ z.args.d = omega (arith, told_depth z.args.z fnv z.args.s.now z.args.n z.args.d z.args.most z.requires _ c.deepest_counted-e.ensures, c.if-e-d.false) in
     subst (λ d. Directed z.args.z fnv z.args.s.now d z.args.n z.args.s.now) (sym e) (z.requires.named e)
 
 pub settle_depth_spec : {M : Type 1} → statement M

@@ -17,10 +17,10 @@ use borrow.Author.Rules.{rules}
 use Rattle.directory.proofs.directory.write_directory.Statement.{statement}
 use Rattle.directory.proofs.directory.write_directory.Tie as tie
 
-abbrev invariant_loop : tie.invariant-loop
+abbrev invariant_loop : tie.invariant-loop-p
 invariant_loop s₀ z n d size p₀ s p = (2 ≤ p) × (p ≤ n) × Directed z fnv s₀ d p s
 
-abbrev decreases_loop : tie.decreases-loop
+abbrev decreases_loop : tie.decreases-loop-p
 decreases_loop s₀ z n d size p₀ s p = n - p
 
 -- pages 0 and 1 are there
@@ -29,26 +29,26 @@ two_pages z = omega (arith, z.requires.1.long, mul-le-mul_right (size z.args.z) 
 
 put32-requires : tie.Need-put32-requires invariant_loop decreases_loop
 put32-requires c κs =
-    let z = c.before.before in
-    (omega (arith, two_pages z, z.requires.0.least), omega (arith, z.requires.1.deep, twelve z.args.z z.requires.0))
+    let z = c in
+    (omega (arith, two_pages z.before.before, z.requires.0.least), omega (arith, z.requires.1.deep, twelve z.args.z z.requires.0))
 
-add-size : tie.Need-overflow-add-size invariant_loop decreases_loop
-add-size c = let z = c.before.before.before.before.before.before in omega (arith, z.requires.0.most)
+add-size : tie.Need-overflow_add-size invariant_loop decreases_loop
+add-size c = let z = c in omega (arith, z.requires.0.most)
 
-mul-clear : tie.Need-overflow-mul-clear invariant_loop decreases_loop
-mul-clear c = let z = c.before.before.before.before.before.before.before in omega (arith, z.requires.0.most)
+mul-clear : tie.Need-overflow_mul-size invariant_loop decreases_loop
+mul-clear c = let z = c in omega (arith, z.requires.0.most)
 
 clear-requires : tie.Need-clear-requires invariant_loop decreases_loop
 clear-requires c κs =
-    let z = c.before.before.before.before.before.before.before in
-    (omega arith, omega (arith, two_pages z, c.before.before.before.before.put32.ensures.old.len))
+    let z = c in
+    (omega arith, omega (arith, two_pages z.before.before.before.before.before.before.before, c.put32.ensures.old.len))
 
-loop-holds : tie.Need-loop-init invariant_loop decreases_loop
-loop-holds c = let w = c.before.before.before.before.before.before.before in let z = w.before.before.before in
-    (omega arith, omega (arith, z.requires.1.least), directed_none z.args.z z.requires.0 fnv w.put32.ensures c.before.before.clear.ensures)
+loop-holds : tie.Need-loop-p-init invariant_loop decreases_loop
+loop-holds c = let w = c in let z = w in
+    (omega arith, omega (arith, z.requires.1.least), directed_none z.args.z z.requires.0 fnv w.put32.ensures c.clear.ensures)
 
 -- what stands before the loop
-module _ (b : tie.At-loop invariant_loop decreases_loop) where
+module _ (b : tie.At-loop-p invariant_loop decreases_loop) where
   abbrev z : tie.Start invariant_loop decreases_loop
   z = b.before.before.before.before.before.before.before.before.before.before.before
 
@@ -56,59 +56,59 @@ module _ (b : tie.At-loop invariant_loop decreases_loop) where
   S = z.args.z
 
   abbrev u : List ℕ
-  u = b.before.before.before.clear.last.0
+  u = b.clear.new.s
 
-  set : Put32 z.args.s.now 16 z.args.d b.before.before.before.before.before.before.before.before.put32.last.0
-  set = b.before.before.before.before.before.before.before.before.put32.ensures
+  set : Put32 z.args.s.now 16 z.args.d b.put32.new.s
+  set = b.put32.ensures
 
-  cleared : Cleared b.before.before.before.before.before.before.before.before.put32.last.0 (size S) (2 * size S) u
-  cleared = b.before.before.before.clear.ensures
+  cleared : Cleared b.put32.new.s (size S) (2 * size S) u
+  cleared = b.clear.ensures
 
   long : length u ≡ z.args.n * size S
-  long = cleared.len ∙ set.old.len ∙ z.pre.1.long
+  long = cleared.len ∙ set.old.len ∙ z.requires.1.long
 
-  standing : b.loop.p < z.args.n → Nameable z.args.d (page S b.loop.s b.loop.p)
+  standing : b.loop-p.p < z.args.n → Nameable z.args.d (page S b.loop-p.s b.loop-p.p)
   standing l =
-      let p = b.loop.p in
-      let two = b.loop.inv.0 in
+      let p = b.loop-p.p in
+      let two = b.loop-p.invariant.0 in
       let e : page S u p ≡ page S z.args.s.now p =
-      page_above S z.args.s.now u p two (omega (arith, z.pre.1.long, apart (size S) p z.args.n l)) (cleared.len ∙ set.old.len)
-      (λ k m. cleared.above k m ∙ set.old.above k (omega (arith, z.pre.0.least))) in
-      standing_on S fnv two (omega (arith, long, apart (size S) p z.args.n l)) b.loop.inv.2 (subst (Nameable z.args.d) (sym e) (z.pre.1.pages p two l))
+      page_above S z.args.s.now u p two (omega (arith, z.requires.1.long, apart (size S) p z.args.n l)) (cleared.len ∙ set.old.len)
+      (λ k m. cleared.above k m ∙ set.old.above k (omega (arith, z.requires.0.least))) in
+      standing_on S fnv two (omega (arith, long, apart (size S) p z.args.n l)) b.loop-p.invariant.2 (subst (Nameable z.args.d) (sym e) (z.requires.1.pages p two l))
 
-name-page-requires : tie.Need-name-page-requires invariant_loop decreases_loop
+name-page-requires : tie.Need-name_page-requires invariant_loop decreases_loop
 name-page-requires c κs =
-    let b = c.before.before in
-    let t = c.before.loop-test.true in (
-      (z b).requires.0,
+    let b = c in
+    let t = c.loop-p-test.true in (
+      (z b.before.before).requires.0,
       record {
-        least = b.loop.invariant.0;
-        most = omega (arith, (z b).requires.1.most, t);
-        there = omega (arith, long b, b.loop.invariant.2.long, apart (size (S b)) b.loop.p (z b).args.n t);
-        deep = (z b).requires.1.deep;
-        keeps = standing b t;
+        least = b.loop-p.invariant.0;
+        most = omega (arith, (z b.before.before).requires.1.most, t);
+        there = omega (arith, long b.before.before, b.loop-p.invariant.2.long, apart (size (S b.before.before)) b.loop-p.p (z b.before.before).args.n t);
+        deep = (z b.before.before).requires.1.deep;
+        keeps = standing b.before.before t;
       },
     )
 
-add-p : tie.Need-overflow-add-p invariant_loop decreases_loop
+add-p : tie.Need-overflow_add-p invariant_loop decreases_loop
 add-p c = omega arith
 
-loop-less : tie.Need-loop-smaller invariant_loop decreases_loop
+loop-less : tie.Need-loop-p-smaller invariant_loop decreases_loop
 loop-less c = omega arith
 
-loop-again : tie.Need-loop-preserved invariant_loop decreases_loop
+loop-again : tie.Need-loop-p-preserved invariant_loop decreases_loop
 loop-again c =
-    let b = c.before.before.before.before.before in
-    (omega arith, omega arith, directed_more (S b) (z b).requires.0 fnv b.loop.invariant.0 (omega (arith, long b, apart (size (S b)) b.loop.p (z b).args.n c.before.before.before.before.loop-test.true)) b.loop.invariant.2 c.before.before.name-page.ensures)
+    let b = c in
+    (omega arith, omega arith, directed_more (S b.before.before.before.before.before) (z b.before.before.before.before.before).requires.0 fnv b.loop-p.invariant.0 (omega (arith, long b.before.before.before.before.before, apart (size (S b.before.before.before.before.before)) b.loop-p.p (z b.before.before.before.before.before).args.n c.loop-p-test.true)) b.loop-p.invariant.2 c.name_page.ensures)
 
-same_length : tie.Need-same-length invariant_loop decreases_loop
+same_length : tie.Need-shape_of-s invariant_loop decreases_loop
 same_length c = search rules
 
 returns : tie.Need-returns invariant_loop decreases_loop
 returns c =
-    let b = c.before in
-    let e : b.loop.p ≡ (z b).args.n = omega arith in
-    directed_from (S b) (z b).requires.0 fnv (set b) (cleared b) (omega (arith, (z b).requires.1.long)) (subst (λ n. Directed (S b) fnv (u b) (z b).args.d n b.loop.s) e b.loop.invariant.2)
+    let b = c in
+    let e : b.loop-p.p ≡ (z b.before).args.n = omega arith in
+    directed_from (S b.before) (z b.before).requires.0 fnv (set b.before) (cleared b.before) (omega (arith, (z b.before).requires.1.long)) (subst (λ n. Directed (S b.before) fnv (u b.before) (z b.before).args.d n b.loop-p.s) e b.loop-p.invariant.2)
 
 pub write_directory_spec : {M : Type 1} → statement M
 write_directory_spec =

@@ -17,38 +17,38 @@ module _ (z : tie.Start) where
   abbrev i : ℕ
   i = z.args.i
 
-has-code-requires : tie.Need-has-code-requires
+has-code-requires : tie.Need-has_code-requires
 has-code-requires c κs = search rules
 
-code-at-requires : tie.Need-code-at-requires
+code-at-requires : tie.Need-code_at-requires
 code-at-requires c κs = search rules
 
-place-at-requires : tie.Need-place-at-requires
+place-at-requires : tie.Need-place_at-requires
 place-at-requires c κs = search rules
 
-gather-row-requires : tie.Need-gather-row-requires
-gather-row-requires c κs = let h = c.before.before.before.before in
-    let z = h.before.before.before.before in
-    let other = says_false h.has_code.result (not-true _ c.before.before.before.if1.true) h.has_code.ensures in
-    rw (c.before.code_at.ensures, c.place_at.ensures)
-    (slot_storable (g z) (i z) z.requires.page z.requires.slot, subst (Taking z.args.to.now) (cut_other (row_in (g z) (i z)) z.args.key.now other) z.requires.room)
+gather-row-requires : tie.Need-gather_row-requires
+gather-row-requires c κs = let h = c in
+    let z = h in
+    let other = says_false h.has_code.result (not-true _ c.if-not-has_code.true-raw) h.has_code.ensures in
+    rw (c.code_at.ensures, c.place_at.ensures)
+    (slot_storable (g z.before.before.before.before.before.before.before.before) (i z.before.before.before.before.before.before.before.before) z.requires.page z.requires.slot, subst (Taking z.args.to.now) (cut_other (row_in (g z.before.before.before.before.before.before.before.before) (i z.before.before.before.before.before.before.before.before)) z.args.key.now other) z.requires.room)
 
-same_length : tie.Need-same-length
+same_length : tie.Need-shape_of-to
 same_length c = search rules
 
-returns : tie.Need-returns
-returns c = let w = c.before.before in
-    let k = w.before in
-    let h = k.before.before.before.before in
-    let z = h.before.before.before.before in
-    let other = says_false h.has_code.result (not-true _ k.before.before.before.if1.true) h.has_code.ensures in
-    subst (λ l. Gathered z.args.to.now l w.gather-row.new.0) (sym (cut_other (row_in (g z) (i z)) z.args.key.now other))
-    (rw (k.before.code_at.ensures, k.place_at.ensures) at w.gather-row.ensures)
+returns : tie.Need-returns-then-not-has_code
+returns c = let w = c in
+    let k = w in
+    let h = k in
+    let z = h in
+    let other = says_false h.has_code.result (not-true _ k.if-not-has_code.true-raw) h.has_code.ensures in
+    subst (λ l. Gathered z.args.to.now l w.gather_row.new.to) (sym (cut_other (row_in (g z.before.before.before.before.before.before.before.before.before.before.before) (i z.before.before.before.before.before.before.before.before.before.before.before)) z.args.key.now other))
+    (rw (k.code_at.ensures, k.place_at.ensures) at w.gather_row.ensures)
 
-returns-2 : tie.Need-returns-2
-returns-2 c = let z = c.before.before.before.before.before in
-    let same = says_true c.before.has_code.result (not-false _ c.if1.false) c.before.has_code.ensures in
-    subst (λ l. Gathered z.args.to.now l z.args.to.now) (sym (cut_same (row_in (g z) (i z)) z.args.key.now same)) (none_added z.requires.room.tight)
+returns-2 : tie.Need-returns-else-not-has_code
+returns-2 c = let z = c in
+    let same = says_true c.has_code.result (not-false _ c.if-not-has_code.false-raw) c.has_code.ensures in
+    subst (λ l. Gathered z.args.to.now l z.args.to.now) (sym (cut_same (row_in (g z.before.before.before.before.before) (i z.before.before.before.before.before)) z.args.key.now same)) (none_added z.requires.room.tight)
 
 pub add_other_spec : {M : Type 1} → statement M
 add_other_spec =

@@ -13,16 +13,15 @@ put16-requires-2 c κs = search rules
 put16-requires-3 : tie.Need-put16-requires-3
 put16-requires-3 c κs = search rules
 
-same_length : tie.Need-same-length
+same_length : tie.Need-shape_of-page
 same_length c = search rules
 
 returns : tie.Need-returns
 returns c =
-    let three = c.before.before in
-    let two = three.before.before.before.before in
-    let one = two.before.before.before.before in
-    headed one.put16.ensures two.put162.ensures three.put163.ensures
+    let three = c in
+    let two = three in
+    let one = two in
+    headed one.put16.ensures two.put16-2.ensures three.put16-3.ensures
 
 pub set_head_spec : {M : Type 1} → statement M
-set_head_spec =
-    tie.close (tie.spec put16-requires put16-requires-2 put16-requires-3 same_length returns)
+set_head_spec = tie.close (tie.spec put16-requires put16-requires-2 put16-requires-3 same_length returns)

@@ -4,7 +4,7 @@ use Rattle.page.proofs.Signs.{cast_asks, cast_gives}
 use Rattle.page.proofs.places.natural16.Statement.{statement}
 use Rattle.page.proofs.places.natural16.Tie as tie
 
-cast-result : tie.Need-overflow-cast-result
+cast-result : tie.Need-overflow_cast-result
 cast-result c = cast_asks w16 c.args.x c.ranges.x c.requires tt
 
 returns : tie.Need-returns

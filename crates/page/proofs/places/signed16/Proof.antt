@@ -5,7 +5,7 @@ use borrow.Author.Rules.{rules}
 use Rattle.page.proofs.places.signed16.Statement.{statement}
 use Rattle.page.proofs.places.signed16.Tie as tie
 
-cast-result : tie.Need-overflow-cast-result
+cast-result : tie.Need-overflow_cast-result
 cast-result c = search rules
 
 returns : tie.Need-returns

@@ -4,16 +4,16 @@ use borrow.Author.Rules.{rules}
 use Rattle.page.proofs.read.extent_of.Statement.{statement}
 use Rattle.page.proofs.read.extent_of.Tie as tie
 
-add-get32 : tie.Need-overflow-add-get32
+add-get32 : tie.Need-overflow_add-i
 add-get32 c = search rules
 
-mul-get32 : tie.Need-overflow-mul-get32
+mul-get32 : tie.Need-overflow_mul-i
 mul-get32 c = search rules
 
-sub-get32 : tie.Need-overflow-sub-get32
+sub-get32 : tie.Need-overflow_sub-page
 sub-get32 c = search rules
 
-get32-requires : tie.Need-get32-requires
+get32-requires : tie.Need-get32-w-requires
 get32-requires c κs = search rules
 
 returns : tie.Need-returns

@@ -5,17 +5,17 @@ use borrow.Author.Rules.{rules}
 use Rattle.page.proofs.remove.end_of.Statement.{statement}
 use Rattle.page.proofs.remove.end_of.Tie as tie
 
-extent-of-requires : tie.Need-extent-of-requires
+extent-of-requires : tie.Need-extent_of-e-requires
 extent-of-requires c κs = search rules
 
-add-result : tie.Need-overflow-add-result
+add-result : tie.Need-overflow_add-result
 add-result c =
-    let s = c.before.before.before in
+    let s = c in
     omega (arith, off_lt s.args.page.now s.args.i, len_lt s.args.page.now s.args.i)
 
 returns : tie.Need-returns
 returns c =
-    let s = c.before.before.before in
+    let s = c in
     omega (arith, off_lt s.args.page.now s.args.i, len_lt s.args.page.now s.args.i)
 
 pub end_of_spec : {M : Type 1} → statement M

@@ -5,11 +5,11 @@ use Rattle.store.proofs.Paging.PageTies.{zeros}
 use Rattle.page_reader.proofs.slots.keeps_1024.Statement.{statement}
 use Rattle.page_reader.proofs.slots.keeps_1024.Tie as tie
 
-slice-aggregate-bucket-ok : tie.Need-slice-aggregate-bucket-ok
+slice-aggregate-bucket-ok : tie.Need-slice_bounds-bucket_ok-end
 slice-aggregate-bucket-ok c = search rules
 
-bucket-ok-requires : tie.Need-bucket-ok-requires
-bucket-ok-requires c κs = let p = c.before.before.requires in record { same = sym p.0; zero = zeros 1024; bits = p.1 }
+bucket-ok-requires : tie.Need-bucket_ok-requires
+bucket-ok-requires c κs = let p = c.requires in record { same = sym p.0; zero = zeros 1024; bits = p.1 }
 
 returns : tie.Need-returns
 returns c = search rules

@@ -5,21 +5,21 @@ use Rattle.page_reader.proofs.Rows.{empty, count_none, slotted}
 use Rattle.page_reader.proofs.slots.left_at.Statement.{statement}
 use Rattle.page_reader.proofs.slots.left_at.Tie as tie
 
-returns : tie.Need-returns
+returns : tie.Need-returns-then-page-eq0
 returns c =
-    let a = c.before.before.args in
-    rw (empty a.page.now c.if1.true) (omega (arith, count_none))
+    let a = c.args in
+    rw (empty a.page.now c.if-page-eq0.true) (omega (arith, count_none))
 
-get16-requires : tie.Need-get16-requires
-get16-requires c κs = let s = c.before.before in omega (arith, (slotted s.args.page.now (s.requires.sound (omega arith))).least)
+get16-requires : tie.Need-get16-n-requires
+get16-requires c κs = let s = c in omega (arith, (slotted s.args.page.now (s.requires.sound (omega arith))).least)
 
-sub-result : tie.Need-overflow-sub-result
+sub-result : tie.Need-overflow_sub-result
 sub-result c = search rules
 
-returns-2 : tie.Need-returns-2
+returns-2 : tie.Need-returns-then-slot-n
 returns-2 c = search rules
 
-returns-3 : tie.Need-returns-3
+returns-3 : tie.Need-returns
 returns-3 c = search rules
 
 pub left_at_spec : {M : Type 1} → statement M

@@ -5,7 +5,7 @@ use Rattle.page_reader.proofs.Rows.{at_row, slotted}
 use Rattle.page_reader.proofs.slots.next_at.Statement.{statement}
 use Rattle.page_reader.proofs.slots.next_at.Tie as tie
 
-add-result : tie.Need-overflow-add-result
+add-result : tie.Need-overflow_add-result
 add-result c =
     let p = slotted c.args.page.now (at_row c.args.page.now c.args.slot c.requires.0 c.requires.1) in
     omega (arith, c.requires.1, p.room, p.most)

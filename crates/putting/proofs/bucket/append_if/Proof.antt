@@ -1,16 +1,18 @@
 -- `putting::append_if` meets its contract. Assumes nothing.
-use Rattle.putting.proofs.Appends.{appended_none, picked_yes, picked_no}
+use Rattle.putting.proofs.Appends.{appended_none, rows_yes, rows_no}
 use Rattle.putting.specs.Put.{new_row}
-use Rattle.putting.specs.Split.{picked_if, Behind, Appended}
-use Rattle.partition.specs.Partition.{Row}
+use Rattle.putting.specs.Split.{Behind, Appended}
+use Rattle.partition.specs.Partition.{Row, rows_of}
+use Rattle.partition.specs.Bits.{top}
+use Rattle.hash.specs.Fnv.{fnv}
 use Prim.Native.Nat.{ℕ}
 use mathlib.Core.List.{List, [], ◌∷◌}
-use mathlib.Core.Path.{◌≡◌, sym, subst, ◌∙◌}
+use mathlib.Core.Path.{◌≡◌, sym, ap, subst, ◌∙◌}
 use borrow.Author.Rules.{rules}
 use Rattle.putting.proofs.bucket.append_if.Statement.{statement}
 use Rattle.putting.proofs.bucket.append_if.Tie as tie
 
-module _ (b : tie.After-top-bits) where
+module _ (b : tie.After-top_bits) where
   abbrev z : tie.Start
   z = b.before.before.before.before
 
@@ -20,33 +22,36 @@ module _ (b : tie.After-top-bits) where
   abbrev row : Row
   row = new_row z.args.key.now z.args.place.now
 
-  held : b.top-bits.result ≡ z.args.v → picked_if z.args.x z.args.k z.args.v row ≡ row ∷ []
-  held e = picked_yes z.args.x z.args.k z.args.v row (sym b.top-bits.ensures ∙ e)
+  on : top z.args.k (fnv z.args.key.now) ≡ b.top_bits.result
+  on = sym (b.top_bits.ensures ∙ ap (top z.args.k) z.requires.hash)
 
-top-bits-requires : tie.Need-top-bits-requires
-top-bits-requires c κs = c.before.before.before.requires.deep
+  held : b.top_bits.result ≡ z.args.v → rows_of fnv (row ∷ []) z.args.k z.args.v ≡ row ∷ []
+  held e = rows_yes fnv row z.args.k z.args.v (on ∙ e)
+
+top-bits-requires : tie.Need-top_bits-requires
+top-bits-requires c κs = c.requires.deep
 
 append-requires : tie.Need-append-requires
 append-requires c κs =
-    let b = c.before.before in
-    let p = (z b).requires in
-    record { behind = subst (Behind (page b)) (held b c.before.if1.true) p.behind; natural = p.natural; good = p.good }
+    let b = c in
+    let p = (z b.before.before).requires in
+    record { behind = subst (Behind (page b.before.before)) (held b.before.before c.if-top_bits-v.true) p.behind; natural = p.natural; good = p.good }
 
-same_length : tie.Need-same-length
+same_length : tie.Need-shape_of-page
 same_length c = search rules
 
-returns : tie.Need-returns
+returns : tie.Need-returns-then-top_bits-v
 returns c =
-    let w = c.before.before.append in
-    let d = c.before.before.before.before in
-    let b = d.before in
-    subst (λ l. Appended (page b) l w.new.0) (sym (held b d.if1.true)) w.ensures
+    let w = c.append in
+    let d = c in
+    let b = d in
+    subst (λ l. Appended (page b.before.before.before.before.before) l w.new.page) (sym (held b.before.before.before.before.before d.if-top_bits-v.true)) w.ensures
 
-returns-2 : tie.Need-returns-2
+returns-2 : tie.Need-returns-else-top_bits-v
 returns-2 c =
-    let b = c.before in
-    let B = (z b).requires.behind in
-    subst (λ l. Appended (page b) l (page b)) (sym (picked_no (z b).args.x (z b).args.k (z b).args.v (row b) (λ e. c.if1.false (b.top-bits.ensures ∙ e)))) (appended_none (page b) B.page B.packed)
+    let b = c in
+    let B = (z b.before).requires.behind in
+    subst (λ l. Appended (page b.before) l (page b.before)) (sym (rows_no fnv (row b.before) (z b.before).args.k (z b.before).args.v (λ e. c.if-top_bits-v.false (sym (on b.before) ∙ e)))) (appended_none (page b.before) B.page B.packed)
 
 pub append_if_spec : {M : Type 1} → statement M
 append_if_spec = tie.close (tie.spec top-bits-requires append-requires same_length returns returns-2)

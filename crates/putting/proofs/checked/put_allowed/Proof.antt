@@ -14,37 +14,37 @@ use Rattle.putting.proofs.checked.put_allowed.Tie as tie
 
 -- the place's three numbers are 32, 16 and 16 bits wide
 ranged : (z : tie.Start) → InRange z.args.place
-ranged z = let g = z.well-formed.1.1.1.0.1.1 in record { page = g.0.1; slot = g.1.0.1; volume = g.1.1.0.1 }
+ranged z = let g = z.well_formed.1.1.1.0.1.1 in record { page = g.0.1; slot = g.1.0.1; volume = g.1.1.0.1 }
 
-slice-aggregate-store-place : tie.Need-slice-aggregate-store-place
+slice-aggregate-store-place : tie.Need-slice_bounds-store_place-end
 slice-aggregate-store-place c = search rules
 
-store-place-requires : tie.Need-store-place-requires
-store-place-requires c κs = (refl, c.before.before.before.requires.natural)
+store-place-requires : tie.Need-store_place-requires
+store-place-requires c κs = (refl, c.requires.natural)
 
-slice-aggregate-put-given : tie.Need-slice-aggregate-put-given
+slice-aggregate-put-given : tie.Need-slice_bounds-put_given-end
 slice-aggregate-put-given c = search rules
 
-put-given-requires : tie.Need-put-given-requires
+put-given-requires : tie.Need-put_given-requires
 put-given-requires c κs =
-    let w = c.before.before.before in
-    let z = w.before.before.before.before in
+    let w = c in
+    let z = w in
     record {
       sized = z.requires.sized;
       accepted = z.requires.accepted;
       good = z.requires.good;
-      natural = subst Natural (sym w.store-place.ensures) (stored_natural z.args.place z.requires.natural (ranged z));
+      natural = subst Natural (sym w.store_place.ensures) (stored_natural z.args.place z.requires.natural (ranged z.before.before.before.before.before.before.before));
     }
 
-same_length : tie.Need-same-length
+same_length : tie.Need-shape_of-s
 same_length c = search rules
 
 returns : tie.Need-returns
 returns c =
-    let w = c.before.before.put-given in
-    let y = c.before.before.before.before.before.before in
-    let z = y.before.before.before.before in
-    subst (λ x. Answers (put_by_mode z.args.z fnv z.args.s.now z.args.mode (new_row (fold z.args.key.now) x)) (meaning w.result, w.new.0)) y.store-place.ensures w.ensures
+    let w = c.put_given in
+    let y = c in
+    let z = y in
+    subst (λ x. Answers (put_by_mode z.args.z fnv z.args.s.now z.args.mode (new_row (fold z.args.key.now) x)) (meaning w.result, w.new.s)) y.store_place.ensures w.ensures
 
 pub put_allowed_spec : {M : Type 1} → statement M
 put_allowed_spec =

@@ -2,21 +2,17 @@
 use borrow.Author.Rules.{rules}
 use mathlib.Core.Path.{◌≡◌, sym, ap, ◌∙◌}
 use mathlib.Core.List.{List, ◌++◌}
-use Prim.Native.Nat.{ℕ, ◌+◌, ◌-◌, ◌*◌, ◌≤◌, ◌<◌}
+use Prim.Native.Nat.{ℕ, ◌+◌, ◌-◌, ◌*◌, ◌≤◌}
 use native.Mathlib.Omega.{arith}
 use lib.ListN.{length, take, drop}
-use Rattle.ground.specs.Lists.{byte}
-use Rattle.ground.specs.Ladder.{Answers}
 use Rattle.hash.specs.Fnv.{fnv, fnv_lt}
 use Rattle.page.specs.Packed.{Added}
 use Rattle.partition.specs.Bits.{top}
 use Rattle.partition.specs.declared.Shape.{Shape}
 use Rattle.store.specs.Pages.{size, page, dir_depth, set_page}
-use Rattle.store.specs.Tables.{new, put_accepted}
 use Rattle.store.proofs.Accepted.Unique.{within, page_long}
 use Rattle.store.proofs.Accepted.Reading.{Naming}
 use Rattle.store.proofs.Paging.Views.{page_lent}
-use Rattle.putting.specs.Put.{new_row}
 use Rattle.putting.proofs.Puts.{given_back, home_page, fitted_more, put_fitted}
 use Rattle.putting.proofs.putting.insert_new.Statement.{statement}
 use Rattle.putting.proofs.putting.insert_new.Tie as tie
@@ -38,36 +34,36 @@ module _ (z : tie.Start) where
   inside : p z * size (S z) + size (S z) ≤ length (s z)
   inside = within (S z) (s z) (p z) home.to
 
-add-size : tie.Need-overflow-add-size
+add-size : tie.Need-overflow_add-size
 add-size c = omega (arith, inside c.before.before.before.before.before)
 
-mul-a : tie.Need-overflow-mul-a
+mul-a : tie.Need-overflow_mul-a
 mul-a c = omega (arith, inside c.before.before.before.before.before)
 
-add-e : tie.Need-overflow-add-e
+add-e : tie.Need-overflow_add-e
 add-e c = omega (arith, inside c.before.before.before.before.before)
 
-sub-insert-row : tie.Need-overflow-sub-insert-row
+sub-insert-row : tie.Need-slice_bounds-insert_row-count
 sub-insert-row c = search rules
 
-part-insert-row-start : tie.Need-slice-bounds-insert-row-start
+part-insert-row-start : tie.Need-slice_bounds-insert_row-start
 part-insert-row-start c = search rules
 
-part-insert-row-end : tie.Need-slice-bounds-insert-row-end
+part-insert-row-end : tie.Need-slice_bounds-insert_row-end
 part-insert-row-end c = omega (arith, inside c.before.before.before.before.before)
 
-insert-row-requires : tie.Need-insert-row-requires
+insert-row-requires : tie.Need-insert_row-requires
 insert-row-requires c κs =
-    let z = c.before.before.before.before.before.before.before in
-    (rw (page_lent (S z) (s z) (p z)) z.requires.0.fits, z.requires.1 ∙ sym (ap length (page_lent (S z) (s z) (p z)) ∙ page_long (S z) (s z) (p z) (home z).to))
+    let z = c in
+    (rw (page_lent (S z.before.before.before.before.before.before.before) (s z.before.before.before.before.before.before.before) (p z.before.before.before.before.before.before.before)) z.requires.0.fits, z.requires.1 ∙ sym (ap length (page_lent (S z.before.before.before.before.before.before.before) (s z.before.before.before.before.before.before.before) (p z.before.before.before.before.before.before.before)) ∙ page_long (S z.before.before.before.before.before.before.before) (s z.before.before.before.before.before.before.before) (p z.before.before.before.before.before.before.before) (home z.before.before.before.before.before.before.before).to))
 
 -- the page with the row in
-module _ (w : tie.After-insert-row) where
+module _ (w : tie.After-insert_row) where
   abbrev z1 : tie.Start
   z1 = w.before.before.before.before.before.before.before.before
 
   abbrev q : List ℕ
-  q = w.insert-row.last.0
+  q = w.insert_row.new.page
 
   abbrev key : List ℕ
   key = z1.args.key.now
@@ -78,29 +74,29 @@ module _ (w : tie.After-insert-row) where
   back : take (p z1 * size (S z1)) (s z1) ++ (q ++ drop (p z1 * size (S z1) + size (S z1) - p z1 * size (S z1)) (drop (p z1 * size (S z1)) (s z1))) ≡ set_page (S z1) (s z1) (p z1) q
   back = given_back (S z1) (s z1) (p z1) q
 
-  added : Added (page (S z1) (s z1) (p z1)) z1.args.i key place z1.args.scratch.now q w.insert-row.last.1.1.1.1.0
-  added = rw (page_lent (S z1) (s z1) (p z1)) at w.insert-row.ensures
+  added : Added (page (S z1) (s z1) (p z1)) z1.args.i key place z1.args.scratch.now q w.insert_row.new.scratch
+  added = rw (page_lent (S z1) (s z1) (p z1)) at w.insert_row.ensures
 
 raise-requires : tie.Need-raise-requires
 raise-requires c κs =
-    let w = c.before.before.before.before.before in
-    let z = z1 w in
-    let row = z.pre.0.row.row in
-    rw (back w) (fitted_more (S z) fnv row.sized fnv_lt (s z) row.accepted (key w) (p z) (home z) z.args.i (place w) _ (q w) _ z.pre.0.belongs z.pre.0.fits (added w) row.folded)
+    let w = c in
+    let z = z1 w.before.before.before.before.before in
+    let row = z.requires.0.row.row in
+    rw (back w.before.before.before.before.before) (fitted_more (S z) fnv row.sized fnv_lt (s z) row.accepted (key w.before.before.before.before.before) (p z) (home z) z.args.i (place w.before.before.before.before.before) _ (q w.before.before.before.before.before) _ z.requires.0.fits (added w.before.before.before.before.before) row.folded)
 
-same_length : tie.Need-same-length
+same_length : tie.Need-shape_of-s
 same_length c = search rules
 
-same-length-2 : tie.Need-same-length-2
+same-length-2 : tie.Need-shape_of-scratch
 same-length-2 c = search rules
 
 returns : tie.Need-returns
 returns c =
-    let w = c.before.before.before.before.before.before.before.before in
-    let z = z1 w in
-    let row = z.pre.0.row.row in
-    put_fitted (S z) fnv row.sized fnv_lt (s z) row.accepted (key w) (p z) (home z) z.args.i (place w) _ (q w) _ z.pre.0.belongs z.pre.0.fits (added w) row.folded
-    _ (rw (back w) at c.before.before.raise.ensures) (λ k. (c.slice-known5.given k).fits)
+    let w = c in
+    let z = z1 w.before.before.before.before.before.before.before.before in
+    let row = z.requires.0.row.row in
+    put_fitted (S z) fnv row.sized fnv_lt (s z) row.accepted (key w.before.before.before.before.before.before.before.before) (p z) (home z) z.args.i (place w.before.before.before.before.before.before.before.before) _ (q w.before.before.before.before.before.before.before.before) _ z.requires.0.fits (added w.before.before.before.before.before.before.before.before) row.folded
+    _ (rw (back w.before.before.before.before.before.before.before.before) at c.raise.ensures) (λ k. (c.slice_known-5-1.given k).fits)
 
 pub insert_new_spec : {M : Type 1} → statement M
 insert_new_spec =

@@ -14,44 +14,44 @@ use Rattle.putting.proofs.putting.put_given.Statement.{statement}
 use Rattle.putting.proofs.putting.put_given.Tie as tie
 
 -- the code as it is stored
-stored : (w : tie.After-fold-code) → let key = w.before.before.before.before.before.args.key.now in take (length key - 0) (drop 0 w.fold-code.new.0) ≡ fold key
+stored : (w : tie.After-fold_code) → let key = w.args.key.now in take (length key - 0) (drop 0 w.fold_code.new.dst) ≡ fold key
 stored w =
-    let z = w.before.before.before.before.before in
-    let f = w.fold-code in
-    folded_part _ z.args.key.now f.new.0 f.ensures (omega (arith, f.ensures.old.len, z.requires.good.most))
+    let z = w in
+    let f = w.fold_code in
+    folded_part _ z.args.key.now f.new.dst f.ensures (omega (arith, f.ensures.old.len, z.requires.good.most))
 
-slice-aggregate-fold-code : tie.Need-slice-aggregate-fold-code
+slice-aggregate-fold-code : tie.Need-slice_bounds-fold_code-end
 slice-aggregate-fold-code c = search rules
 
-fold-code-requires : tie.Need-fold-code-requires
-fold-code-requires c κs = c.before.before.before.before.requires.good.most
+fold-code-requires : tie.Need-fold_code-requires
+fold-code-requires c κs = c.requires.good.most
 
-sub-put-row : tie.Need-overflow-sub-put-row
+sub-put-row : tie.Need-slice_bounds-put_row-count
 sub-put-row c = search rules
 
-part-put-row-start : tie.Need-slice-bounds-put-row-start
+part-put-row-start : tie.Need-slice_bounds-put_row-start
 part-put-row-start c = search rules
 
-part-put-row-end : tie.Need-slice-bounds-put-row-end
-part-put-row-end c = omega (arith, c.before.before.before.before.before.before.before.before.requires.good.most)
+part-put-row-end : tie.Need-slice_bounds-put_row-end
+part-put-row-end c = omega (arith, c.requires.good.most)
 
-put-row-requires : tie.Need-put-row-requires
+put-row-requires : tie.Need-put_row-requires
 put-row-requires c κs =
-    let w = c.before.before.before.before in
-    let z = w.before.before.before.before.before in
+    let w = c in
+    let z = w in
     let key = z.args.key.now in
-    subst (λ x. Puttable z.args.z fnv z.args.s.now x z.args.place.now) (sym (stored w))
+    subst (λ x. Puttable z.args.z fnv z.args.s.now x z.args.place.now) (sym (stored w.before.before.before))
     record { sized = z.requires.sized; accepted = z.requires.accepted; good = fold_good key z.requires.good; folded = fold_twice key; natural = z.requires.natural }
 
-same_length : tie.Need-same-length
+same_length : tie.Need-shape_of-s
 same_length c = search rules
 
 returns : tie.Need-returns
 returns c =
-    let r = c.before.before.put-row in
-    let w = c.before.before.before.before.before.before.before in
-    let z = w.before.before.before.before.before in
-    subst (λ x. Answers (put_by_mode z.args.z fnv z.args.s.now z.args.mode (new_row x z.args.place.now)) (meaning r.result, r.new.0)) (stored w) r.ensures
+    let r = c.put_row in
+    let w = c in
+    let z = w in
+    subst (λ x. Answers (put_by_mode z.args.z fnv z.args.s.now z.args.mode (new_row x z.args.place.now)) (meaning r.result, r.new.s)) (stored w.before.before.before.before.before.before) r.ensures
 
 pub put_given_spec : {M : Type 1} → statement M
 put_given_spec =

@@ -20,9 +20,9 @@ use Rattle.putting.proofs.putting.put_row.Statement.{statement}
 use Rattle.putting.proofs.putting.put_row.Tie as tie
 
 -- the entry of the hash
-module _ (b : tie.After-entry-of) where
+module _ (b : tie.After-entry_of-p) where
   abbrev z : tie.Start
-  z = b.before.before.before.before.before.before
+  z = b.before.before.before.before.before
 
   abbrev s : List ℕ
   s = z.args.s.now
@@ -30,57 +30,57 @@ module _ (b : tie.After-entry-of) where
   abbrev key : List ℕ
   key = z.args.key.now
 
-  entry : b.entry-of.result ≡ entry_at z.args.z s (top (dir_depth s) (fnv key))
-  entry = b.entry-of.ensures.0 ∙ ap (λ x. entry_at z.args.z s (top (dir_depth s) x)) b.before.before.hash.ensures
+  entry : b.entry_of-p.result ≡ entry_at z.args.z s (top (dir_depth s) (fnv key))
+  entry = b.entry_of-p.ensures.0 ∙ ap (λ x. entry_at z.args.z s (top (dir_depth s) x)) b.hash-x.ensures
 
   abbrev row : Row
   row = new_row key z.args.place.now
 
   -- an entry of 0: the code is not there
-  unnamed : b.entry-of.result ≡ 0 → place_of (rows_held z.args.z s) key ≡ none
-  unnamed e = let P = z.pre in lookup_none z.args.z fnv P.sized fnv_lt s P.accepted key (sym entry ∙ e)
+  unnamed : b.entry_of-p.result ≡ 0 → place_of (rows_held z.args.z s) key ≡ none
+  unnamed e = let P = z.requires in lookup_none z.args.z fnv P.sized fnv_lt s P.accepted key (sym entry ∙ e)
 
-hash-requires : tie.Need-hash-requires
+hash-requires : tie.Need-hash-x-requires
 hash-requires c κs = search rules
 
-entry-of-requires : tie.Need-entry-of-requires
+entry-of-requires : tie.Need-entry_of-p-requires
 entry-of-requires c κs =
-    let z = c.before.before.before.before.before in
+    let z = c in
     let P = z.requires in
     record { sized = P.sized; long = omega (arith, long_enough z.args.z P.sized z.args.s.now P.accepted); deep = (opened z.args.z fnv z.args.s.now P.accepted).page0.depth }
 
-same_length : tie.Need-same-length
+same_length : tie.Need-shape_of-s-then-mode-eq2
 same_length c = search rules
 
-returns : tie.Need-returns
+returns : tie.Need-returns-then-mode-eq2
 returns c =
-    let b = c.before.before in
-    is_absent (z b).args.z fnv (s b) (z b).args.mode (row b) (unnamed b c.before.if1.true) c.if2.true
+    let b = c in
+    is_absent (z b.before.before).args.z fnv (s b.before.before) (z b.before.before).args.mode (row b.before.before) (unnamed b.before.before c.if-p-eq0.true) c.if-mode-eq2.true
 
-new-bucket-requires : tie.Need-new-bucket-requires
+new-bucket-requires : tie.Need-new_bucket-requires
 new-bucket-requires c κs =
-    let b = c.before.before.before in
-    record { row = (z b).requires; hash = b.before.before.hash.ensures; none = sym b.entry-of.ensures.0 ∙ c.before.before.if1.true }
+    let b = c in
+    record { row = (z b.before.before.before).requires; hash = b.hash-x.ensures; none = sym b.entry_of-p.ensures.0 ∙ c.if-p-eq0.true }
 
-same-length-2 : tie.Need-same-length-2
+same-length-2 : tie.Need-shape_of-s-then-p-eq0
 same-length-2 c = search rules
 
-returns-2 : tie.Need-returns-2
+returns-2 : tie.Need-returns-then-p-eq0
 returns-2 c =
-    let e = c.before.before.before.before in
-    let b = e.before.before in
-    let w = c.before.before.new-bucket in
-    let_new (z b).args.z fnv (s b) (z b).args.mode (row b) (unnamed b e.before.if1.true) e.if2.false (meaning w.result, w.new.0) w.ensures
+    let e = c in
+    let b = e in
+    let w = c.new_bucket in
+    let_new (z b.before.before.before.before.before.before).args.z fnv (s b.before.before.before.before.before.before) (z b.before.before.before.before.before.before).args.mode (row b.before.before.before.before.before.before) (unnamed b.before.before.before.before.before.before e.if-p-eq0.true) e.if-mode-eq2.false (meaning w.result, w.new.s) w.ensures
 
-put-on-requires : tie.Need-put-on-requires
+put-on-requires : tie.Need-put_on-requires
 put-on-requires c κs =
-    let b = c.before.before in
-    record { row = (z b).requires; home = record { names = sym (entry b); some = omega (arith, c.before.if1.false) } }
+    let b = c in
+    record { row = (z b.before.before).requires; home = record { names = sym (entry b.before.before); some = omega (arith, c.if-p-eq0.false) } }
 
-same-length-3 : tie.Need-same-length-3
+same-length-3 : tie.Need-shape_of-s
 same-length-3 c = search rules
 
-returns-3 : tie.Need-returns-3
+returns-3 : tie.Need-returns
 returns-3 c = search rules
 
 pub put_row_spec : {M : Type 1} → statement M

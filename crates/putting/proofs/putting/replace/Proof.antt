@@ -44,57 +44,57 @@ module _ (z : tie.Start) where
   inside : p z * size (S z) + size (S z) ≤ length (s z)
   inside = within (S z) (s z) (p z) home.to
 
-add-size : tie.Need-overflow-add-size
+add-size : tie.Need-overflow_add-size
 add-size c = omega (arith, inside c.before.before.before)
 
-mul-a : tie.Need-overflow-mul-a
+mul-a : tie.Need-overflow_mul-a
 mul-a c = omega (arith, inside c.before.before.before)
 
-add-e : tie.Need-overflow-add-e
+add-e : tie.Need-overflow_add-e
 add-e c = omega (arith, inside c.before.before.before)
 
-sub-read-place : tie.Need-overflow-sub-read-place
+sub-read-place : tie.Need-slice_bounds-read_place-count
 sub-read-place c = search rules
 
-part-read-place-start : tie.Need-slice-bounds-read-place-start
+part-read-place-start : tie.Need-slice_bounds-read_place-start
 part-read-place-start c = search rules
 
-part-read-place-end : tie.Need-slice-bounds-read-place-end
-part-read-place-end c = omega (arith, inside c.before.before.before.before)
+part-read-place-end : tie.Need-slice_bounds-read_place-end
+part-read-place-end c = omega (arith, inside c.before.before.before)
 
-read-place-requires : tie.Need-read-place-requires
-read-place-requires c κs = let z = c.before.before.before.before.before in rw (page_lent (S z) (s z) (p z)) ((home z).bytes.rules.rules, z.requires.slot)
+read-place-requires : tie.Need-read_place-old-requires
+read-place-requires c κs = let z = c in rw (page_lent (S z.before.before.before.before) (s z.before.before.before.before) (p z.before.before.before.before)) ((home z.before.before.before.before).bytes.rules.rules, z.requires.slot)
 
-sub-set-place : tie.Need-overflow-sub-set-place
+sub-set-place : tie.Need-slice_bounds-set_place-count
 sub-set-place c = search rules
 
-part-set-place-start : tie.Need-slice-bounds-set-place-start
+part-set-place-start : tie.Need-slice_bounds-set_place-start
 part-set-place-start c = search rules
 
-part-set-place-end : tie.Need-slice-bounds-set-place-end
-part-set-place-end c = omega (arith, inside c.before.before.before.before.before.before)
+part-set-place-end : tie.Need-slice_bounds-set_place-end
+part-set-place-end c = omega (arith, inside c.before.before.before.before.before)
 
-set-place-requires : tie.Need-set-place-requires
+set-place-requires : tie.Need-set_place-requires
 set-place-requires c κs =
-    let z = c.before.before.before.before.before.before.before in
-    rw (page_lent (S z) (s z) (p z)) (record { page = (home z).bytes.rules.rules; within = z.requires.slot; natural = (row z).row.natural })
+    let z = c in
+    rw (page_lent (S z.before.before.before.before.before.before) (s z.before.before.before.before.before.before) (p z.before.before.before.before.before.before)) (record { page = (home z.before.before.before.before.before.before).bytes.rules.rules; within = z.requires.slot; natural = (row z.before.before.before.before.before.before).row.natural })
 
-same_length : tie.Need-same-length
+same_length : tie.Need-shape_of-s
 same_length c = search rules
 
 returns : tie.Need-returns
 returns c =
-    let z = c.before.before.before.before.before.before.before.before.before.before in
-    let q = c.before.before.set-place.new.0 in
-    let g : List ℕ = page (S z) (s z) (p z) in
-    let back = given_back (S z) (s z) (p z) q in
-    let old = c.before.before.before.before.read-place.ensures ∙ ap (λ g. Places.place_from (place g z.args.i)) (page_lent (S z) (s z) (p z)) in
-    let O : Overwritten g z.args.i z.args.place.now q = rw (page_lent (S z) (s z) (p z)) at c.before.before.set-place.ensures in
+    let z = c in
+    let q = c.set_place.new.page in
+    let g : List ℕ = page (S z.before.before.before.before.before.before.before.before.before) (s z.before.before.before.before.before.before.before.before.before) (p z.before.before.before.before.before.before.before.before.before) in
+    let back = given_back (S z.before.before.before.before.before.before.before.before.before) (s z.before.before.before.before.before.before.before.before.before) (p z.before.before.before.before.before.before.before.before.before) q in
+    let old = c.read_place-old.ensures ∙ ap (λ g. Places.place_from (place g z.args.i)) (page_lent (S z.before.before.before.before.before.before.before.before.before) (s z.before.before.before.before.before.before.before.before.before) (p z.before.before.before.before.before.before.before.before.before)) in
+    let O : Overwritten g z.args.i z.args.place.now q = rw (page_lent (S z.before.before.before.before.before.before.before.before.before) (s z.before.before.before.before.before.before.before.before.before) (p z.before.before.before.before.before.before.before.before.before)) at c.set_place.ensures in
     let new : Row = new_row (code g z.args.i) z.args.place.now in
-    subst (λ t. Answers (put_accepted (S z) fnv (s z) new) (replaced c.before.before.before.before.read-place.result, t)) (sym back)
-    (subst (λ o. Answers (put_accepted (S z) fnv (s z) new) (replaced o, set_page (S z) (s z) (p z) q)) (sym old)
-    (put_known (S z) fnv (row z).row.sized fnv_lt (s z) (row z).row.accepted (code g z.args.i) (p z) (home z) z.args.i z.requires.slot refl z.args.place.now q O
-    (λ k. subst (λ t. byte t k < 256) back (c.slice-known2.given k).fits)))
+    subst (λ t. Answers (put_accepted (S z.before.before.before.before.before.before.before.before.before) fnv (s z.before.before.before.before.before.before.before.before.before) new) (replaced c.read_place-old.result, t)) (sym back)
+    (subst (λ o. Answers (put_accepted (S z.before.before.before.before.before.before.before.before.before) fnv (s z.before.before.before.before.before.before.before.before.before) new) (replaced o, set_page (S z.before.before.before.before.before.before.before.before.before) (s z.before.before.before.before.before.before.before.before.before) (p z.before.before.before.before.before.before.before.before.before) q)) (sym old)
+    (put_known (S z.before.before.before.before.before.before.before.before.before) fnv (row z.before.before.before.before.before.before.before.before.before).row.sized fnv_lt (s z.before.before.before.before.before.before.before.before.before) (row z.before.before.before.before.before.before.before.before.before).row.accepted (code g z.args.i) (p z.before.before.before.before.before.before.before.before.before) (home z.before.before.before.before.before.before.before.before.before) z.args.i z.requires.slot refl z.args.place.now q O
+    (λ k. subst (λ t. byte t k < 256) back (c.slice_known-2-1.given k).fits)))
 
 pub replace_spec : {M : Type 1} → statement M
 replace_spec =

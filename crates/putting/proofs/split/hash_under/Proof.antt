@@ -18,23 +18,23 @@ module _ (z : tie.Start) where
   v = z.args.v
 
   exact : v * 2 ^ (32 - k) % 2 ^ 64 ≡ v * 2 ^ (32 - k)
-  exact = let m : 2 ^ k ≤ 2 ^ 12 = pow_mono z.pre.0 in shl_exact 12 (32 - k) 64 (omega (arith, z.pre.1)) (omega arith)
+  exact = let m : 2 ^ k ≤ 2 ^ 12 = pow_mono z.requires.0 in shl_exact 12 (32 - k) 64 (omega (arith, z.requires.1)) (omega arith)
 
   small : v * 2 ^ (32 - k) < 4294967296
   small =
-      let e : k + (32 - k) ≡ 32 = omega (arith, z.pre.0) in
-      subst (λ n. v * 2 ^ (32 - k) < n) (sym (pow-add 2 k (32 - k)) ∙ ap (λ n. 2 ^ n) e) (mul-lt-mul_of_pos_right z.pre.1 (pow_pos (32 - k)))
+      let e : k + (32 - k) ≡ 32 = omega (arith, z.requires.0) in
+      subst (λ n. v * 2 ^ (32 - k) < n) (sym (pow-add 2 k (32 - k)) ∙ ap (λ n. 2 ^ n) e) (mul-lt-mul_of_pos_right z.requires.1 (pow_pos (32 - k)))
 
-sub-result : tie.Need-overflow-sub-result
+sub-result : tie.Need-overflow_sub-result
 sub-result c = search rules
 
-cast-result : tie.Need-overflow-cast-result
+cast-result : tie.Need-overflow_cast-result
 cast-result c = search rules
 
-shl-result : tie.Need-overflow-shl-result
+shl-result : tie.Need-overflow_shl-result
 shl-result c = search rules
 
-cast-result-2 : tie.Need-overflow-cast-result-2
+cast-result-2 : tie.Need-overflow_cast-result-2
 cast-result-2 c = omega (arith, exact c, small c)
 
 returns : tie.Need-returns

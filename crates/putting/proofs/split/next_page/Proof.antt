@@ -8,25 +8,20 @@ use mathlib.Core.Path.{◌≡◌, sym, subst}
 use Rattle.putting.proofs.split.next_page.Statement.{statement}
 use Rattle.putting.proofs.split.next_page.Tie as tie
 
-lowest-free-requires : tie.Need-lowest-free-requires
-lowest-free-requires c κs = c.before.before.requires.free c.if1.true
+lowest-free-requires : tie.Need-lowest_free-requires
+lowest-free-requires c κs = c.requires.free c.if-at-eq0.true
 
-returns : tie.Need-returns
+returns : tie.Need-returns-then-at-eq0
 returns c =
-    let z = c.before.before.before in
-    let f = c.lowest-free in
-    (subst (λ j. f.result ≡ 2 + taken_next (contents z.args.z z.args.s.now) j) (sym c.before.if1.true) f.ensures.0, f.ensures.1)
+    let z = c in
+    let f = c.lowest_free in
+    (subst (λ j. f.result ≡ 2 + taken_next (contents z.args.z z.args.s.now) j) (sym c.if-at-eq0.true) f.ensures.0, f.ensures.1)
 
-returns-2 : tie.Need-returns-2
+returns-2 : tie.Need-returns
 returns-2 c =
-    let z = c.before.before in
-    let two = z.requires.from (omega (arith, c.if1.false)) in
+    let z = c in
+    let two = z.requires.from (omega (arith, c.if-at-eq0.false)) in
     (omega (arith, first_given (contents z.args.z z.args.s.now) z.args.at two, two), z.requires.to)
 
 pub next_page_spec : {M : Type 1} → statement M
-next_page_spec =
-    tie.close
-    (tie.spec
-    lowest-free-requires
-    returns
-    returns-2)
+next_page_spec = tie.close (tie.spec lowest-free-requires returns returns-2)

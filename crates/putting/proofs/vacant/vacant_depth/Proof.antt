@@ -9,44 +9,44 @@ use mathlib.Core.Path.{◌≡◌, subst}
 use Rattle.putting.proofs.vacant.vacant_depth.Statement.{statement}
 use Rattle.putting.proofs.vacant.vacant_depth.Tie as tie
 
-abbrev invariant_loop : tie.invariant-loop
+abbrev invariant_loop : tie.invariant-loop-k
 invariant_loop s z x d k₀ k = (k ≤ d) × Unset z s d k (top k x)
 
-abbrev decreases_loop : tie.decreases-loop
+abbrev decreases_loop : tie.decreases-loop-k
 decreases_loop s z x d k₀ k = k
 
-loop-holds : tie.Need-loop-init invariant_loop decreases_loop
-loop-holds c = (omega arith, c.before.requires.1)
+loop-holds : tie.Need-loop-k-init invariant_loop decreases_loop
+loop-holds c = (omega arith, c.requires.1)
 
-sub-unset : tie.Need-overflow-sub-unset invariant_loop decreases_loop
+sub-unset : tie.Need-overflow_sub-k invariant_loop decreases_loop
 sub-unset c = omega arith
 
 unset-requires : tie.Need-unset-requires invariant_loop decreases_loop
 unset-requires c κs = omega arith
 
-returns : tie.Need-returns invariant_loop decreases_loop
+returns : tie.Need-returns-then-not-unset invariant_loop decreases_loop
 returns c =
-    let l = c.before.before.before.loop in
-    let a = c.before.before.before.before.before.args in
+    let l = c.loop-k in
+    let a = c.args in
     record {
       low = omega arith;
       unset = l.invariant.1;
       above = λ j e f.
           let q : j ≡ l.k - 1 = omega (arith, e) in
-          says_false c.before.unset.result (not-true _ c.if1.true) c.before.unset.ensures (subst (λ n. Unset a.z a.s.now a.d n (top n a.x)) q f);
+          says_false c.unset.result (not-true _ c.if-not-unset.true-raw) c.unset.ensures (subst (λ n. Unset a.z a.s.now a.d n (top n a.x)) q f);
     }
 
-sub-k : tie.Need-overflow-sub-k invariant_loop decreases_loop
+sub-k : tie.Need-overflow_sub-k-in-loop-k invariant_loop decreases_loop
 sub-k c = omega arith
 
-loop-less : tie.Need-loop-smaller invariant_loop decreases_loop
+loop-less : tie.Need-loop-k-smaller invariant_loop decreases_loop
 loop-less c = omega arith
 
-loop-again : tie.Need-loop-preserved invariant_loop decreases_loop
-loop-again c = (omega arith, says_true c.before.unset.result (not-false _ c.if1.false) c.before.unset.ensures)
+loop-again : tie.Need-loop-k-preserved invariant_loop decreases_loop
+loop-again c = (omega arith, says_true c.unset.result (not-false _ c.if-not-unset.false-raw) c.unset.ensures)
 
-returns-2 : tie.Need-returns-2 invariant_loop decreases_loop
-returns-2 c = record { low = omega arith; unset = c.before.loop.invariant.1; above = λ j e f. omega (arith, e) }
+returns-2 : tie.Need-returns invariant_loop decreases_loop
+returns-2 c = record { low = omega arith; unset = c.loop-k.invariant.1; above = λ j e f. omega (arith, e) }
 
 pub vacant_depth_spec : {M : Type 1} → statement M
 vacant_depth_spec =

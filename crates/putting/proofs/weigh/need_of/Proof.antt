@@ -8,18 +8,18 @@ use borrow.Author.Rules.{rules}
 use Rattle.putting.proofs.weigh.need_of.Statement.{statement}
 use Rattle.putting.proofs.weigh.need_of.Tie as tie
 
-top-bits-requires : tie.Need-top-bits-requires
+top-bits-requires : tie.Need-top_bits-requires
 top-bits-requires c κs = search rules
 
-returns : tie.Need-returns
+returns : tie.Need-returns-then-top_bits-v
 returns c =
-    let a = c.before.before.args in
-    (sym (ap (λ b. pick b a.w 0) (ne_eqb (top a.k a.x) a.v (λ e. c.if1.true (c.before.top-bits.ensures ∙ e)))), omega arith)
+    let a = c.args in
+    (sym (ap (λ b. pick b a.w 0) (ne_eqb (top a.k a.x) a.v (λ e. c.if-top_bits-v.true (c.top_bits.ensures ∙ e)))), omega arith)
 
-returns-2 : tie.Need-returns-2
+returns-2 : tie.Need-returns
 returns-2 c =
-    let a = c.before.before.args in
-    (sym (ap (λ b. pick b a.w 0) (eq-eqb (top a.k a.x) a.v (sym c.before.top-bits.ensures ∙ c.if1.false))), omega arith)
+    let a = c.args in
+    (sym (ap (λ b. pick b a.w 0) (eq-eqb (top a.k a.x) a.v (sym c.top_bits.ensures ∙ c.if-top_bits-v.false))), omega arith)
 
 pub need_of_spec : {M : Type 1} → statement M
 need_of_spec = tie.close (tie.spec top-bits-requires returns returns-2)

@@ -9,35 +9,35 @@ use Rattle.store.specs.Tables.{remove_accepted, meaning}
 use Rattle.removal.proofs.removal.remove_given.Statement.{statement}
 use Rattle.removal.proofs.removal.remove_given.Tie as tie
 
-slice-aggregate-fold-code : tie.Need-slice-aggregate-fold-code
+slice-aggregate-fold-code : tie.Need-slice_bounds-fold_code-end
 slice-aggregate-fold-code c = search rules
 
-fold-code-requires : tie.Need-fold-code-requires
-fold-code-requires c κs = c.before.before.before.requires.good.most
+fold-code-requires : tie.Need-fold_code-requires
+fold-code-requires c κs = c.requires.good.most
 
-sub-remove-row : tie.Need-overflow-sub-remove-row
+sub-remove-row : tie.Need-slice_bounds-remove_row-count
 sub-remove-row c = search rules
 
-part-remove-row-start : tie.Need-slice-bounds-remove-row-start
+part-remove-row-start : tie.Need-slice_bounds-remove_row-start
 part-remove-row-start c = search rules
 
-part-remove-row-end : tie.Need-slice-bounds-remove-row-end
-part-remove-row-end c = omega (arith, c.before.before.before.before.before.before.before.requires.good.most)
+part-remove-row-end : tie.Need-slice_bounds-remove_row-end
+part-remove-row-end c = omega (arith, c.requires.good.most)
 
-remove-row-requires : tie.Need-remove-row-requires
-remove-row-requires c κs = let z = c.before.before.before.before.before.before.before.before in (z.requires.sized, z.requires.accepted)
+remove-row-requires : tie.Need-remove_row-requires
+remove-row-requires c κs = let z = c in (z.requires.sized, z.requires.accepted)
 
-same_length : tie.Need-same-length
+same_length : tie.Need-shape_of-s
 same_length c = search rules
 
 returns : tie.Need-returns
 returns c =
-    let r = c.before.before.remove-row in
-    let w = c.before.before.before.before.before.before.before in
-    let z = w.before.before.before.before in
-    let f = w.fold-code in
-    subst (λ x. Answers (remove_accepted z.args.z fnv z.args.s.now x) (meaning r.result, r.new.0))
-    (folded_part _ z.args.key.now f.new.0 f.ensures (omega (arith, f.ensures.old.len, z.requires.good.most))) r.ensures
+    let r = c.remove_row in
+    let w = c in
+    let z = w in
+    let f = w.fold_code in
+    subst (λ x. Answers (remove_accepted z.args.z fnv z.args.s.now x) (meaning r.result, r.new.s))
+    (folded_part _ z.args.key.now f.new.dst f.ensures (omega (arith, f.ensures.old.len, z.requires.good.most))) r.ensures
 
 pub remove_given_spec : {M : Type 1} → statement M
 remove_given_spec =

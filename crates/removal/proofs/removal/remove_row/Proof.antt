@@ -23,9 +23,9 @@ use Rattle.query.specs.declared.Spot.{Spot}
 use Rattle.query.specs.Spots.{OnPage, StandsAt}
 
 -- where the row stands
-module _ (d : tie.After-p) where
+module _ (d : tie.In-Here) where
   abbrev z : tie.Start
-  z = d.before.before.before.before.before.before.before
+  z = d.before.before.before.before.before
 
   abbrev S : Shape
   S = z.args.z
@@ -37,70 +37,70 @@ module _ (d : tie.After-p) where
   key = z.args.key.now
 
   abbrev p : ℕ
-  p = d.p.given.0.0
+  p = d.in-Here.p
 
   abbrev i : ℕ
-  i = d.p.given.0.1.0
+  i = d.in-Here.i
 
   stands : OnPage S s p i × (code (page S s p) i ≡ key) × (place_of (rows_held S s) key ≡ some (place (page S s p) i))
-  stands = subst (λ (r : Spot). StandsAt S s key r) d.p.given.1 d.before.before.find-row.ensures
+  stands = subst (λ (r : Spot). StandsAt S s key r) d.in-Here.is d.find_row.ensures
 
   leaving : Leaving S fnv s p i key
   leaving =
       let o = stands.0 in
-      record { sized = z.pre.0; accepted = z.pre.1; from = o.from; to = page_below S s p o.within; rules = o.rules; slot = o.slot; coded = stands.1; known = stands.2 }
+      record { sized = z.requires.0; accepted = z.requires.1; from = o.from; to = page_below S s p o.within; rules = o.rules; slot = o.slot; coded = stands.1; known = stands.2 }
 
-hash-requires : tie.Need-hash-requires
+hash-requires : tie.Need-hash-x-requires
 hash-requires c κs = search rules
 
-find-row-requires : tie.Need-find-row-requires
-find-row-requires c κs = let z = c.before.before.before.before in record { sized = z.requires.0; accepted = z.requires.1; hash = c.before.hash.ensures }
+find-row-requires : tie.Need-find_row-requires
+find-row-requires c κs = let z = c in record { sized = z.requires.0; accepted = z.requires.1; hash = c.hash-x.ensures }
 
-enum_told : tie.Need-enum-told
+enum_told : tie.Need-enum_told-1
 enum_told c = search rules
 
-enum-known-p : tie.Need-enum-known-p
+enum-known-p : tie.Need-enum_known-p
 enum-known-p c = search rules
 
-add-size : tie.Need-overflow-add-size
-add-size c = omega (arith, (stands c.before.before).0.within)
+add-size : tie.Need-overflow_add-size
+add-size c = omega (arith, (stands c.before).0.within)
 
-mul-a : tie.Need-overflow-mul-a
-mul-a c = omega (arith, (stands c.before.before).0.within)
+mul-a : tie.Need-overflow_mul-a
+mul-a c = omega (arith, (stands c.before).0.within)
 
-add-e : tie.Need-overflow-add-e
-add-e c = omega (arith, (stands c.before.before).0.within)
+add-e : tie.Need-overflow_add-e
+add-e c = omega (arith, (stands c.before).0.within)
 
-sub-read-place : tie.Need-overflow-sub-read-place
+sub-read-place : tie.Need-slice_bounds-read_place-count
 sub-read-place c = search rules
 
-part-read-place-start : tie.Need-slice-bounds-read-place-start
-part-read-place-start c = omega (arith, (stands c.before.before.before).0.within)
+part-read-place-start : tie.Need-slice_bounds-read_place-start
+part-read-place-start c = omega (arith, (stands c.before).0.within)
 
-part-read-place-end : tie.Need-slice-bounds-read-place-end
-part-read-place-end c = omega (arith, (stands c.before.before.before).0.within)
+part-read-place-end : tie.Need-slice_bounds-read_place-end
+part-read-place-end c = omega (arith, (stands c.before).0.within)
 
-read-place-requires : tie.Need-read-place-requires
-read-place-requires c κs = let d = c.before.before.before.before in rw (page_lent (S d) (s d) (p d)) ((stands d).0.rules.rules, (stands d).0.slot)
+read-place-requires : tie.Need-read_place-old-requires
+read-place-requires c κs = let d = c in rw (page_lent (S d.before.before) (s d.before.before) (p d.before.before)) ((stands d.before.before).0.rules.rules, (stands d.before.before).0.slot)
 
-take-out-requires : tie.Need-take-out-requires
-take-out-requires c κs = let d = c.before.before.before.before.before.before in (leaving d, d.before.before.before.before.hash.ensures)
+take-out-requires : tie.Need-take_out-requires
+take-out-requires c κs = let d = c in (leaving d.before.before.before.before, d.hash-x.ensures)
 
-same_length : tie.Need-same-length
+same_length : tie.Need-shape_of-s-in-Nowhere
 same_length c = search rules
 
-returns : tie.Need-returns
-returns c = let z = c.before.before.before.before.before.before.before in
-    let w = subst (λ (r : Spot). StandsAt z.args.z z.args.s.now z.args.key.now r) c.enum_told.given.1 c.before.before.find-row.ensures in
+returns : tie.Need-returns-in-Nowhere
+returns c = let z = c in
+    let w = subst (λ (r : Spot). StandsAt z.args.z z.args.s.now z.args.key.now r) c.in-Nowhere.is c.find_row.ensures in
     inr ((λ _. none_some w), refl)
 
-same-length-2 : tie.Need-same-length-2
+same-length-2 : tie.Need-shape_of-s-in-Here
 same-length-2 c = search rules
 
-returns-2 : tie.Need-returns-2
-returns-2 c = let d = c.before.before.before.before.before.before.before.before.before in
-    let old = c.before.before.before.before.read-place.ensures ∙ ap (λ g. Places.place_from (place g (i d))) (page_lent (S d) (s d) (p d)) in
-    inl (place (page (S d) (s d) (p d)) (i d), ((stands d).2, (ap found old, c.before.before.take_out.ensures)))
+returns-2 : tie.Need-returns-in-Here
+returns-2 c = let d = c in
+    let old = c.read_place-old.ensures ∙ ap (λ g. Places.place_from (place g (i d.before.before.before.before.before.before.before))) (page_lent (S d.before.before.before.before.before.before.before) (s d.before.before.before.before.before.before.before) (p d.before.before.before.before.before.before.before)) in
+    inl (place (page (S d.before.before.before.before.before.before.before) (s d.before.before.before.before.before.before.before) (p d.before.before.before.before.before.before.before)) (i d.before.before.before.before.before.before.before), ((stands d.before.before.before.before.before.before.before).2, (ap found old, c.take_out.ensures)))
 
 pub remove_row_spec : {M : Type 1} → statement M
 remove_row_spec =

@@ -3,7 +3,7 @@ use borrow.Author.Rules.{rules}
 use Prim.Native.Nat.{ℕ, zero, suc, ◌+◌, ◌*◌, ◌-◌, ◌≤◌, ◌<◌, ◌^◌}
 use mathlib.Core.Path.{◌≡◌, sym, ap, subst, ◌∙◌}
 use native.Mathlib.Omega.{arith}
-use lib.IntN.{ℤ, pos, neg_ℤ, ◌+ℤ◌, ◌-ℤ◌, pos-+ℤ-pos, +ℤ_assoc, +ℤ_idl, -ℤ-+ℤ_cancel}
+use lib.IntN.{pos, neg_ℤ, ◌+ℤ◌, ◌-ℤ◌, pos-+ℤ-pos, +ℤ_assoc, +ℤ_idl, -ℤ-+ℤ_cancel}
 use lib.Signed.{mag}
 use mir.Syntax.{w64}
 use mir.Val.{SFits, to_z, of_z}
@@ -47,28 +47,26 @@ module _ (s k : ℕ) (p : (s ≤ k * 2000000000000) × (k ≤ 5200000)) where
   below : s < base → Lowered s k (to_z w64 (of_z w64 (pos 0 -ℤ to_z w64 (base - s))))
   below l = from_below s base (omega arith) ∙ ap (λ z. (pos 0 -ℤ z) +ℤ pos base) (sym part_is) ∙ ap (λ z. z +ℤ pos base) (sym (to_z-of_z fits))
 
-mul-base : tie.Need-overflow-mul-base
+mul-base : tie.Need-overflow_mul-base
 mul-base c = search rules
 
-cast-result : tie.Need-overflow-cast-result
+cast-result : tie.Need-overflow_cast-result
 cast-result c = search rules
 
-returns : tie.Need-returns
-returns c = let q = c.before in above q.args.sum q.args.k q.requires c.if1.true
+returns : tie.Need-returns-then-base-sum
+returns c = let q = c in above q.args.sum q.args.k q.requires c.if-base-sum.true
 
-sub-result : tie.Need-overflow-sub-result
+sub-result : tie.Need-overflow_sub-result-2
 sub-result c = search rules
 
-cast-result-2 : tie.Need-overflow-cast-result-2
+cast-result-2 : tie.Need-overflow_cast-result-2
 cast-result-2 c = search rules
 
-sub-result-2 : tie.Need-overflow-sub-result-2
-sub-result-2 c = let q = c.before in fits q.args.sum q.args.k q.requires
+sub-result-2 : tie.Need-overflow_sub-result-3
+sub-result-2 c = let q = c in fits q.args.sum q.args.k q.requires
 
-returns-2 : tie.Need-returns-2
-returns-2 c = let q = c.before in below q.args.sum q.args.k q.requires c.if1.false
+returns-2 : tie.Need-returns
+returns-2 c = let q = c in below q.args.sum q.args.k q.requires c.if-base-sum.false
 
 pub lower_spec : {M : Type 1} → statement M
-lower_spec =
-    tie.close
-    (tie.spec mul-base cast-result returns sub-result cast-result-2 sub-result-2 returns-2)
+lower_spec = tie.close (tie.spec mul-base cast-result returns sub-result cast-result-2 sub-result-2 returns-2)

@@ -1,7 +1,7 @@
 -- `report::answer::told` meets its contract. Assumes nothing.
 use borrow.Author.Rules.{rules}
 use Prim.Native.Nat.{ℕ, ◌+◌, ◌-◌, ◌*◌, ◌≤◌, ◌<◌, ◌^◌}
-use mathlib.Core.Path.{◌≡◌, refl, sym, ap, subst, ◌∙◌}
+use mathlib.Core.Path.{◌≡◌, sym, ap, subst, ◌∙◌}
 use mathlib.Core.List.{List, map}
 use native.Mathlib.Omega.{arith}
 use lib.ListN.{length, replicate, length-replicate}
@@ -47,43 +47,43 @@ module _ (t : tie.After-tally) where
   ls = start.args.raised.now
 
   abbrev marks : List ℕ
-  marks = t.tally.last.1.1.1.1.0
+  marks = t.tally.new.counts
 
   abbrev clear : List ℕ
   clear = start.args.counts.now
 
   as_many : length clear ≡ length ps
-  as_many = ap (λ (xs : List ℕ). length xs) start.pre.1 ∙ length-replicate {A = ℕ} (length ps) 0
+  as_many = ap (λ (xs : List ℕ). length xs) start.requires.1 ∙ length-replicate {A = ℕ} (length ps) 0
 
   marked : length marks ≡ length ls
-  marked = t.tally.kept.1.1.1.1.0 ∙ as_many ∙ sym start.pre.0.sheet.paired
+  marked = t.tally.auto.counts ∙ as_many ∙ sym start.requires.0.sheet.paired
 
   none_named : unmarked clear ≡ length ps
-  none_named = ap unmarked start.pre.1 ∙ clear_unmarked (length ps)
+  none_named = ap unmarked start.requires.1 ∙ clear_unmarked (length ps)
 
   all_left : unmarked_sum ls clear ≡ sum_of ls
-  all_left = ap (unmarked_sum ls) (start.pre.1 ∙ ap (λ (n : ℕ). replicate n 0) (sym start.pre.0.sheet.paired)) ∙ clear_sum ls
+  all_left = ap (unmarked_sum ls) (start.requires.1 ∙ ap (λ (n : ℕ). replicate n 0) (sym start.requires.0.sheet.paired)) ∙ clear_sum ls
 
   none_doubled : remarked clear ≡ 0
-  none_doubled = ap remarked start.pre.1 ∙ clear_remarked (length ps)
+  none_doubled = ap remarked start.requires.1 ∙ clear_remarked (length ps)
 
 -- a whole tally
-module _ (b : tie.After-t) where
+module _ (b : tie.In-Whole) where
   abbrev t : tie.After-tally
-  t = b.before.before.before.before
+  t = b.before.before.before
 
   abbrev x : Counted
-  x = b.t.given.0.0
+  x = b.in-Whole.t
 
   whole : WholeTally (ps t) (ls t) (rows t) (clear t) x (marks t)
-  whole = subst (λ e. Ends (ps t) (ls t) (rows t) (clear t) e (marks t)) b.t.given.1 t.tally.ensures
+  whole = subst (λ e. Ends (ps t) (ls t) (rows t) (clear t) e (marks t)) b.in-Whole.is t.tally.ensures
 
   sum_le : x.sum ≤ x.codes * 2000000000000
   sum_le = subst (λ (r : ℕ × (ℕ × List ℕ)). r.1.0 ≤ r.0 * 2000000000000) (sym whole.all)
-      (tallied_le (ps t) (ls t) (start t).pre.0.sheet.sound.amounts (start t).pre.0.sheet.paired (map rank_on (rows t)) 0 0 (clear t) (omega arith))
+      (tallied_le (ps t) (ls t) (start t).requires.0.sheet.sound.amounts (start t).requires.0.sheet.paired (map rank_on (rows t)) 0 0 (clear t) (omega arith))
 
   codes_le : x.codes ≤ 5200000
-  codes_le = omega (arith, whole.codes, few (S t) (start t).pre.0.sized (store t) (start t).pre.0.accepted)
+  codes_le = omega (arith, whole.codes, few (S t) (start t).requires.0.sized (store t) (start t).requires.0.accepted)
 
   -- what is left of the sheet
   left : unmarked (marks t) + x.named ≡ length (ps t)
@@ -102,60 +102,60 @@ module _ (b : tie.After-t) where
   rest_is n e = omega (arith, left_sum, e)
 
 tally-requires : tie.Need-tally-requires
-tally-requires c κs = let s = c.before.before.before.before.before in
+tally-requires c κs = let s = c in
     (s.requires.0, ap (λ (xs : List ℕ). length xs) s.requires.1 ∙ length-replicate {A = ℕ} (length s.args.ranks.now) 0)
 
-enum-known-p : tie.Need-enum-known-p
+enum-known-p : tie.Need-enum_known-p
 enum-known-p c = search rules
 
-enum-known-t : tie.Need-enum-known-t
+enum-known-t : tie.Need-enum_known-t
 enum-known-t c = search rules
 
-sub-hidden : tie.Need-overflow-sub-hidden
-sub-hidden c = omega (arith, left c.before)
+sub-hidden : tie.Need-overflow_sub-hidden
+sub-hidden c = omega (arith, left c)
 
-add-up-requires : tie.Need-add-up-requires
+add-up-requires : tie.Need-add_up-requires
 add-up-requires c κs = search rules
 
-sub-rest : tie.Need-overflow-sub-rest
-sub-rest c = omega (arith, left_sum c.before.before, c.add-up.ensures)
+sub-rest : tie.Need-overflow_sub-rest
+sub-rest c = omega (arith, left_sum c.before, c.add_up.ensures)
 
-lower-requires : tie.Need-lower-requires
-lower-requires c κs = let b = c.before.before in (sum_le b, codes_le b)
+lower-requires : tie.Need-lower-total-requires
+lower-requires c κs = let b = c in (sum_le b.before, codes_le b.before)
 
-lower-requires-2 : tie.Need-lower-requires-2
-lower-requires-2 c κs = let b = c.before.before.before in
-    let u = t b in
-    let l = unmarked_le (ls u) (marks u) (start u).pre.0.sheet.sound.amounts in (
-      omega (arith, hidden_is b, rest_is b c.before.add-up.result c.before.add-up.ensures, l),
-      omega (arith, hidden_is b, unmarked_most (marks u), marked u, (start u).pre.0.sheet.paired, (start u).pre.0.sheet.most),
+lower-requires-2 : tie.Need-lower-cents-requires
+lower-requires-2 c κs = let b = c in
+    let u = t b.before.before in
+    let l = unmarked_le (ls u) (marks u) (start u).requires.0.sheet.sound.amounts in (
+      omega (arith, hidden_is b.before.before, rest_is b.before.before c.add_up.result c.add_up.ensures, l),
+      omega (arith, hidden_is b.before.before, unmarked_most (marks u), marked u, (start u).requires.0.sheet.paired, (start u).requires.0.sheet.most),
     )
 
-same_length : tie.Need-same-length
+same_length : tie.Need-shape_of-counts-in-Missing
 same_length c = search rules
 
-returns : tie.Need-returns
-returns c = let b = c.before in let t = b.before.before.before.before in
-    subst (λ e. Ends (ps t) (ls t) (rows t) (clear t) e (marks t)) b.p.given.1 t.tally.ensures
+returns : tie.Need-returns-in-Missing
+returns c = let b = c in let t = b in
+    subst (λ e. Ends (ps t.before.before.before) (ls t.before.before.before) (rows t.before.before.before) (clear t.before.before.before) e (marks t.before.before.before)) b.in-Missing.is t.tally.ensures
 
-same-length-2 : tie.Need-same-length-2
+same-length-2 : tie.Need-shape_of-counts-in-Whole
 same-length-2 c = search rules
 
-returns-2 : tie.Need-returns-2
-returns-2 c = let b = c.before.before.before.before in
-    let w = x b in
-    let all : ℕ = c.before.before.add-up.result in
-    let y : ℤ = c.before.lower.result in
-    let z : ℤ = c.lower2.result in
+returns-2 : tie.Need-returns-in-Whole
+returns-2 c = let b = c in
+    let w = x b.before.before.before in
+    let all : ℕ = c.add_up.result in
+    let y : ℤ = c.lower-total.result in
+    let z : ℤ = c.lower-cents.result in
     record {
       sum = w.sum;
-      marks = marks (t b);
-      all = ap (λ n. (n, (w.sum, marks (t b)))) (sym (whole b).codes) ∙ (whole b).all;
-      total = subst (λ n. Lowered w.sum n (to_z w64 (of_z w64 y))) (whole b).codes (lowered_back w.sum w.codes y c.before.lower.type-inv c.before.lower.ensures);
-      hidden = hidden_is b;
-      cents = subst (λ n. Lowered (unmarked_sum (ls (t b)) (marks (t b))) n (to_z w64 (of_z w64 z))) (hidden_is b)
-          (subst (λ n. Lowered n (length (ps (t b)) - w.named) (to_z w64 (of_z w64 z))) (rest_is b all c.before.before.add-up.ensures) (lowered_back (all - w.once) (length (ps (t b)) - w.named) z c.lower2.type-inv c.lower2.ensures));
-      doubled = doubled_is b;
+      marks = marks (t b.before.before.before);
+      all = ap (λ n. (n, (w.sum, marks (t b.before.before.before)))) (sym (whole b.before.before.before).codes) ∙ (whole b.before.before.before).all;
+      total = subst (λ n. Lowered w.sum n (to_z w64 (of_z w64 y))) (whole b.before.before.before).codes (lowered_back w.sum w.codes y c.lower-total.type_inv c.lower-total.ensures);
+      hidden = hidden_is b.before.before.before;
+      cents = subst (λ n. Lowered (unmarked_sum (ls (t b.before.before.before)) (marks (t b.before.before.before))) n (to_z w64 (of_z w64 z))) (hidden_is b.before.before.before)
+          (subst (λ n. Lowered n (length (ps (t b.before.before.before)) - w.named) (to_z w64 (of_z w64 z))) (rest_is b.before.before.before all c.add_up.ensures) (lowered_back (all - w.once) (length (ps (t b.before.before.before)) - w.named) z c.lower-cents.type_inv c.lower-cents.ensures));
+      doubled = doubled_is b.before.before.before;
     }
 
 pub told_spec : {M : Type 1} → statement M

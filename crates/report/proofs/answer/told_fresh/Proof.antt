@@ -12,18 +12,18 @@ use Rattle.report.proofs.Tells.{prefix_le, prefix_length, take_replicate}
 use Rattle.report.proofs.answer.told_fresh.Statement.{statement}
 use Rattle.report.proofs.answer.told_fresh.Tie as tie
 
-array-borrow-prefix-counts : tie.Need-array-borrow-prefix-counts
-array-borrow-prefix-counts c = let s = c.before.before.before in prefix_le (length s.args.ranks.now) limit s.requires.sheet.most
+array-borrow-prefix-counts : tie.Need-slice_bounds-counts-end
+array-borrow-prefix-counts c = let s = c in prefix_le (length s.args.ranks.now) limit s.requires.sheet.most
 
-slice-aggregate-told : tie.Need-slice-aggregate-told
-slice-aggregate-told c = let s = c.before.before.before.before in sym (prefix_length (length s.args.ranks.now) limit s.requires.sheet.most)
+slice-aggregate-told : tie.Need-slice_bounds-told-end
+slice-aggregate-told c = let s = c in sym (prefix_length (length s.args.ranks.now) limit s.requires.sheet.most)
 
 told-requires : tie.Need-told-requires
-told-requires c κs = let s = c.before.before.before.before in (s.requires, take_replicate (length s.args.ranks.now) limit 0 s.requires.sheet.most)
+told-requires c κs = let s = c in (s.requires, take_replicate (length s.args.ranks.now) limit 0 s.requires.sheet.most)
 
 returns : tie.Need-returns
-returns c = let s = c.before.before.before.before.before.before in
-    subst (λ (cs : List ℕ). ToldBy s.args.ranks.now s.args.raised.now (listing s.args.z fnv (rows_held s.args.z s.args.s.now)) cs (reported c.before.told.result)) (take_replicate (length s.args.ranks.now) limit 0 s.requires.sheet.most) c.before.told.ensures
+returns c = let s = c in
+    subst (λ (cs : List ℕ). ToldBy s.args.ranks.now s.args.raised.now (listing s.args.z fnv (rows_held s.args.z s.args.s.now)) cs (reported c.told.result)) (take_replicate (length s.args.ranks.now) limit 0 s.requires.sheet.most) c.told.ensures
 
 pub told_fresh_spec : {M : Type 1} → statement M
 told_fresh_spec = tie.close (tie.spec array-borrow-prefix-counts slice-aggregate-told told-requires returns)

@@ -12,24 +12,24 @@ use borrow.Author.Rules.{rules}
 use Rattle.report.proofs.named.mark_rows.Statement.{statement}
 use Rattle.report.proofs.named.mark_rows.Tie as tie
 
-add-e : tie.Need-overflow-add-e
+add-e : tie.Need-overflow_add-e
 add-e c = search rules
 
-slice-aggregate-tally : tie.Need-slice-aggregate-tally
-slice-aggregate-tally c = let s = c.before.before.before.before in sym (ranks_length s.args.flat.now (length s.args.counts.now) s.requires.laid.room s.requires.laid.most)
+slice-aggregate-tally : tie.Need-slice_bounds-tally-end
+slice-aggregate-tally c = let s = c in sym (ranks_length s.args.flat.now (length s.args.counts.now) s.requires.laid.room s.requires.laid.most)
 
-sub-tally : tie.Need-overflow-sub-tally
+sub-tally : tie.Need-slice_bounds-tally-count
 sub-tally c = search rules
 
-part-tally-start : tie.Need-slice-bounds-tally-start
+part-tally-start : tie.Need-slice_bounds-tally-start
 part-tally-start c = search rules
 
-part-tally-end : tie.Need-slice-bounds-tally-end
+part-tally-end : tie.Need-slice_bounds-tally-end
 part-tally-end c = search rules
 
 tally-requires : tie.Need-tally-requires
 tally-requires c κs =
-    let s = c.before.before.before.before.before.before in
+    let s = c in
     let fl = s.args.flat.now in
     let n = length s.args.counts.now in
     let w = s.requires.laid in (
@@ -37,16 +37,19 @@ tally-requires c κs =
       sym (ranks_length fl n w.room w.most),
     )
 
-same_length : tie.Need-same-length
+same_length : tie.Need-shape_of-counts
 same_length c = search rules
 
 returns : tie.Need-returns
 returns c =
-    let s = c.before.before.before.before.before.before.before.before.before in
+    let s = c in
     let fl = s.args.flat.now in
     let n = length s.args.counts.now in
-    let t = c.before.before.tally in
-    subst (λ (q : List ℕ). Ends (ranks_of fl n) q (listing s.args.z fnv (rows_held s.args.z s.args.s.now)) s.args.counts.now t.result t.new.1.1.1.1.0) (raised_is fl n s.requires.laid.room s.requires.laid.most) t.ensures
+    let t = c.tally in
+    subst (λ (q : List ℕ). Ends (ranks_of fl n) q (listing s.args.z fnv (rows_held s.args.z s.args.s.now)) s.args.counts.now t.result t.new.counts) (raised_is fl n s.requires.laid.room s.requires.laid.most) t.ensures
+
+slice_bounds-tally-end-2 : tie.Need-slice_bounds-tally-end-2
+slice_bounds-tally-end-2 c = search rules
 
 pub mark_rows_spec : {M : Type 1} → statement M
 mark_rows_spec =
@@ -56,7 +59,7 @@ mark_rows_spec =
     slice-aggregate-tally
     sub-tally
     part-tally-start
-    part-tally-end
+    slice_bounds-tally-end-2
     tally-requires
     same_length
     returns)

@@ -1,5 +1,4 @@
 -- `report::raise_of` meets its contract. Assumes nothing.
-use Prim.Native.Nat.{◌<◌, ◌^◌}
 use native.Mathlib.Omega.{arith}
 use mir.Syntax.{w64}
 use mir.Val.{SFits}
@@ -12,24 +11,24 @@ use Rattle.report.proofs.rows.raise_of.Tie as tie
 sum_fits : (z : ℤ) → Raised z → SFits w64 (z +ℤ pos 1000000000000)
 sum_fits z r = record { sfits = omega (arith, r.mag_small) }
 
-add-result : tie.Need-overflow-add-result
-add-result c = rw (to_z-of_z c.before.before.ranges.c) (sum_fits c.before.before.args.c (raised c.before.before.args.c (rw (to_z-of_z c.before.before.ranges.c) at c.before.if1.true) (rw (to_z-of_z c.before.before.ranges.c) at c.if2.true)))
+add-result : tie.Need-overflow_add-result
+add-result c = rw (to_z-of_z c.ranges.c) (sum_fits c.args.c (raised c.args.c (rw (to_z-of_z c.ranges.c) at c.if-c-geminus1000000000000.true) (rw (to_z-of_z c.ranges.c) at c.if-c-le1000000000000.true)))
 
-cast-result : tie.Need-overflow-cast-result
+cast-result : tie.Need-overflow_cast-result
 cast-result c =
-    let r = raised c.before.before.args.c (rw (to_z-of_z c.before.before.ranges.c) at c.before.if1.true) (rw (to_z-of_z c.before.before.ranges.c) at c.if2.true) in
-    rw (to_z-of_z c.before.before.ranges.c, to_z-of_z (sum_fits c.before.before.args.c r)) (r.ok, Fits-nat_abs tt (sum_fits c.before.before.args.c r))
+    let r = raised c.args.c (rw (to_z-of_z c.ranges.c) at c.if-c-geminus1000000000000.true) (rw (to_z-of_z c.ranges.c) at c.if-c-le1000000000000.true) in
+    rw (to_z-of_z c.ranges.c, to_z-of_z (sum_fits c.args.c r)) (r.ok, Fits-nat_abs tt (sum_fits c.args.c r))
 
-returns : tie.Need-returns
+returns : tie.Need-returns-then-c-le1000000000000
 returns c =
-    let r = raised c.before.before.args.c (rw (to_z-of_z c.before.before.ranges.c) at c.before.if1.true) (rw (to_z-of_z c.before.before.ranges.c) at c.if2.true) in
-    rw (to_z-of_z c.before.before.ranges.c, to_z-of_z (sum_fits c.before.before.args.c r)) r.is
+    let r = raised c.args.c (rw (to_z-of_z c.ranges.c) at c.if-c-geminus1000000000000.true) (rw (to_z-of_z c.ranges.c) at c.if-c-le1000000000000.true) in
+    rw (to_z-of_z c.ranges.c, to_z-of_z (sum_fits c.args.c r)) r.is
 
-returns-2 : tie.Need-returns-2
-returns-2 c = raise_high c.before.before.args.c (rw (to_z-of_z c.before.before.ranges.c) at c.if2.false)
+returns-2 : tie.Need-returns-else-c-le1000000000000
+returns-2 c = raise_high c.args.c (rw (to_z-of_z c.ranges.c) at c.if-c-le1000000000000.false)
 
-returns-3 : tie.Need-returns-3
-returns-3 c = raise_low c.before.args.c (rw (to_z-of_z c.before.ranges.c) at c.if1.false)
+returns-3 : tie.Need-returns-else-c-geminus1000000000000
+returns-3 c = raise_low c.args.c (rw (to_z-of_z c.ranges.c) at c.if-c-geminus1000000000000.false)
 
 pub raise_of_spec : {M : Type 1} → statement M
 raise_of_spec = tie.close (tie.spec add-result cast-result returns returns-2 returns-3)

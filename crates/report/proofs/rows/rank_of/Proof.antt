@@ -8,20 +8,20 @@ use Rattle.report.specs.Numbers.{nat_part, ranked}
 use Rattle.report.proofs.rows.rank_of.Statement.{statement}
 use Rattle.report.proofs.rows.rank_of.Tie as tie
 
-rank-parts-requires : tie.Need-rank-parts-requires
+rank-parts-requires : tie.Need-rank_parts-requires
 rank-parts-requires c κs = search rules
 
 returns : tie.Need-returns
 returns c =
-    let g = c.before in
-    let p = c.before.before.before.before.args.p in
-    let h : SFits w32 p.page = record { sfits = g.before.before.struct_told.given.0.1 } in
-    let k : SFits w16 p.slot = record { sfits = g.before.struct-told2.given.1.0.1 } in
-    let l : SFits w16 p.volume = record { sfits = g.struct-told3.given.1.1.0.1 } in
+    let g = c in
+    let p = c.args.p in
+    let h : SFits w32 p.page = record { sfits = g.struct_told-1.given.0.1 } in
+    let k : SFits w16 p.slot = record { sfits = g.struct_told-2-1.given.1.0.1 } in
+    let l : SFits w16 p.volume = record { sfits = g.struct_told-3-1.given.1.1.0.1 } in
     let x : to_z w32 (of_z w32 p.page) ≡ p.page = to_z-of_z h in
     let y : to_z w16 (of_z w16 p.slot) ≡ p.slot = to_z-of_z k in
     let z : to_z w16 (of_z w16 p.volume) ≡ p.volume = to_z-of_z l in
-    c.rank-parts.ensures ∙ (λ i. ranked (nat_part (x i)) (nat_part (y i)) (nat_part (z i)))
+    c.rank_parts.ensures ∙ (λ i. ranked (nat_part (x i)) (nat_part (y i)) (nat_part (z i)))
 
 pub rank_of_spec : {M : Type 1} → statement M
 rank_of_spec = tie.close (tie.spec rank-parts-requires returns)

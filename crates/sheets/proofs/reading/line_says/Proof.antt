@@ -7,14 +7,14 @@ use borrow.Author.Rules.{rules}
 use Rattle.sheets.proofs.reading.line_says.Statement.{statement}
 use Rattle.sheets.proofs.reading.line_says.Tie as tie
 
-returns : tie.Need-returns
-returns c = let s = c.before.before in subst (λ (t : Bool). HeldSays t s.args.held.now Other) (sym c.if1.true) refl
+returns : tie.Need-returns-then-over
+returns c = let s = c in subst (λ (t : Bool). HeldSays t s.args.held.now Other) (sym c.if-over.true) refl
 
-sheet-line-requires : tie.Need-sheet-line-requires
+sheet-line-requires : tie.Need-sheet_line-requires
 sheet-line-requires c κs = search rules
 
-returns-2 : tie.Need-returns-2
-returns-2 c = let s = c.before.before.before in subst (λ (t : Bool). HeldSays t s.args.held.now c.sheet-line.result) (sym c.before.if1.false) c.sheet-line.ensures
+returns-2 : tie.Need-returns
+returns-2 c = let s = c in subst (λ (t : Bool). HeldSays t s.args.held.now c.sheet_line.result) (sym c.if-over.false) c.sheet_line.ensures
 
 pub line_says_spec : {M : Type 1} → statement M
 line_says_spec = tie.close (tie.spec returns sheet-line-requires returns-2)

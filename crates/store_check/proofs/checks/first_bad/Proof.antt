@@ -19,7 +19,7 @@ use Rattle.store_check.proofs.checks.first_bad.Statement.{statement}
 use Rattle.store_check.proofs.checks.first_bad.Tie as tie
 
 -- what is given, and what the rules before the counts say
-module _ (c : tie.After-judge-sized) where
+module _ (c : tie.After-judge_sized-bad) where
   abbrev start : tie.Start
   start = c.before.before.before
 
@@ -30,42 +30,40 @@ module _ (c : tie.After-judge-sized) where
   s = start.args.s.now
 
   sized : Sized S
-  sized = said_sized s S start.pre.0
+  sized = said_sized s S start.requires.0
 
-  judged : JudgedFrom 80 S fnv s c.judge-sized.result
-  judged = c.judge-sized.ensures
+  judged : JudgedFrom 80 S fnv s c.judge_sized-bad.result
+  judged = c.judge_sized-bad.ensures
 
-add-n : tie.Need-overflow-add-n
-add-n c = let a = c.before.before in omega (arith, (said_sized a.args.s.now a.args.z a.requires.0).most)
+add-n : tie.Need-overflow_add-n
+add-n c = let a = c in omega (arith, (said_sized a.args.s.now a.args.z a.requires.0).most)
 
-div-n : tie.Need-nonzero-div-n
+div-n : tie.Need-nonzero_div-n
 div-n c = search rules
 
-judge-sized-requires : tie.Need-judge-sized-requires
+judge-sized-requires : tie.Need-judge_sized-bad-requires
 judge-sized-requires c κs = search rules
 
-returns : tie.Need-returns
-returns c = let j = c.before in bad_before (S j) fnv (s j) (start j).requires.1 j.judge-sized.result (judged j) c.if1.true
+returns : tie.Need-returns-then-bad-n
+returns c = let j = c in bad_before (S j.before) fnv (s j.before) (start j.before).requires.1 j.judge_sized-bad.result (judged j.before) c.if-bad-n.true
 
-counts-ok-requires : tie.Need-counts-ok-requires
+counts-ok-requires : tie.Need-counts_ok-requires
 counts-ok-requires c κs =
-    let j = c.before in
-    let e = (judged j).sound c.if1.false in
-    standing 80 (S j) (sized j) (s j) (start j).requires.1 e.0 (all_stand (S j) fnv (s j) (Page0From 80 (S j) (s j)) e)
+    let j = c in
+    let e = (judged j.before).sound c.if-bad-n.false in
+    standing 80 (S j.before) (sized j.before) (s j.before) (start j.before).requires.1 e.0 (all_stand (S j.before) fnv (s j.before) (Page0From 80 (S j.before) (s j.before)) e)
 
-returns-2 : tie.Need-returns-2
+returns-2 : tie.Need-returns-then-not-counts_ok
 returns-2 c =
-    let e = c.before.before in
-    let j = e.before in
-    bad_counts (S j) fnv (s j) (start j).requires.1 j.judge-sized.result (judged j) e.if1.false (says_false {P = Counts (S j) (s j)} c.before.counts-ok.result (not-true _ c.if2.true) c.before.counts-ok.ensures)
+    let e = c in
+    let j = e in
+    bad_counts (S j.before.before.before) fnv (s j.before.before.before) (start j.before.before.before).requires.1 j.judge_sized-bad.result (judged j.before.before.before) e.if-bad-n.false (says_false {P = Counts (S j.before.before.before) (s j.before.before.before)} c.counts_ok.result (not-true _ c.if-not-counts_ok.true-raw) c.counts_ok.ensures)
 
-returns-3 : tie.Need-returns-3
+returns-3 : tie.Need-returns
 returns-3 c =
-    let e = c.before.before in
-    let j = e.before in
-    all_counted (S j) fnv (s j) (start j).requires.1 j.judge-sized.result (judged j) e.if1.false (says_true {P = Counts (S j) (s j)} c.before.counts-ok.result (not-false _ c.if2.false) c.before.counts-ok.ensures)
+    let e = c in
+    let j = e in
+    all_counted (S j.before.before.before) fnv (s j.before.before.before) (start j.before.before.before).requires.1 j.judge_sized-bad.result (judged j.before.before.before) e.if-bad-n.false (says_true {P = Counts (S j.before.before.before) (s j.before.before.before)} c.counts_ok.result (not-false _ c.if-not-counts_ok.false-raw) c.counts_ok.ensures)
 
 pub first_bad_spec : {M : Type 1} → statement M
-first_bad_spec =
-    tie.close
-    (tie.spec add-n div-n judge-sized-requires returns counts-ok-requires returns-2 returns-3)
+first_bad_spec = tie.close (tie.spec add-n div-n judge-sized-requires returns counts-ok-requires returns-2 returns-3)

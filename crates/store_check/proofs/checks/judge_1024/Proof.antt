@@ -7,23 +7,23 @@ use Rattle.store_check.proofs.Said.{fresh}
 use Rattle.store_check.proofs.checks.judge_1024.Statement.{statement}
 use Rattle.store_check.proofs.checks.judge_1024.Tie as tie
 
-slice-aggregate-judge : tie.Need-slice-aggregate-judge
+slice-aggregate-judge : tie.Need-slice_bounds-judge-end
 slice-aggregate-judge c = search rules
 
-slice-aggregate-judge-2 : tie.Need-slice-aggregate-judge-2
+slice-aggregate-judge-2 : tie.Need-slice_bounds-judge-end-2
 slice-aggregate-judge-2 c = search rules
 
-slice-aggregate-judge-3 : tie.Need-slice-aggregate-judge-3
+slice-aggregate-judge-3 : tie.Need-slice_bounds-judge-end-3
 slice-aggregate-judge-3 c = search rules
 
-slice-aggregate-judge-4 : tie.Need-slice-aggregate-judge-4
+slice-aggregate-judge-4 : tie.Need-slice_bounds-judge-end-4
 slice-aggregate-judge-4 c = search rules
 
-slice-aggregate-judge-5 : tie.Need-slice-aggregate-judge-5
+slice-aggregate-judge-5 : tie.Need-slice_bounds-judge-end-5
 slice-aggregate-judge-5 c = search rules
 
 judge-requires : tie.Need-judge-requires
-judge-requires c κs = fresh S1024 _ _ _ sized_1024 refl c.before.before.before.before.before.before.requires
+judge-requires c κs = fresh S1024 _ _ _ sized_1024 refl c.requires
 
 returns : tie.Need-returns
 returns c = search rules

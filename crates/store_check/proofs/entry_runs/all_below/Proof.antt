@@ -7,32 +7,32 @@ use Rattle.store_check.proofs.Runs.{Tested, tested_none, tested_more, tested_all
 use Rattle.store_check.proofs.entry_runs.all_below.Statement.{statement}
 use Rattle.store_check.proofs.entry_runs.all_below.Tie as tie
 
-abbrev invariant_loop : tie.invariant-loop
+abbrev invariant_loop : tie.invariant-loop-i
 invariant_loop dir a b n ok₀ i₀ ok i = Tested (λ k. get_or dir k 0 < n) a b ok i
 
-abbrev decreases_loop : tie.decreases-loop
+abbrev decreases_loop : tie.decreases-loop-i
 decreases_loop dir a b n ok₀ i₀ ok i = b - i
 
-loop-holds : tie.Need-loop-init invariant_loop decreases_loop
+loop-holds : tie.Need-loop-i-init invariant_loop decreases_loop
 loop-holds c = tested_none _ _ _ c.requires.0
 
-mul-if1 : tie.Need-overflow-mul-if1 invariant_loop decreases_loop
+mul-if1 : tie.Need-offset_bounds-dir-i invariant_loop decreases_loop
 mul-if1 c = omega arith
 
-shared-slice-read-if1 : tie.Need-shared-slice-read-if1 invariant_loop decreases_loop
+shared-slice-read-if1 : tie.Need-bounds-dir-i invariant_loop decreases_loop
 shared-slice-read-if1 c = omega arith
 
-add-i : tie.Need-overflow-add-i invariant_loop decreases_loop
+add-i : tie.Need-overflow_add-i invariant_loop decreases_loop
 add-i c = omega arith
 
-loop-less : tie.Need-loop-smaller invariant_loop decreases_loop
+loop-less : tie.Need-loop-i-smaller invariant_loop decreases_loop
 loop-less c = omega arith
 
-loop-again : tie.Need-loop-preserved invariant_loop decreases_loop
-loop-again c = tested_more c.before.before.before.loop.invariant c.before.before.loop-test.true (⊎_elim (λ w. inl ((λ l. omega (arith, w.0.taken)), w.1)) (λ w. inr (w.0.left, w.1)) c.if1.branch)
+loop-again : tie.Need-loop-i-preserved invariant_loop decreases_loop
+loop-again c = tested_more c.loop-i.invariant c.loop-i-test.true (⊎_elim (λ w. inl ((λ l. omega (arith, w.if-n-dir.true)), w.ok-is)) (λ w. inr (w.if-n-dir.false, w.ok-is)) c.if-n-dir.branch-raw)
 
 returns : tie.Need-returns invariant_loop decreases_loop
-returns c = tested_all c.before.loop.invariant c.loop-test.false
+returns c = tested_all c.loop-i.invariant c.loop-i-test.false
 
 pub all_below_spec : {M : Type 1} → statement M
 all_below_spec =
