@@ -1,5 +1,5 @@
 -- The bits of a part as the machine reads them. Assumes nothing.
-use mathlib.Core.Path.{◌≡◌, refl, sym, ap, subst, ◌∙◌}
+use mathlib.Core.Path.{◌≡◌, refl, ap, subst, ◌∙◌}
 use mathlib.Core.Bool.{Bool, true, false}
 use Prim.Native.Nat.{ℕ, suc, ◌<◌, ◌-◌, ◌/◌, ◌%◌, ◌^◌}
 use lib.Dec.{ltb}
@@ -7,8 +7,8 @@ use native.Mathlib.Omega.{arith}
 use lib.IntN.{ℤ, pos, negsuc}
 use lib.Signed.{mag}
 use mir.Syntax.{Width, w16, w32}
-use mir.Val.{Fits, to_z, of_z, sel, bits, hbits}
-use mir.Facts.{to_z-of_z, sfits_to_z}
+use mir.Val.{Fits, to_z, sel, bits, hbits}
+use mir.Facts.{sfits_to_z}
 use Rattle.page.specs.Places.{InRange}
 use Rattle.store.specs.Moves.{pick}
 use Rattle.batch.specs.PlaceWords.{signed_bits, word_place}
@@ -20,12 +20,6 @@ same_choice false x y = refl
 -- a width's bits below the sign, and the sign
 pub read_signed : (w : Width) (x : ℕ) → bits w ≡ suc (hbits w) → to_z w x ≡ signed_bits (hbits w) x
 read_signed w x e = same_choice (ltb x (2 ^ hbits w)) (pos x) (negsuc (2 ^ bits w - suc x)) ∙ ap (λ k. pick (ltb x (2 ^ hbits w)) (pos x) (negsuc (2 ^ k - suc x))) e
-
--- a part that was handed on
-pub kept_signed : (w : Width) (z : ℤ) (x : ℕ) → bits w ≡ suc (hbits w) → Fits w x → z ≡ signed_bits (hbits w) x → to_z w (of_z w z) ≡ signed_bits (hbits w) x
-kept_signed w z x e f is =
-    let z_is : z ≡ to_z w x = is ∙ sym (read_signed w x e) in
-    ap (λ y. to_z w (of_z w y)) z_is ∙ to_z-of_z (sfits_to_z f) ∙ read_signed w x e
 
 part_ranged : (v : Width) (x : ℕ) → bits v ≡ suc (hbits v) → Fits v x → mag (signed_bits (hbits v) x) < 2 ^ hbits v
 part_ranged v x e f = subst (λ z. mag z < 2 ^ hbits v) (read_signed v x e) (sfits_to_z f).sfits

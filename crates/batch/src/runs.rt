@@ -8,30 +8,19 @@ fn add_up(lengths: &[u32], n: usize) -> bool
     ensures { Says result (sum lengths.now ≡ n) }
 {
     let mut left = n;
-    let mut i = 0;
-    while i < lengths.len() {
-        let k = lengths[i] as usize;
+    for &k in lengths {
+        let k = k as usize;
         if left < k {
             return false;
         }
         left -= k;
-        i += 1;
     }
-    if left == 0 {
-        return true;
-    }
-    false
+    left == 0
 }
 
 // Whether the runs are of one length, and the lengths add up to the code bytes.
 pub fn good_runs(codes: &[u8], lengths: &[u32], places: &[u64], answers: &[u32]) -> bool
     ensures { Says result (GoodRuns (runs codes.now lengths.now places.now answers.now)) }
 {
-    if places.len() != lengths.len() {
-        return false;
-    }
-    if answers.len() != lengths.len() {
-        return false;
-    }
-    add_up(lengths, codes.len())
+    places.len() == lengths.len() && answers.len() == lengths.len() && add_up(lengths, codes.len())
 }

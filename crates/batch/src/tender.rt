@@ -11,7 +11,6 @@ ghost use Rattle.batch.specs.PlaceWords.{word_place};
 use super::parts::{answer_number, word_place};
 use super::runs::good_runs;
 use partition::Shape;
-use store_check::Length;
 
 // One put, at the place of a word, and the number of its answer.
 fn put_word(s: &mut [u8], z: Shape, key: &[u8], w: u64, mode: u64) -> u32
@@ -35,12 +34,10 @@ fn put_each(
     ensures { OneByOne z fnv mode (wanted codes.now lengths.now places.now) s.old answers.new s.new }
 {
     let mut at = 0;
-    let mut i = 0;
-    while i < lengths.len() {
+    for i in 0..lengths.len() {
         let e = at + lengths[i] as usize;
         answers[i] = put_word(s, z, &codes[at..e], places[i], mode);
         at = e;
-        i += 1;
     }
 }
 
@@ -56,19 +53,14 @@ pub fn put_all(
     ensures { Answers (batch_table (shape_of s.old) fnv s.old
         (runs codes.now lengths.now places.now answers.old) mode) (meaning result, (s.new, answers.new)) }
 {
-    let Length::Of(z) = store_check::said_shape(s) else {
-        return store::Answer::Refused(store::Refusal::BadLength);
-    };
+    let z = store_check::said_shape(s)?;
     if !good_runs(codes, lengths, places, answers) {
-        return store::Answer::Refused(store::Refusal::BadRuns);
+        return Err(store::Refusal::BadRuns);
     }
     if 2 < mode {
-        return store::Answer::Refused(store::Refusal::BadMode);
+        return Err(store::Refusal::BadMode);
     }
-    let p = store_check::first_bad(s, z);
-    if p < s.len() / (8 + z.capacity) {
-        return store::Answer::Refused(store::Refusal::BadPage(p));
-    }
+    store_check::accept(s, z)?;
     put_each(s, z, codes, lengths, places, answers, mode);
-    store::Answer::Accepted
+    Ok(store::Done::Accepted)
 }

@@ -39,8 +39,8 @@ fn histories<R: Print>(rt: &R, store: &mut [u8]) {
 
 // In 3 pages, "a" with place (7, 2, 0), whatever they held.
 fn case_10<R: Print>(rt: &R, store: &mut [u8]) {
-    say_number(rt, b"format:", lots_c::lots_format(store, 1024));
-    say_place(rt, b"put a:", lots_c::lots_put(store, b"a", 7, 2, 0, 0));
-    let _ = rt.write_all(b"case 10\n");
+    say_number(rt, "format:", lots_c::lots_format(store, 1024));
+    say_place(rt, "put a:", lots_c::lots_put(store, b"a", 7, 2, 0, 0));
+    let _ = println!(rt; "case 10");
     show::lines(rt, store);
 }

@@ -3,8 +3,7 @@ ghost use Rattle.page.specs.Page.{Slotted};
 ghost use Rattle.cases.specs.Reads.{Addable};
 
 use super::show::digits;
-use page::Found;
-use store::Answer;
+use store::Done;
 
 // A row of place (page, 0, 0) goes where its code belongs, if it is new and fits.
 fn add(bucket: &mut [u8], key: &[u8], page: u8)
@@ -16,27 +15,17 @@ fn add(bucket: &mut [u8], key: &[u8], page: u8)
     if words::get16(bucket, 6) < 12 + key.len() {
         return;
     }
-    match page::find_code(bucket, key) {
-        Found::At(_) => {}
-        Found::Absent(s) => {
-            page::insert_row(bucket, s, key, &place, &mut scratch);
-        }
+    if let Err(s) = page::find_code(bucket, key) {
+        page::insert_row(bucket, s, key, &place, &mut scratch);
     }
-}
-
-fn natural(x: i32) -> u64 {
-    if x < 0 {
-        return 0;
-    }
-    x as u64
 }
 
 // Row n on a line, the page of its place and its code; whether there is one.
 fn row<R: Print>(rt: &R, bucket: &[u8], n: usize) -> bool {
     let mut out = [0u8; 64];
     match page_reader::inspect(bucket, n, &mut out) {
-        Answer::RowOf(m, p) => {
-            let x = natural(p.page);
+        Ok(Done::RowOf(m, p)) => {
+            let x = u64::try_from(p.page).unwrap_or(0);
             let _ = print!(rt; "{x:04x}");
             digits(rt, &out[0..m]);
             true
@@ -46,12 +35,10 @@ fn row<R: Print>(rt: &R, bucket: &[u8], n: usize) -> bool {
 }
 
 fn rows<R: Print>(rt: &R, bucket: &[u8]) {
-    let mut n = 0;
-    while n < 78 {
+    for n in 0..78 {
         if !row(rt, bucket, n) {
             return;
         }
-        n += 1;
     }
 }
 
@@ -62,12 +49,12 @@ pub fn row_by_row<R: Print>(rt: &R) {
     add(&mut bucket, b"lot-7a", 2);
     add(&mut bucket, b"lot-7", 3);
     add(&mut bucket, b"a", 4);
-    let _ = rt.write_all(b"a page, row by row\n");
+    let _ = println!(rt; "a page, row by row");
     rows(rt, &bucket);
     bucket[500] = 1;
-    let _ = rt.write_all(b"a byte off\n");
+    let _ = println!(rt; "a byte off");
     rows(rt, &bucket);
     page::clear_page(&mut bucket);
-    let _ = rt.write_all(b"free\n");
+    let _ = println!(rt; "free");
     rows(rt, &bucket);
 }

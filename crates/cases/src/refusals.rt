@@ -2,71 +2,133 @@
 use crate::answers::{say_number, say_place};
 use crate::show::{lines, part};
 
+// A code longer than any.
+const LONG: [u8; 65] = [b'a'; 65];
+
+// A put: what is said of it, its code, place and mode.
+type Put = (&'static str, &'static [u8], (i32, i16, i16), u64);
+
+// "a" is known and "b" is not.
+const ON_SHORT: [Put; 1] = [(
+    "put, 3071 bytes, no code, negative page, mode 3:",
+    b"",
+    (-1, 2, 0),
+    3,
+)];
+
+const ON_DAMAGED: [Put; 10] = [
+    (
+        "put, no code, negative page, mode 3, damaged store:",
+        b"",
+        (-1, 2, 0),
+        3,
+    ),
+    (
+        "put, 65 bytes of code, negative page, mode 3, damaged store:",
+        &LONG,
+        (-1, 2, 0),
+        3,
+    ),
+    (
+        "put, negative page, mode 3, damaged store:",
+        b"b",
+        (-1, 2, 0),
+        3,
+    ),
+    (
+        "put, negative slot, mode 3, damaged store:",
+        b"b",
+        (7, -1, 0),
+        3,
+    ),
+    (
+        "put, negative volume, mode 3, damaged store:",
+        b"b",
+        (7, 2, -1),
+        3,
+    ),
+    ("put, mode 3, damaged store:", b"a", (7, 2, 0), 3),
+    (
+        "put, the largest mode, damaged store:",
+        b"a",
+        (7, 2, 0),
+        u64::MAX,
+    ),
+    (
+        "put, known code, only if new, damaged store:",
+        b"a",
+        (7, 2, 0),
+        1,
+    ),
+    (
+        "put, new code, only if known, damaged store:",
+        b"b",
+        (7, 2, 0),
+        2,
+    ),
+    ("put, damaged store:", b"b", (7, 2, 0), 0),
+];
+
+const ON_SOUND: [Put; 3] = [
+    ("put, known code, only if new:", b"a", (7, 2, 0), 1),
+    ("put, new code, only if known:", b"b", (7, 2, 0), 2),
+    ("put, known code, negative page:", b"a", (-1, 2, 0), 0),
+];
+
 fn checks<R: Print>(rt: &R, sound: &[u8], damaged: &[u8], short: &[u8]) {
-    say_number(rt, b"check, 3071 bytes:", lots_c::lots_check(short));
-    say_number(rt, b"check, damaged store:", lots_c::lots_check(damaged));
-    say_number(rt, b"check:", lots_c::lots_check(sound));
-    say_number(rt, b"count, 3071 bytes:", lots_c::lots_count(short));
-    say_number(rt, b"count, damaged store:", lots_c::lots_count(damaged));
-    say_number(rt, b"count:", lots_c::lots_count(sound));
+    for (asked, word) in [
+        ("check, 3071 bytes:", lots_c::lots_check(short)),
+        ("check, damaged store:", lots_c::lots_check(damaged)),
+        ("check:", lots_c::lots_check(sound)),
+        ("count, 3071 bytes:", lots_c::lots_count(short)),
+        ("count, damaged store:", lots_c::lots_count(damaged)),
+        ("count:", lots_c::lots_count(sound)),
+    ] {
+        say_number(rt, asked, word);
+    }
 }
 
 fn lookups<R: Print>(rt: &R, sound: &[u8], damaged: &[u8], short: &[u8]) {
-    let long = [97u8; 65];
-    say_place(
-        rt,
-        b"lookup, 3071 bytes, no code:",
-        lots_c::lots_lookup(short, b""),
-    );
-    say_place(
-        rt,
-        b"lookup, no code, damaged store:",
-        lots_c::lots_lookup(damaged, b""),
-    );
-    say_place(
-        rt,
-        b"lookup, 65 bytes of code, damaged store:",
-        lots_c::lots_lookup(damaged, &long),
-    );
-    say_place(
-        rt,
-        b"lookup, damaged store:",
-        lots_c::lots_lookup(damaged, b"b"),
-    );
-    say_place(rt, b"lookup, not there:", lots_c::lots_lookup(sound, b"b"));
-    say_place(rt, b"lookup:", lots_c::lots_lookup(sound, b"a"));
+    for (asked, word) in [
+        (
+            "lookup, 3071 bytes, no code:",
+            lots_c::lots_lookup(short, b""),
+        ),
+        (
+            "lookup, no code, damaged store:",
+            lots_c::lots_lookup(damaged, b""),
+        ),
+        (
+            "lookup, 65 bytes of code, damaged store:",
+            lots_c::lots_lookup(damaged, &LONG),
+        ),
+        ("lookup, damaged store:", lots_c::lots_lookup(damaged, b"b")),
+        ("lookup, not there:", lots_c::lots_lookup(sound, b"b")),
+        ("lookup:", lots_c::lots_lookup(sound, b"a")),
+    ] {
+        say_place(rt, asked, word);
+    }
 }
 
 fn rows<R: Print>(rt: &R, sound: &[u8], damaged: &[u8], short: &[u8]) {
-    let mut little = [0u8; 63];
     let mut out = [0u8; 64];
     let mut len = 0;
-    say_place(
-        rt,
-        b"row, 3071 bytes, output of 63:",
-        lots_c::lots_row(short, 1, &mut little, &mut len),
-    );
-    say_place(
-        rt,
-        b"row, output of 63, damaged store:",
-        lots_c::lots_row(damaged, 1, &mut little, &mut len),
-    );
-    say_place(
-        rt,
-        b"row 1, damaged store:",
-        lots_c::lots_row(damaged, 1, &mut out, &mut len),
-    );
-    say_place(
-        rt,
-        b"row 1:",
-        lots_c::lots_row(sound, 1, &mut out, &mut len),
-    );
-    say_place(
-        rt,
-        b"row 0:",
-        lots_c::lots_row(sound, 0, &mut out, &mut len),
-    );
-    say_number(rt, b"its length:", len as u64);
+    for (asked, store, n, room) in [
+        ("row, 3071 bytes, output of 63:", short, 1, 63),
+        ("row, output of 63, damaged store:", damaged, 1, 63),
+        ("row 1, damaged store:", damaged, 1, 64),
+        ("row 1:", sound, 1, 64),
+        ("row 0:", sound, 0, 64),
+    ] {
+        let word = lots_c::lots_row(store, n, part_mut(&mut out, room), &mut len);
+        say_place(rt, asked, word);
+    }
+    say_number(rt, "its length:", len as u64);
+}
+
+// The first bytes, where there are so many.
+fn part_mut(bytes: &mut [u8; 64], room: usize) -> &mut [u8] {
+    &mut bytes[..room.min(64)]
 }
 
 // The store of case 10, and the same with a fault in page 1.
@@ -87,159 +149,48 @@ pub fn all<R: Print>(rt: &R, sound: &[u8], damaged: &[u8]) {
 
 // A bucket page, one that is none, that one byte short, and a free page.
 fn inspections<R: Print>(rt: &R, bucket: &[u8], other: &[u8], short: &[u8], free: &[u8]) {
-    let mut little = [0u8; 63];
     let mut out = [0u8; 64];
     let mut len = 0;
-    say_place(
-        rt,
-        b"inspection, 1023 bytes, output of 63:",
-        lots_c::lots_inspect(short, 1, &mut little, &mut len),
-    );
-    say_place(
-        rt,
-        b"inspection, output of 63, no bucket page:",
-        lots_c::lots_inspect(other, 1, &mut little, &mut len),
-    );
-    say_place(
-        rt,
-        b"inspection, slot 1, no bucket page:",
-        lots_c::lots_inspect(other, 1, &mut out, &mut len),
-    );
-    say_place(
-        rt,
-        b"inspection, slot 1:",
-        lots_c::lots_inspect(bucket, 1, &mut out, &mut len),
-    );
-    say_place(
-        rt,
-        b"inspection, slot 0, free page:",
-        lots_c::lots_inspect(free, 0, &mut out, &mut len),
-    );
-    say_place(
-        rt,
-        b"inspection, slot 0:",
-        lots_c::lots_inspect(bucket, 0, &mut out, &mut len),
-    );
-    say_number(rt, b"its length:", len as u64);
+    for (asked, page, slot, room) in [
+        ("inspection, 1023 bytes, output of 63:", short, 1, 63),
+        ("inspection, output of 63, no bucket page:", other, 1, 63),
+        ("inspection, slot 1, no bucket page:", other, 1, 64),
+        ("inspection, slot 1:", bucket, 1, 64),
+        ("inspection, slot 0, free page:", free, 0, 64),
+        ("inspection, slot 0:", bucket, 0, 64),
+    ] {
+        let word = lots_c::lots_inspect(page, slot, part_mut(&mut out, room), &mut len);
+        say_place(rt, asked, word);
+    }
+    say_number(rt, "its length:", len as u64);
 }
 
-// Each part of a place negative.
-fn negatives<R: Print>(rt: &R, damaged: &mut [u8]) {
-    say_place(
-        rt,
-        b"put, negative page, mode 3, damaged store:",
-        lots_c::lots_put(damaged, b"b", -1, 2, 0, 3),
-    );
-    say_place(
-        rt,
-        b"put, negative slot, mode 3, damaged store:",
-        lots_c::lots_put(damaged, b"b", 7, -1, 0, 3),
-    );
-    say_place(
-        rt,
-        b"put, negative volume, mode 3, damaged store:",
-        lots_c::lots_put(damaged, b"b", 7, 2, -1, 3),
-    );
+fn puts<R: Print>(rt: &R, store: &mut [u8], puts: &[Put]) {
+    for (asked, code, (page, slot, volume), mode) in puts {
+        let word = lots_c::lots_put(store, code, *page, *slot, *volume, *mode);
+        say_place(rt, asked, word);
+    }
 }
 
-// "a" is known and "b" is not.
-fn damaged_modes<R: Print>(rt: &R, damaged: &mut [u8]) {
-    say_place(
-        rt,
-        b"put, mode 3, damaged store:",
-        lots_c::lots_put(damaged, b"a", 7, 2, 0, 3),
-    );
-    say_place(
-        rt,
-        b"put, the largest mode, damaged store:",
-        lots_c::lots_put(damaged, b"a", 7, 2, 0, 18446744073709551615),
-    );
-    say_place(
-        rt,
-        b"put, known code, only if new, damaged store:",
-        lots_c::lots_put(damaged, b"a", 7, 2, 0, 1),
-    );
-    say_place(
-        rt,
-        b"put, new code, only if known, damaged store:",
-        lots_c::lots_put(damaged, b"b", 7, 2, 0, 2),
-    );
-}
-
-fn damaged_puts<R: Print>(rt: &R, damaged: &mut [u8]) {
-    negatives(rt, damaged);
-    damaged_modes(rt, damaged);
-    say_place(
-        rt,
-        b"put, damaged store:",
-        lots_c::lots_put(damaged, b"b", 7, 2, 0, 0),
-    );
-}
-
-fn modes<R: Print>(rt: &R, sound: &mut [u8]) {
-    say_place(
-        rt,
-        b"put, known code, only if new:",
-        lots_c::lots_put(sound, b"a", 7, 2, 0, 1),
-    );
-    say_place(
-        rt,
-        b"put, new code, only if known:",
-        lots_c::lots_put(sound, b"b", 7, 2, 0, 2),
-    );
-}
-
-fn puts<R: Print>(rt: &R, sound: &mut [u8], damaged: &mut [u8]) {
-    let mut short = [0xAAu8; 3071];
-    let long = [97u8; 65];
-    say_place(
-        rt,
-        b"put, 3071 bytes, no code, negative page, mode 3:",
-        lots_c::lots_put(&mut short, b"", -1, 2, 0, 3),
-    );
-    say_place(
-        rt,
-        b"put, no code, negative page, mode 3, damaged store:",
-        lots_c::lots_put(damaged, b"", -1, 2, 0, 3),
-    );
-    say_place(
-        rt,
-        b"put, 65 bytes of code, negative page, mode 3, damaged store:",
-        lots_c::lots_put(damaged, &long, -1, 2, 0, 3),
-    );
-    damaged_puts(rt, damaged);
-    modes(rt, sound);
-    say_place(
-        rt,
-        b"put, known code, negative page:",
-        lots_c::lots_put(sound, b"a", -1, 2, 0, 0),
-    );
-}
-
-fn removes<R: Print>(rt: &R, sound: &mut [u8], damaged: &mut [u8]) {
-    let mut short = [0xAAu8; 3071];
-    let long = [97u8; 65];
-    say_place(
-        rt,
-        b"remove, 3071 bytes, no code:",
-        lots_c::lots_remove(&mut short, b""),
-    );
-    say_place(
-        rt,
-        b"remove, no code, damaged store:",
-        lots_c::lots_remove(damaged, b""),
-    );
-    say_place(
-        rt,
-        b"remove, 65 bytes of code, damaged store:",
-        lots_c::lots_remove(damaged, &long),
-    );
-    say_place(
-        rt,
-        b"remove, damaged store:",
-        lots_c::lots_remove(damaged, b"a"),
-    );
-    say_place(rt, b"remove, not there:", lots_c::lots_remove(sound, b"b"));
+fn removes<R: Print>(rt: &R, sound: &mut [u8], damaged: &mut [u8], short: &mut [u8]) {
+    for (asked, word) in [
+        (
+            "remove, 3071 bytes, no code:",
+            lots_c::lots_remove(short, b""),
+        ),
+        (
+            "remove, no code, damaged store:",
+            lots_c::lots_remove(damaged, b""),
+        ),
+        (
+            "remove, 65 bytes of code, damaged store:",
+            lots_c::lots_remove(damaged, &LONG),
+        ),
+        ("remove, damaged store:", lots_c::lots_remove(damaged, b"a")),
+        ("remove, not there:", lots_c::lots_remove(sound, b"b")),
+    ] {
+        say_place(rt, asked, word);
+    }
 }
 
 // The same two stores, lent for writing: they are left as they were.
@@ -247,13 +198,15 @@ pub fn of_writes<R: Print>(rt: &R, sound: &mut [u8], damaged: &mut [u8]) {
     let mut short = [0xAAu8; 3071];
     say_number(
         rt,
-        b"format, 3071 bytes:",
+        "format, 3071 bytes:",
         lots_c::lots_format(&mut short, 1024),
     );
-    puts(rt, sound, damaged);
-    removes(rt, sound, damaged);
-    let _ = rt.write_all(b"every byte as before\n");
+    puts(rt, &mut short, &ON_SHORT);
+    puts(rt, damaged, &ON_DAMAGED);
+    puts(rt, sound, &ON_SOUND);
+    removes(rt, sound, damaged, &mut short);
+    let _ = println!(rt; "every byte as before");
     lines(rt, sound);
-    let _ = rt.write_all(b"and of the damaged store\n");
+    let _ = println!(rt; "and of the damaged store");
     lines(rt, damaged);
 }

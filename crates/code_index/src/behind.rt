@@ -19,12 +19,10 @@ pub fn entries_rise(x: &[u8], n: usize) -> bool
     requires { n ≤ entry_room x.now }
     ensures { Says result (RisingBy 1 n x.now) }
 {
-    let mut i = 1;
-    while i < n {
+    for i in 1..n {
         if !is_before(x, i - 1, i) {
             return false;
         }
-        i += 1;
     }
     true
 }
@@ -33,13 +31,10 @@ pub fn entries_rise(x: &[u8], n: usize) -> bool
 pub fn entries_zero(x: &[u8], n: usize) -> bool
     ensures { Says result (NoneFrom n x.now) }
 {
-    let room = entry_room(x);
-    let mut i = n;
-    while i < room {
+    for i in n..entry_room(x) {
         if !words::all_zero(entry_at(x, i)) {
             return false;
         }
-        i += 1;
     }
     true
 }
@@ -48,15 +43,12 @@ pub fn entries_zero(x: &[u8], n: usize) -> bool
 pub fn rests_zero(x: &[u8]) -> bool
     ensures { Says result (RestsZero x.now) }
 {
-    let pages = x.len() / 1024;
-    let mut p = 0;
-    while p < pages {
+    for p in 0..x.len() / 1024 {
         let a = 1024 * p + 1008;
         let e = a + 16;
         if !words::all_zero(&x[a..e]) {
             return false;
         }
-        p += 1;
     }
     true
 }

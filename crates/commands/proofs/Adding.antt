@@ -1,15 +1,13 @@
 -- Texts that are put together piece by piece. Assumes nothing.
-use Prim.Native.Nat.{ℕ, zero, suc, ◌+◌, ◌-◌, ◌/◌, ◌%◌, ◌^◌, ◌≤◌, ◌<◌}
+use Prim.Native.Nat.{ℕ, zero, suc, ◌+◌, ◌*◌, ◌-◌, ◌/◌, ◌%◌, ◌^◌, ◌≤◌, ◌<◌}
 use mathlib.Core.Path.{◌≡◌, refl, sym, ap, ◌∙◌, subst}
 use mathlib.Core.Bool.{Bool, true, false, cond}
 use mathlib.Core.List.{List, [], ◌∷◌, ◌++◌, append_assoc, append-nil}
-use mathlib.Core.Logic.{◌⊎◌, inl, inr, ⊎_elim}
+use mathlib.Core.Logic.{◌⊎◌, inl, inr}
 use native.Mathlib.Nat.{add-zero, sub-zero, mod-lt}
 use native.Mathlib.Numerals.{add-one}
 use native.Mathlib.Omega.{arith}
 use lib.Dec.{ltb, eqb}
-use lib.IntN.{ℤ, pos, nat_abs}
-use lib.Signed.{lt_z}
 use lib.ListN.{length, take, drop, set, length-append, length-drop, length-set}
 use lib.Seq.{take-add, take_at, take-take, take-suc, drop-cons, drop-set-lt, get_or-set_same, length-take-le}
 use borrow.Author.Tests.{lt-ltb, le-ltb, eq-eqb, ne_eqb}
@@ -18,11 +16,12 @@ use Rattle.ground.proofs.Sides.{side}
 use Rattle.ground.proofs.Parts.{part_is, part_same}
 use Rattle.words.specs.Moves.{Copied}
 use Rattle.io.specs.Digits.{last_digits, hex_digit_ascii}
-use Rattle.store.specs.declared.Answer.{Answer}
+use Rattle.std.specs.Prelude.{Result}
+use Rattle.store.specs.declared.Done.{Done}
 use Rattle.store.specs.declared.Refusal.{Refusal}
 use Rattle.store.specs.Tables.{Out, Numbered, refusal, meaning}
 use Rattle.store.proofs.Demands.Meaning.{by_refusal}
-use Rattle.commands.specs.Numbers.{decimal, integer, signed, width}
+use Rattle.commands.specs.Numbers.{decimal, width}
 use Rattle.commands.specs.Codes.{upper, escape, glyphs, shown}
 use Rattle.commands.specs.Texts.{text}
 use Rattle.commands.specs.Answers.{Adds, Lines, because, numbered, shows, why}
@@ -144,23 +143,23 @@ pub width_most : (j n : ℕ) → n < 10 ^ suc j → width n n ≤ suc j
 width_most zero n h = omega (arith, width_small n (omega arith))
 width_most (suc j) n h = most_step j n (side n 10) (λ l. width_most j (n / 10) (omega arith))
 
-pub width_least : (n : ℕ) → 1 ≤ width n n
-width_least n = ⊎_elim (λ (l : n < 10). omega (arith, width_small n l)) (λ (l : 10 ≤ n). omega (arith, width_step n l)) (side n 10)
-
 pub width_two : (n : ℕ) → 10 ≤ n → n < 100 → width n n ≡ 2
 width_two n a b = let e = width_step n a in let f = width_small (n / 10) (omega arith) in omega (arith, e, f)
 
 pub width_three : (n : ℕ) → 100 ≤ n → n < 1000 → width n n ≡ 3
 width_three n a b = let e = width_step n (omega arith) in let f = width_two (n / 10) (omega arith) (omega arith) in omega (arith, e, f)
 
-pub width_more : (n : ℕ) → 1000 ≤ n → width n n + 1 ≡ 4 + width (n / 1000) (n / 1000)
-width_more n a =
-    let e = width_step n (omega arith) in
-    let f = width_step (n / 10) (omega arith) in
-    let g = width_step (n / 10 / 10) (omega arith) in
-    let q : n / 10 / 10 / 10 ≡ n / 1000 = omega arith in
-    let r : width (n / 10 / 10 / 10) (n / 10 / 10 / 10) ≡ width (n / 1000) (n / 1000) = ap (λ (m : ℕ). width m m) q in
-    omega (arith, e, f, g, r)
+ten_least : (k : ℕ) → 1 ≤ 10 ^ k
+ten_least zero = omega arith
+ten_least (suc k) = omega (arith, ten_least k)
+
+pub width_is : (k n : ℕ) → 10 ^ k ≤ n → n < 10 * 10 ^ k → width n n ≡ k + 1
+width_is zero n a b = width_small n (omega arith)
+width_is (suc k) n a b =
+    let p = ten_least k in
+    let e = width_step n (omega (arith, p)) in
+    let f = width_is k (n / 10) (omega arith) (omega arith) in
+    omega (arith, e, f)
 
 pub decimal_is : (n k : ℕ) → k ≡ width n n → last_digits 10 k n ≡ decimal n
 unfolding decimal
@@ -202,26 +201,6 @@ spelled k n zero rest at p q h b l f e =
     let d : last_digits 10 k n ≡ take k (drop at q) = e ∙ rw (sub-zero, add-zero) in
     let m : length (take k (drop at q)) ≡ k = length-take-le k (drop at q) (rw length-drop (omega arith)) in
     record { next = rw (d, m); said = take-add at k q ∙ rw (f, ← d); long = l }
-
-abs_signed : (b : Bool) (n : ℕ) → nat_abs (signed b n) ≡ n
-abs_signed false n = refl
-abs_signed true zero = refl
-abs_signed true (suc n) = refl
-
-sized : (z : ℤ) (n : ℕ) → z ≡ signed (lt_z z (pos 0)) n → n ≡ nat_abs z
-sized z n e = sym (ap nat_abs e ∙ abs_signed (lt_z z (pos 0)) n)
-
--- a number with - before it, or without
-pub minus_text : (z : ℤ) (n : ℕ) → z ≡ signed (lt_z z (pos 0)) n → lt_z z (pos 0) ≡ true → 45 ∷ decimal n ≡ integer z
-minus_text z n e l = rw (l, sized z n e)
-
-pub plain_text : (z : ℤ) (n : ℕ) → z ≡ signed (lt_z z (pos 0)) n → lt_z z (pos 0) ≡ false → decimal n ≡ integer z
-plain_text z n e l = rw (l, sized z n e)
-
--- ---- answers
-
-pub shows_as : (k : List ℕ) (at : ℕ) (a b : Answer) {o q : List ℕ} {i r : ℕ} → a ≡ b → Adds (shows k at (meaning b)) o i q r → Adds (shows k at (meaning a)) o i q r
-shows_as k at a b e h = as_text (ap (λ x. shows k at (meaning x)) (sym e)) h
 
 -- a refusal shows no code
 pub shows_refusal : (k : List ℕ) (at : ℕ) (f : Refusal) → shows [] at (refusal f) ≡ shows k at (refusal f)

@@ -31,10 +31,6 @@ one_when false false false n = absurd (n refl)
 kind_one : (b : ℕ) → (blank_kind b ≡ 0 → ⊥) → blank_kind b ≡ 1
 kind_one b n = one_when (eqb b 32) (eqb b 9) (eqb b 13) n
 
--- a run that goes on
-pub one_more : (l : List ℕ) (i j k : ℕ) → ((m : ℕ) → i ≤ m → m < j → blank_kind (byte l m) ≡ k) → blank_kind (byte l j) ≡ k → (m : ℕ) → i ≤ m → m < j + 1 → blank_kind (byte l m) ≡ k
-one_more l i j k f e m a b = ⊎_elim (λ (h : m < j). f m a h) (λ (h : j ≤ m). let n : j ≡ m = omega arith in subst (λ (x : ℕ). blank_kind (byte l x) ≡ k) n e) (side m j)
-
 -- ---- one byte more
 
 cut_blank : (w : List ℕ) (b : ℕ) (l : List ℕ) → blank_kind b ≡ 1 → cut_from w (b ∷ l) ≡ word_then w (cut_from [] l)

@@ -7,7 +7,7 @@ use native.Mathlib.Omega.{arith}
 use lib.ListN.{length, take, drop, set}
 use lib.Seq.{drop-cons, take-add, take-suc-set}
 use Rattle.ground.specs.Lists.{byte}
-use Rattle.commands.specs.Codes.{Plain, Hex, Spells, none, plain, escaped, One}
+use Rattle.commands.specs.Codes.{Plain, Hex, Spells, none, plain, escaped, Writes}
 use Rattle.commands.specs.declared.Glyph.{Glyph}
 
 pub together : {w c v d : List ℕ} → Spells w c → Spells v d → Spells (w ++ v) (c ++ d)
@@ -26,16 +26,13 @@ from_three : (w : List ℕ) (i : ℕ) → i + 3 ≤ length w → take 3 (drop i 
 from_three w i h =
     rw (from w i (i + 1) (omega arith) (omega arith), from w (i + 1) (i + 2) (omega arith) (omega arith), from w (i + 2) (i + 3) (omega arith) (omega arith))
 
-pub of_plain : (w : List ℕ) (i : ℕ) → i < length w → Plain (byte w i) → One w i (record { byte = byte w i; size = 1 })
-of_plain w i h p = record { within = omega arith; spells = λ l. rw (from_one w i h) (plain p none); none_here = λ z. absurd (omega arith) }
+pub of_plain : (w : List ℕ) (i : ℕ) → i < length w → Plain (byte w i) → Writes w i (record { byte = byte w i; size = 1 })
+of_plain w i h p = record { within = omega arith; some = omega arith; spells = rw (from_one w i h) (plain p none) }
 
-pub of_escaped : (w : List ℕ) (i x y : ℕ) → i + 3 ≤ length w → byte w i ≡ 37 → Hex (byte w (i + 1)) x → Hex (byte w (i + 2)) y → One w i (record { byte = x * 16 + y; size = 3 })
-of_escaped w i x y h e a b = record { within = h; spells = λ l. rw (from_three w i h, e) (escaped a b none); none_here = λ z. absurd (omega arith) }
-
-pub of_none : (w : List ℕ) (i : ℕ) → i < length w → ((c : List ℕ) → Spells (drop i w) c → ⊥) → One w i (record { byte = 0; size = 0 })
-of_none w i h n = record { within = omega arith; spells = λ l. absurd (omega arith); none_here = λ z. n }
+pub of_escaped : (w : List ℕ) (i x y : ℕ) → i + 3 ≤ length w → byte w i ≡ 37 → Hex (byte w (i + 1)) x → Hex (byte w (i + 2)) y → Writes w i (record { byte = x * 16 + y; size = 3 })
+of_escaped w i x y h e a b = record { within = h; some = omega arith; spells = rw (from_three w i h, e) (escaped a b none) }
 
 -- one byte more
-pub more : (w out : List ℕ) (i n : ℕ) (g : Glyph) → Spells (take i w) (take n out) → One w i g → (g.size ≡ 0 → ⊥) → n < length out
+pub more : (w out : List ℕ) (i n : ℕ) (g : Glyph) → Spells (take i w) (take n out) → Writes w i g → n < length out
     → Spells (take (i + g.size) w) (take (n + 1) (set out n g.byte))
-more w out i n g s o z h = rw (add-one n, take-suc-set out n g.byte h, take-add i g.size w) (together s (o.spells (omega arith)))
+more w out i n g s o h = rw (add-one n, take-suc-set out n g.byte h, take-add i g.size w) (together s o.spells)

@@ -13,13 +13,12 @@ use Rattle.ground.specs.Lists.{byte}
 use Rattle.ground.proofs.Tests.{untrue}
 use Rattle.page.specs.declared.Place.{Place}
 use Rattle.page.specs.Places.{InRange}
-use Rattle.commands.specs.declared.Number.TheVariants.{Not}
-use Rattle.commands.specs.declared.Spot.TheVariants.{Nowhere}
+use Rattle.std.specs.Prelude.{None}
 use Rattle.commands.specs.declared.Command.{Command}
 use Rattle.commands.specs.declared.Command.TheVariants.{Nothing, Unknown, Format, Put, Lookup, Remove, Count, Row, Listing, Check, Counts, Inspect, Report}
-use Rattle.commands.specs.Numbers.{Decimal, Integer, ReadsNumber}
+use Rattle.commands.specs.Numbers.{Decimal, Integer, ReadsNumber, ReadsSigned}
 use Rattle.commands.specs.Codes.{Spells, Coded}
-use Rattle.commands.specs.Lines.{Spaceless, BehindWord, Placed, Places, Putting, Paged, Asks, WithinLimits, AsksNothing, Spoken, Uncoded, format_word, put_word, add_word, move_word, PutBy, lookup_word, remove_word, count_word, row_word, list_word, check_word, counts_word, inspect_word, report_word}
+use Rattle.commands.specs.Lines.{Spaceless, Parted, BehindWord, Placed, Places, Putting, Paged, Asks, WithinLimits, AsksNothing, Spoken, Uncoded, format_word, put_word, add_word, move_word, PutBy, lookup_word, remove_word, count_word, row_word, list_word, check_word, counts_word, inspect_word, report_word}
 use Rattle.commands.proofs.Unread.{split_one, no_space, digits_spaceless, integer_spaceless, spells_spaceless}
 
 -- ---- places
@@ -31,19 +30,33 @@ module _ (a s v : List ℕ) (f : Spaceless a) (g : Spaceless s) (p : Place) (x :
   inner : (s ≡ x.slot) × (v ≡ x.volume)
   inner = split_one s x.slot _ _ g (integer_spaceless _ _ x.is_slot) outer.1
 
-  pub the_page : Integer p.page a
+  the_page : Integer p.page a
   the_page = subst (Integer p.page) (sym outer.0) x.is_page
 
-  pub the_slot : Integer p.slot s
+  the_slot : Integer p.slot s
   the_slot = subst (Integer p.slot) (sym inner.0) x.is_slot
 
-  pub the_volume : Integer p.volume v
+  the_volume : Integer p.volume v
   the_volume = subst (Integer p.volume) (sym inner.1) x.is_volume
 
-pub one_word : (w : List ℕ) → Spaceless w → Places w Nowhere
+-- a place's part that is no number
+module _ (w a b s v : List ℕ) (f : Parted w a b) (g : Parted b s v) where
+  parts : (p : Place) → Placed Integer p w → Placed Integer p (a ++ (32 ∷ (s ++ (32 ∷ v))))
+  parts p x = subst (Placed Integer p) (f.line ∙ ap (λ (t : List ℕ). a ++ (32 ∷ t)) g.line) x
+
+  pub no_page : ReadsSigned a 2147483647 None → Places w None
+  no_page n p r x = n p.page (omega (arith, r.page)) (the_page a s v f.first g.first p (parts p x))
+
+  pub no_slot : ReadsSigned s 32767 None → Places w None
+  no_slot n p r x = n p.slot (omega (arith, r.slot)) (the_slot a s v f.first g.first p (parts p x))
+
+  pub no_volume : ReadsSigned v 32767 None → Places w None
+  no_volume n p r x = n p.volume (omega (arith, r.volume)) (the_volume a s v f.first g.first p (parts p x))
+
+pub one_word : (w : List ℕ) → Spaceless w → Places w None
 one_word w s p r x = no_space w x.page (x.slot ++ (32 ∷ x.volume)) s x.text
 
-pub two_words : (w a b : List ℕ) → w ≡ a ++ (32 ∷ b) → Spaceless a → Spaceless b → Places w Nowhere
+pub two_words : (w a b : List ℕ) → w ≡ a ++ (32 ∷ b) → Spaceless a → Spaceless b → Places w None
 two_words w a b e f g p r x = no_space b x.slot x.volume g (split_one a x.page b (x.slot ++ (32 ∷ x.volume)) f (integer_spaceless _ _ x.is_page) (sym e ∙ x.text)).1
 
 -- ---- words
@@ -156,6 +169,29 @@ module _ (w r : List ℕ) (f : Spaceless w) (s : Spoken (w ++ (32 ∷ r))) where
     pub no_number : (k : List ℕ) → AsksNothing (w ++ (32 ∷ r)) k
     no_number k j c l h a = numbers j c h (on j c a)
 
+  -- row and inspect, with no number behind them
+  row_uncoded : w ≡ row_word → Uncoded w
+  row_uncoded e = record {
+    put = λ m q. put_not row_word refl w m q e;
+    lookup = λ o. apart 0 lookup_word row_word w o e (λ x. omega arith);
+    remove = λ o. apart 1 remove_word row_word w o e (λ x. omega arith);
+    report = λ o. apart 2 report_word row_word w o e (λ x. omega arith);
+  }
+
+  inspect_uncoded : w ≡ inspect_word → Uncoded w
+  inspect_uncoded e = record {
+    put = λ m q. put_not inspect_word refl w m q e;
+    lookup = λ o. apart 0 lookup_word inspect_word w o e (λ x. omega arith);
+    remove = λ o. apart 0 remove_word inspect_word w o e (λ x. omega arith);
+    report = λ o. apart 0 report_word inspect_word w o e (λ x. omega arith);
+  }
+
+  pub no_row : w ≡ row_word → ReadsNumber r None → (k : List ℕ) → AsksNothing (w ++ (32 ∷ r)) k
+  no_row e q k = no_number (row_uncoded e) (λ o. apart 0 format_word row_word w o e (λ x. omega arith)) (λ n h d _. q n h d) k
+
+  pub no_inspect : w ≡ inspect_word → ReadsNumber r None → (k : List ℕ) → AsksNothing (w ++ (32 ∷ r)) k
+  no_inspect e q k = no_number (inspect_uncoded e) (λ o. apart 0 format_word inspect_word w o e (λ x. omega arith)) (λ n h d _. q n h d) k
+
   -- a word and a code
   module _ (k : List ℕ) (no : (c : List ℕ) → length c ≤ length k → Spells r c → ⊥) where
     uncoded : (j : List ℕ) (n : ℕ) → length j ≡ length k → Coded r j n → ⊥
@@ -226,7 +262,7 @@ module _ (w : List ℕ) (m : ℕ) (q : PutBy w m) (r k : List ℕ) where
     halves : {j : List ℕ} {n : ℕ} {p : Place} (x : Putting j n p r) → (a ≡ x.code) × (b ≡ x.after.rest)
     halves x = split_one a x.code b x.after.rest f (spells_spaceless x.coded.spells) (sym e ∙ x.after.line)
 
-    pub put_nowhere : Places b Nowhere → AsksNothing (w ++ (32 ∷ r)) k
+    pub put_nowhere : Places b None → AsksNothing (w ++ (32 ∷ r)) k
     put_nowhere q = no_put (λ j n p l h x. q p h (subst (Placed Integer p) (sym (halves x).1) x.after.says))
 
     pub put_wrong : ((c : List ℕ) → length c ≤ length k → Spells a c → ⊥) → AsksNothing (w ++ (32 ∷ r)) k
@@ -255,7 +291,7 @@ module _ (r k : List ℕ) where
     no_format j c l h a = formats j c h (on format_word r (of_clear format_word refl) (record { some = λ x. omega arith; said = λ x. omega arith }) j c a)
 
   -- one word, which is no number
-  pub format_alone : Spaceless r → ReadsNumber r Not → AsksNothing (format_word ++ (32 ∷ r)) k
+  pub format_alone : Spaceless r → ReadsNumber r None → AsksNothing (format_word ++ (32 ∷ r)) k
   format_alone s q = no_format (λ n size h i. ⊎_elim (λ d. q n h d.0) (λ x. no_space r x.pages x.after.rest s x.after.line))
 
   -- r's first space
@@ -266,10 +302,10 @@ module _ (r k : List ℕ) where
         let p = split_one a x.pages b x.after.rest f (digits_spaceless n x.pages x.are) (sym e ∙ x.after.line) in
         (subst (Decimal n) (sym p.0) x.are, subst (Decimal size) (sym p.1) x.after.says)
 
-    pub format_unpaged : ReadsNumber a Not → AsksNothing (format_word ++ (32 ∷ r)) k
+    pub format_unpaged : ReadsNumber a None → AsksNothing (format_word ++ (32 ∷ r)) k
     format_unpaged q = no_format (λ n size h i x. q n h (paged n size x).0)
 
-    pub format_unsized : ReadsNumber b Not → AsksNothing (format_word ++ (32 ∷ r)) k
+    pub format_unsized : ReadsNumber b None → AsksNothing (format_word ++ (32 ∷ r)) k
     format_unsized q = no_format (λ n size h i x. q size i (paged n size x).1)
 
 -- a line of one word

@@ -1,22 +1,19 @@
 -- Why a text is no number, no code and no place. Assumes nothing.
-use Prim.Native.Nat.{ℕ, zero, suc, ◌+◌, ◌-◌, ◌^◌, ◌≤◌, ◌<◌}
+use Prim.Native.Nat.{ℕ, zero, suc, ◌+◌, ◌-◌, ◌≤◌, ◌<◌}
 use mathlib.Core.Path.{◌≡◌, refl, sym, ap, ◌∙◌, subst}
 use mathlib.Core.Bool.{Bool, true, false}
 use mathlib.Core.List.{List, [], ◌∷◌, ◌++◌}
 use mathlib.Core.Logic.{◌⊎◌, inl, inr, ⊎_elim}
 use native.Mathlib.Nat.{add-zero}
 use native.Mathlib.Omega.{arith}
-use lib.IntN.{ℤ, pos, neg_ℤ}
-use lib.Signed.{mag}
+use lib.IntN.{ℤ}
 use lib.ListN.{length, take, drop, length-append, length-drop}
-use lib.Seq.{drop-cons, drop-drop, get_or-append-add, get_or-drop, get_or-take, length-take-le}
+use lib.Seq.{drop-cons, drop-drop, get_or-append-add, get_or-drop}
 use Rattle.ground.specs.Lists.{byte}
-use Rattle.commands.specs.declared.Number.TheVariants.{Not}
-use Rattle.commands.specs.declared.Signed.TheVariants.{Other}
-use Rattle.commands.specs.Numbers.{Decimal, Integer, ReadsNumber, ReadsSigned, signed, marked}
-use Rattle.commands.specs.Codes.{Plain, Hex, Unhex, Spells, none, plain, escaped, One}
+use Rattle.commands.specs.Numbers.{Decimal, Integer, marked}
+use Rattle.commands.specs.Codes.{Plain, Hex, Unhex, Spells, none, plain, escaped, Writes}
 use Rattle.commands.specs.declared.Glyph.{Glyph}
-use Rattle.commands.specs.Lines.{FirstSpace, Spaceless}
+use Rattle.commands.specs.Lines.{Spaceless}
 
 -- ---- spaces
 
@@ -34,14 +31,6 @@ split_one (x ∷ a) (y ∷ c) b d p q e =
     let r = split_one a c b d (tail x a p) (tail y c q) t in
     let u : a ≡ c = r.0 in
     (cc, r.1)
-
-pub first_spaceless : (w : List ℕ) (r : ℕ) → FirstSpace w r → Spaceless (take r w)
-first_spaceless w r f k h e =
-    let l : k < r = omega (arith, length-take-le r w f.within) in
-    f.before k l (sym (get_or-take r w k 0 l) ∙ e)
-
-pub all_spaceless : (w : List ℕ) (r : ℕ) → FirstSpace w r → length w ≤ r → Spaceless w
-all_spaceless w r f h k l e = f.before k (omega arith) e
 
 pub no_space : (w a b : List ℕ) → Spaceless w → w ≡ a ++ (32 ∷ b) → ⊥
 no_space w a b s e =
@@ -79,40 +68,6 @@ pub marked_long : (m : Bool) (d : List ℕ) → length d ≤ length (marked m d)
 marked_long false d = omega arith
 marked_long true d = omega arith
 
-minus_size : (n most : ℕ) → mag (neg_ℤ (pos n)) ≤ most → n ≤ most + 1
-minus_size zero most h = omega arith
-minus_size (suc n) most h = omega arith
-
-module _ (w : List ℕ) (most : ℕ) where
-  pub unread_empty : length w ≡ 0 → ReadsSigned w most Other
-  unread_empty h z m i = omega (arith, ap length i.text, marked_long i.minus i.digits, i.sized.some)
-
-  -- with - before its digits
-  module _ (v : List ℕ) (t : w ≡ 45 ∷ v) where
-    minus_only : (z : ℤ) (b : Bool) (d : List ℕ) (n : ℕ) → w ≡ marked b d → Decimal n d → z ≡ signed b n → mag z ≤ most → (Decimal n v → n ≤ most + 1 → ⊥) → ⊥
-    minus_only z true d n e i s m f = let u : d ≡ v = cc in f (subst (Decimal n) u i) (minus_size n most (subst (λ (y : ℤ). mag y ≤ most) s m))
-    minus_only z false d n e i s m f =
-        let u : d ≡ 45 ∷ v = cc in
-        let g : byte d 0 ≡ 45 = ap (λ (x : List ℕ). byte x 0) u in
-        omega (arith, (i.each 0 i.some).least)
-
-    pub unread_minus : most < 2 ^ 63 → ReadsNumber v Not → ReadsSigned w most Other
-    unread_minus h r z m i = minus_only z i.minus i.digits i.size i.text i.sized i.is m (λ d l. r i.size (omega arith) d)
-
-    pub minus_large : (n : ℕ) → Decimal n v → most + 1 < n → ReadsSigned w most Other
-    minus_large n d h z m i = minus_only z i.minus i.digits i.size i.text i.sized i.is m (λ x l. omega (arith, x.is, d.is))
-
-  module _ (t : byte w 0 ≡ 45 → ⊥) where
-    plus_only : (z : ℤ) (b : Bool) (d : List ℕ) (n : ℕ) → w ≡ marked b d → Decimal n d → z ≡ signed b n → mag z ≤ most → (Decimal n w → n ≤ most → ⊥) → ⊥
-    plus_only z false d n e i s m f = f (subst (Decimal n) (sym e) i) (subst (λ (y : ℤ). mag y ≤ most) s m)
-    plus_only z true d n e i s m f = t (ap (λ (x : List ℕ). byte x 0) e)
-
-    pub unread_plus : most < 2 ^ 63 → ReadsNumber w Not → ReadsSigned w most Other
-    unread_plus h r z m i = plus_only z i.minus i.digits i.size i.text i.sized i.is m (λ d l. r i.size (omega arith) d)
-
-    pub plus_large : (n : ℕ) → Decimal n w → most < n → ReadsSigned w most Other
-    plus_large n d h z m i = plus_only z i.minus i.digits i.size i.text i.sized i.is m (λ x l. omega (arith, x.is, d.is))
-
 -- ---- codes
 
 -- how a code's text begins
@@ -123,10 +78,6 @@ starts : {v c : List ℕ} → Spells v c → (b : ℕ) (u : List ℕ) → v ≡ 
 starts none b u e = absurd (let z : ◌≡◌ {A = ℕ} 0 1 = cc in omega arith)
 starts (plain {b} p s) a u e = let h : b ≡ a = cc in inl (subst Plain h p)
 starts (escaped {x} {y} {i} {j} {w} p q s) b u e = let f : u ≡ x ∷ (y ∷ w) = cc in inr (cc, (x, (y, (w, (f, (λ n. n i p), (λ n. n j q))))))
-
-pub unhex : (b : ℕ) → (48 ≤ b → b ≤ 57 → ⊥) → (65 ≤ b → b ≤ 70 → ⊥) → (97 ≤ b → b ≤ 102 → ⊥) → Unhex b
-unhex b p q r h (inl x) = p (omega (arith, x.0)) (omega (arith, x.0, x.1))
-unhex b p q r h (inr x) = ⊎_elim (λ e. q (omega (arith, x.1)) (omega (arith, x.2))) (λ e. r (omega (arith, x.1)) (omega (arith, x.2))) x.0
 
 -- no code's text at i
 module _ (w : List ℕ) (i : ℕ) (h : i < length w) where
@@ -216,8 +167,8 @@ Follows w i n = (c : List ℕ) → Spells w c → (d : List ℕ) × (Spells (dro
 pub follows_none : (w : List ℕ) → Follows w 0 0
 follows_none w c s = (c, (s, omega arith))
 
-pub follows_more : (w : List ℕ) (i n : ℕ) (g : Glyph) → Follows w i n → One w i g → (g.size ≡ 0 → ⊥) → Follows w (i + g.size) (n + 1)
-follows_more w i n g f o z c s =
+pub follows_more : (w : List ℕ) (i n : ℕ) (g : Glyph) → Follows w i n → Writes w i g → Follows w (i + g.size) (n + 1)
+follows_more w i n g f o c s =
     let r = f c s in
-    let q = forward g.size g.byte (o.spells (omega arith)) refl refl r.1.0 in
+    let q = forward g.size g.byte o.spells refl refl r.1.0 in
     (q.0, (subst (λ (v : List ℕ). Spells v q.0) (drop-drop g.size i w) q.1.0, omega (arith, r.1.1, q.1.1)))

@@ -1,9 +1,7 @@
 -- Codes as text: bytes 0x21 to 0x7E but % as themselves, any byte as %HH. Assumes nothing.
-use Rattle.std.specs.Prelude.{ℕ, ◌+◌, ◌*◌, ◌/◌, ◌%◌, ◌≤◌, ◌<◌, ◌≡◌, cond, ◌⊎◌, List, [], ◌∷◌, ◌++◌, ltb, eqb, length, take, drop}
+use Rattle.std.specs.Prelude.{ℕ, ◌+◌, ◌*◌, ◌/◌, ◌%◌, ◌≤◌, ◌<◌, ◌≡◌, Option, Some, None, cond, ◌⊎◌, List, [], ◌∷◌, ◌++◌, ltb, eqb, length, take, drop}
 use Rattle.ground.specs.Lists.{byte}
 use Rattle.commands.specs.declared.Glyph.{Glyph}
-use Rattle.commands.specs.declared.Decoded.{Decoded}
-use Rattle.commands.specs.declared.Decoded.TheVariants.{Code, Wrong}
 
 -- b stands for itself
 pub record Plain (b : ℕ) : Type 0 where
@@ -46,11 +44,16 @@ unfoldable pub shown : List ℕ → List ℕ
 shown [] = []
 shown (b ∷ c) = glyphs b ++ shown c
 
--- the size bytes of w from i write one byte; if size is 0, no code's text stands there
-pub record One (w : List ℕ) (i : ℕ) (g : Glyph) : Type 0 where
+-- the size bytes of w from i write one byte
+pub record Writes (w : List ℕ) (i : ℕ) (g : Glyph) : Type 0 where
   pub within : i + g.size ≤ length w
-  pub spells : 1 ≤ g.size → Spells (take g.size (drop i w)) (g.byte ∷ [])
-  pub none_here : g.size ≡ 0 → (c : List ℕ) → Spells (drop i w) c → ⊥
+  pub some : 1 ≤ g.size
+  pub spells : Spells (take g.size (drop i w)) (g.byte ∷ [])
+
+-- the byte that w writes at i, or no code's text stands there
+abbrev pub One : List ℕ → ℕ → Option Glyph → Type 0
+One w i (Some g) = Writes w i g
+One w i None = (c : List ℕ) → Spells (drop i w) c → ⊥
 
 -- w writes the first n bytes of k
 pub record Coded (w k : List ℕ) (n : ℕ) : Type 0 where
@@ -58,6 +61,6 @@ pub record Coded (w k : List ℕ) (n : ℕ) : Type 0 where
   pub spells : Spells w (take n k)
 
 -- a word is read as a code at the start of the output, or it is none that fits there
-abbrev pub Decodes : List ℕ → List ℕ → Decoded → Type 0
-Decodes w out (Code n) = Coded w out n
-Decodes w out Wrong = (c : List ℕ) → length c ≤ length out → Spells w c → ⊥
+abbrev pub Decodes : List ℕ → List ℕ → Option ℕ → Type 0
+Decodes w out (Some n) = Coded w out n
+Decodes w out None = (c : List ℕ) → length c ≤ length out → Spells w c → ⊥

@@ -1,24 +1,23 @@
 -- What a line asks. Assumes nothing.
-use Rattle.std.specs.Prelude.{ℕ, ◌^◌, ◌≤◌, ◌<◌, ◌≡◌, ◌⊎◌, List, [], ◌∷◌, ◌++◌, length, ℤ}
+use Rattle.std.specs.Prelude.{ℕ, ◌^◌, ◌<◌, ◌≡◌, ◌⊎◌, Option, Some, None, List, [], ◌∷◌, ◌++◌, length, ℤ}
 use Rattle.ground.specs.Lists.{byte}
 use Rattle.page.specs.declared.Place.{Place}
 use Rattle.page.specs.Places.{InRange}
 use Rattle.commands.specs.Numbers.{Decimal, Integer}
 use Rattle.commands.specs.Codes.{Coded}
-use Rattle.commands.specs.declared.Spot.{Spot}
-use Rattle.commands.specs.declared.Spot.TheVariants.{At, Nowhere}
+use Rattle.commands.specs.declared.Verb.{Verb}
+use Rattle.commands.specs.declared.Verb.TheVariants.{Puts, Looks, Removes, Reports, Formats, Rows, Inspects}
 use Rattle.commands.specs.declared.Command.{Command}
 use Rattle.commands.specs.declared.Command.TheVariants.{Nothing, Unknown, Format, Put, Lookup, Remove, Count, Row, Listing, Check, Counts, Inspect, Report}
-
--- r is where w's first space stands, or w's length
-pub record FirstSpace (w : List ℕ) (r : ℕ) : Type 0 where
-  pub within : r ≤ length w
-  pub here : r < length w → byte w r ≡ 32
-  pub before : (k : ℕ) → k < r → byte w k ≡ 32 → ⊥
 
 -- no byte of w is a space
 abbrev pub Spaceless : List ℕ → Type 0
 Spaceless w = (k : ℕ) → k < length w → byte w k ≡ 32 → ⊥
+
+-- w is the word a, its first space, and b
+pub record Parted (w a b : List ℕ) : Type 0 where
+  pub line : w ≡ a ++ (32 ∷ b)
+  pub first : Spaceless a
 
 -- l is a word, a space, and a rest of which P holds
 pub record BehindWord (l word : List ℕ) (P : List ℕ → Type 0) : Type 0 where
@@ -37,9 +36,9 @@ pub record Placed (D : ℤ → List ℕ → Type 0) (p : Place) (w : List ℕ) :
   pub is_volume : D p.volume volume
 
 -- a text is read as a place, or as none
-abbrev pub Places : List ℕ → Spot → Type 0
-Places w (At p) = Placed Integer p w
-Places w Nowhere = (p : Place) → InRange p → Placed Integer p w → ⊥
+abbrev pub Places : List ℕ → Option Place → Type 0
+Places w (Some p) = Placed Integer p w
+Places w None = (p : Place) → InRange p → Placed Integer p w → ⊥
 
 -- w is a code, the first n bytes of k, and a place
 pub record Putting (k : List ℕ) (n : ℕ) (p : Place) (w : List ℕ) : Type 0 where
@@ -183,8 +182,13 @@ pub record Uncoded (w : List ℕ) : Type 0 where
   pub remove : w ≡ remove_word → ⊥
   pub report : w ≡ report_word → ⊥
 
--- a line that is to be obeyed, its first word w, the rest after a space; the word is none of those
-pub record Numberable (w rest : List ℕ) : Type 0 where
-  pub whole : Spaceless w
-  pub spoken : Spoken (w ++ (32 ∷ rest))
-  pub uncoded : Uncoded w
+-- what a word that stands before others asks for; it is the word of no command where that is none
+abbrev pub Begins : List ℕ → Option Verb → Type 0
+Begins w (Some (Puts m)) = PutBy w m
+Begins w (Some Looks) = w ≡ lookup_word
+Begins w (Some Removes) = w ≡ remove_word
+Begins w (Some Reports) = w ≡ report_word
+Begins w (Some Formats) = w ≡ format_word
+Begins w (Some Rows) = w ≡ row_word
+Begins w (Some Inspects) = w ≡ inspect_word
+Begins w None = Uncoded w × (w ≡ format_word → ⊥) × (w ≡ row_word → ⊥) × (w ≡ inspect_word → ⊥)

@@ -1,12 +1,8 @@
 -- Numbers as text: plain decimal, with - for negative ones. Assumes nothing.
-use Rattle.std.specs.Prelude.{ℕ, zero, suc, ◌+◌, ◌*◌, ◌-◌, ◌/◌, ◌^◌, ◌≤◌, ◌<◌, ◌≡◌, Bool, true, false, cond, List, ◌∷◌, ltb, length, ℤ, pos, neg_ℤ, nat_abs}
+use Rattle.std.specs.Prelude.{ℕ, zero, suc, ◌+◌, ◌*◌, ◌-◌, ◌/◌, ◌^◌, ◌≤◌, ◌<◌, ◌≡◌, Option, Some, None, Bool, true, false, cond, List, ◌∷◌, ltb, length, ℤ, pos, neg_ℤ, nat_abs}
 use Rattle.std.specs.Int.Signed.{mag, lt_z}
 use Rattle.ground.specs.Lists.{byte}
 use Rattle.io.specs.Digits.{last_digits as digits}
-use Rattle.commands.specs.declared.Number.{Number}
-use Rattle.commands.specs.declared.Number.TheVariants.{Is, Not}
-use Rattle.commands.specs.declared.Signed.{Signed}
-use Rattle.commands.specs.declared.Signed.TheVariants.{Of, Other}
 
 -- the number that the first k digits of w write
 unfoldable pub value : List ℕ → ℕ → ℕ
@@ -18,10 +14,10 @@ pub record Digit (b : ℕ) : Type 0 where
   pub least : 48 ≤ b
   pub most : b ≤ 57
 
--- d is what the digit b is worth, or 10 or more
-pub record Worth (b d : ℕ) : Type 0 where
-  pub one : d < 10 → b ≡ 48 + d
-  pub other : 10 ≤ d → Digit b → ⊥
+-- what the digit b is worth, or that it is none
+abbrev pub Worth : ℕ → Option ℕ → Type 0
+Worth b (Some d) = (b ≡ 48 + d) × (d < 10)
+Worth b None = Digit b → ⊥
 
 -- w is n in plain decimal
 pub record Decimal (n : ℕ) (w : List ℕ) : Type 0 where
@@ -39,9 +35,9 @@ unfoldable pub decimal : ℕ → List ℕ
 decimal n = digits 10 (width n n) n
 
 -- a word is read as a number of 64 bits, or it is none
-abbrev pub ReadsNumber : List ℕ → Number → Type 0
-ReadsNumber w (Is n) = Decimal n w
-ReadsNumber w Not = (n : ℕ) → n < 2 ^ 64 → Decimal n w → ⊥
+abbrev pub ReadsNumber : List ℕ → Option ℕ → Type 0
+ReadsNumber w (Some n) = Decimal n w
+ReadsNumber w None = (n : ℕ) → n < 2 ^ 64 → Decimal n w → ⊥
 
 -- n, or -n
 abbrev pub signed : Bool → ℕ → ℤ
@@ -67,6 +63,6 @@ abbrev pub integer : ℤ → List ℕ
 integer z = marked (lt_z z (pos 0)) (decimal (nat_abs z))
 
 -- a word is read as a number from -most - 1 to most
-abbrev pub ReadsSigned : List ℕ → ℕ → Signed → Type 0
-ReadsSigned w most (Of z) = Integer z w × (mag z ≤ most)
-ReadsSigned w most Other = (z : ℤ) → mag z ≤ most → Integer z w → ⊥
+abbrev pub ReadsSigned : List ℕ → ℕ → Option ℤ → Type 0
+ReadsSigned w most (Some z) = Integer z w × (mag z ≤ most)
+ReadsSigned w most None = (z : ℤ) → mag z ≤ most → Integer z w → ⊥

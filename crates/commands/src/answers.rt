@@ -1,18 +1,18 @@
 // Answers as lines of text, put together in a buffer.
 ghost use Rattle.std.specs.Prelude.{◌≡◌, true, [], ◌∷◌, ◌++◌, ◌+◌, ◌*◌, ◌≤◌, ◌<◌, length, take, drop, pos};
-ghost use Rattle.std.specs.Int.Signed.{lt_z, mag};
+ghost use Rattle.std.specs.Int.Signed.{mag};
 ghost use Rattle.io.specs.Digits.{last_digits};
 ghost use Rattle.store.specs.Tables.{meaning, refusal};
 ghost use Rattle.commands.specs.Answers.{Adds, Lines, because, faulty, numbered, placed, rowed, shows, why};
 ghost use Rattle.words.specs.Le.{bytes};
 ghost use Rattle.commands.specs.Codes.{escape, glyphs, shown, upper, Plain, PlainFrom};
-ghost use Rattle.commands.specs.Numbers.{decimal, integer, signed};
+ghost use Rattle.commands.specs.Numbers.{decimal, integer};
 ghost use Rattle.commands.specs.Numbers.{width as Numbers·width};
 ghost use Rattle.commands.specs.Texts.{text as Texts·text};
 
 use crate::Fault;
 use page::Place;
-use store::{Answer, Refusal};
+use store::{Answer, Done, Refusal};
 
 // A text goes to out at an index.
 pub fn add(out: &mut [u8], at: usize, text: &[u8]) -> usize
@@ -23,26 +23,14 @@ pub fn add(out: &mut [u8], at: usize, text: &[u8]) -> usize
     at + text.len()
 }
 
-// How many decimal digits a number has. Most numbers are short.
+// How many decimal digits a number has.
 fn width(n: u64) -> usize
     ensures { (result ≡ Numbers·width n n) × (result ≤ 20) }
 {
-    if n < 10 {
-        return 1;
+    match n.checked_ilog10() {
+        Some(k) => k as usize + 1,
+        None => 1,
     }
-    if n < 100 {
-        return 2;
-    }
-    if n < 1000 {
-        return 3;
-    }
-    let mut k = 4;
-    let mut rest = n / 1000;
-    while rest > 9 {
-        rest /= 10;
-        k += 1;
-    }
-    k
 }
 
 // The last k digits of a number go to out at an index.
@@ -50,11 +38,9 @@ fn spell(out: &mut [u8], at: usize, k: usize, n: u64)
     requires { at + k ≤ length out.old }
     ensures { Adds (last_digits 10 k n) out.old at out.new (at + k) }
 {
-    let mut i = k;
     let mut rest = n;
-    while i > 0 {
-        i -= 1;
-        out[at + i] = 48 + (rest % 10) as u8;
+    for i in (0..k).rev() {
+        out[at + i] = b'0' + (rest % 10) as u8;
         rest /= 10;
     }
 }
@@ -104,7 +90,7 @@ fn add_small(out: &mut [u8], at: usize, n: u64) -> usize
     ensures upper_bound { result ≤ at + 20 }
 {
     if n < 10 {
-        let text = [48 + n as u8];
+        let text = [b'0' + n as u8];
         return add(out, at, &text);
     }
     let d = four_digits(n);
@@ -131,43 +117,21 @@ fn wide16(z: i16) -> i64
     z as i64
 }
 
-fn size_of(z: i64) -> u64
-    requires { mag z < 2147483648 }
-    ensures { z ≡ signed (lt_z z (pos 0)) result }
-{
-    if z < 0 {
-        return (0 - z) as u64;
-    }
-    z as u64
-}
-
 // A number of any size, its sign before it.
-fn add_long(out: &mut [u8], at: usize, z: i64) -> usize
-    requires { (at + 21 ≤ length out.old) × (mag z < 2147483648) }
+pub fn add_signed(out: &mut [u8], at: usize, z: i64) -> usize
+    requires { at + 21 ≤ length out.old }
     ensures adds { Adds (integer z) out.old at out.new result }
     ensures upper_bound { result ≤ at + 21 }
 {
-    let n = size_of(z);
+    let n = z.unsigned_abs();
     if z < 0 {
         let next = add(out, at, b"-");
         return add_number(out, next, n);
     }
-    add_number(out, at, n)
-}
-
-// Both tests of a small number fall through to the same call, so that they become one.
-fn add_signed(out: &mut [u8], at: usize, z: i64) -> usize
-    requires { (at + 21 ≤ length out.old) × (mag z < 2147483648) }
-    ensures adds { Adds (integer z) out.old at out.new result }
-    ensures upper_bound { result ≤ at + 21 }
-{
-    if !(z < 0) {
-        if z < 10000 {
-            let n = size_of(z);
-            return add_small(out, at, n);
-        }
+    if n < 10000 {
+        return add_small(out, at, n);
     }
-    add_long(out, at, z)
+    add_number(out, at, n)
 }
 
 pub fn add_place(out: &mut [u8], at: usize, p: Place) -> usize
@@ -186,14 +150,14 @@ fn upper_digit(d: u8) -> u8
     requires { d < 16 }
     ensures { result ≡ upper d }
 {
-    if d < 10 { 48 + d } else { 55 + d }
+    if d < 10 { b'0' + d } else { 55 + d }
 }
 
 fn add_escaped(out: &mut [u8], at: usize, b: u8) -> usize
     requires { at + 3 ≤ length out.old }
     ensures { Adds (escape b) out.old at out.new result }
 {
-    let text = [37, upper_digit(b / 16), upper_digit(b % 16)];
+    let text = [b'%', upper_digit(b / 16), upper_digit(b % 16)];
     add(out, at, &text)
 }
 
@@ -201,17 +165,10 @@ fn add_byte(out: &mut [u8], at: usize, b: u8) -> usize
     requires { at + 3 ≤ length out.old }
     ensures { Adds (glyphs b) out.old at out.new result }
 {
-    if b < 33 {
-        return add_escaped(out, at, b);
+    if matches!(b, b'!'..=b'~') && b != b'%' {
+        return add(out, at, &[b]);
     }
-    if b > 126 {
-        return add_escaped(out, at, b);
-    }
-    if b == 37 {
-        return add_escaped(out, at, b);
-    }
-    let text = [b];
-    add(out, at, &text)
+    add_escaped(out, at, b)
 }
 
 // A code byte by byte.
@@ -221,10 +178,8 @@ fn add_bytes(out: &mut [u8], at: usize, code: &[u8]) -> usize
     ensures upper_bound { result ≤ at + 3 * length code.now }
 {
     let mut r = at;
-    let mut i = 0;
-    while i < code.len() {
-        r = add_byte(out, r, code[i]);
-        i += 1;
+    for b in code {
+        r = add_byte(out, r, *b);
     }
     r
 }
@@ -403,14 +358,14 @@ fn answer_text(out: &mut [u8], code: &[u8], number: usize, a: Answer) -> usize
     ensures upper_bound { result ≤ 127 + 3 * length code.now }
 {
     match a {
-        Answer::Refused(r) => refusal_text(out, number, r),
-        Answer::Formatted => add(out, 0, b"ok"),
-        Answer::Accepted => add(out, 0, b"accepted"),
-        Answer::New => add(out, 0, b"new"),
-        Answer::Replaced(p) => replaced_text(out, p),
-        Answer::Found(p) => add_place(out, 0, p),
-        Answer::Rows(n) => add_number(out, 0, n as u64),
-        Answer::RowOf(n, p) => row_part(out, code, n, p),
+        Err(r) => refusal_text(out, number, r),
+        Ok(Done::Formatted) => add(out, 0, b"ok"),
+        Ok(Done::Accepted) => add(out, 0, b"accepted"),
+        Ok(Done::New) => add(out, 0, b"new"),
+        Ok(Done::Replaced(p)) => replaced_text(out, p),
+        Ok(Done::Found(p)) => add_place(out, 0, p),
+        Ok(Done::Rows(n)) => add_number(out, 0, n as u64),
+        Ok(Done::RowOf(n, p)) => row_part(out, code, n, p),
     }
 }
 

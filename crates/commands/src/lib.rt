@@ -11,7 +11,7 @@ mod sums;
 pub use answers::{answer_line, fault_line, number_line, row_line};
 pub use lines::parse;
 use page::Place;
-pub use sheet::sheet_line;
+pub use sheet::{is_blank, sheet_line};
 pub use sums::{
     amount_line, bad_row_line, no_row_line, not_there_line, rows_line, rows_sum_line, sum_line,
     unread_line,
@@ -59,34 +59,21 @@ pub enum Fault {
     Room,
 }
 
-#[derive(Clone, Copy)]
-enum Number {
-    Is(usize),
-    Not,
-}
-
-#[derive(Clone, Copy)]
-enum Signed {
-    Of(i64),
-    Other,
-}
-
-// One byte of a code, and how many bytes of text wrote it; 0 where none did.
+// One byte of a code, and how many bytes of text wrote it.
 #[derive(Clone, Copy)]
 struct Glyph {
     byte: u8,
     size: usize,
 }
 
-// The length of a code, or no code.
+// What a word asks for that stands before others; a put has the mode that its word stands for.
 #[derive(Clone, Copy)]
-enum Decoded {
-    Code(usize),
-    Wrong,
-}
-
-#[derive(Clone, Copy)]
-enum Spot {
-    At(Place),
-    Nowhere,
+enum Verb {
+    Puts(u64),
+    Looks,
+    Removes,
+    Reports,
+    Formats,
+    Rows,
+    Inspects,
 }

@@ -2,45 +2,29 @@
 ghost use Rattle.std.specs.Prelude.{◌≡◌, ◌≤◌, ◌<◌, ◌^◌, pos, neg_ℤ};
 ghost use Rattle.commands.specs.Numbers.{ReadsNumber, ReadsSigned, Worth};
 
-use crate::{Number, Signed};
-
-// What a digit is worth; 10 for any other byte.
-fn digit(b: u8) -> usize
+// What a digit is worth.
+fn digit(b: u8) -> Option<usize>
     ensures { Worth b result }
 {
-    if b < 48 {
-        return 10;
+    match b {
+        b'0'..=b'9' => Some((b - b'0') as usize),
+        _ => None,
     }
-    if b > 57 {
-        return 10;
-    }
-    b as usize - 48
 }
 
 // The number that a word writes, if 64 bits hold it.
-pub fn read_number(w: &[u8]) -> Number
+pub fn read_number(w: &[u8]) -> Option<usize>
     ensures { ReadsNumber w.now result }
 {
+    if w.is_empty() {
+        return None;
+    }
     let mut n: usize = 0;
-    let mut i = 0;
-    while i < w.len() {
-        let d = digit(w[i]);
-        if d > 9 {
-            return Number::Not;
-        }
-        if n > 1844674407370955161 {
-            return Number::Not;
-        }
-        if d > 18446744073709551615 - n * 10 {
-            return Number::Not;
-        }
-        n = n * 10 + d;
-        i += 1;
+    for b in w {
+        let d = digit(*b)?;
+        n = n.checked_mul(10)?.checked_add(d)?;
     }
-    if i == 0 {
-        return Number::Not;
-    }
-    Number::Is(n)
+    Some(n)
 }
 
 fn plus(n: usize) -> i64
@@ -54,34 +38,19 @@ fn minus(n: usize) -> i64
     requires { n ≤ 2 ^ 63 }
     ensures { result ≡ neg_ℤ (pos n) }
 {
-    if n == 0 {
-        return 0;
-    }
-    -1 - plus(n - 1)
+    // Stays: the size of the least number is none of i64, so that there is nothing to negate.
+    if n == 0 { 0 } else { -1 - plus(n - 1) }
 }
 
 // The number from -most - 1 to most that a word writes.
-pub fn read_signed(w: &[u8], most: usize) -> Signed
+pub fn read_signed(w: &[u8], most: usize) -> Option<i64>
     requires { most < 2 ^ 63 }
     ensures { ReadsSigned w.now most result }
 {
-    if w.len() == 0 {
-        return Signed::Other;
+    if let [b'-', digits @ ..] = w {
+        let n = read_number(digits)?;
+        return if n > most + 1 { None } else { Some(minus(n)) };
     }
-    if w[0] == 45 {
-        let Number::Is(n) = read_number(&w[1..]) else {
-            return Signed::Other;
-        };
-        if n > most + 1 {
-            return Signed::Other;
-        }
-        return Signed::Of(minus(n));
-    }
-    let Number::Is(n) = read_number(w) else {
-        return Signed::Other;
-    };
-    if n > most {
-        return Signed::Other;
-    }
-    Signed::Of(plus(n))
+    let n = read_number(w)?;
+    if n > most { None } else { Some(plus(n)) }
 }

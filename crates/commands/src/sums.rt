@@ -1,32 +1,11 @@
 // The lines of a report: a place with an amount, the sums, and why a sheet is refused.
-ghost use Rattle.std.specs.Prelude.{◌≡◌, true, [], ◌∷◌, ◌++◌, ◌+◌, ◌≤◌, pos, length};
-ghost use Rattle.std.specs.Int.Signed.{lt_z};
+ghost use Rattle.std.specs.Prelude.{◌≡◌, [], ◌∷◌, ◌++◌, ◌+◌, ◌≤◌, length};
 ghost use Rattle.commands.specs.Answers.{Adds, Lines};
-ghost use Rattle.commands.specs.Numbers.{integer, signed};
+ghost use Rattle.commands.specs.Numbers.{integer};
 ghost use Rattle.commands.specs.Sums.{amounted, bad_row, many_rows, many_with, no_row, not_there, unreadable};
 
-use super::answers::{add, add_because, add_number, add_place};
+use super::answers::{add, add_because, add_number, add_place, add_signed};
 use page::Place;
-
-// The digits of a negative amount: any of 64 bits.
-fn size_below(z: i64) -> u64
-    requires { lt_z z (pos 0) ≡ true }
-    ensures { z ≡ signed true result }
-{
-    (-1 - z) as u64 + 1
-}
-
-fn add_cents(out: &mut [u8], at: usize, z: i64) -> usize
-    requires { at + 21 ≤ length out.old }
-    ensures adds { Adds (integer z) out.old at out.new result }
-    ensures upper_bound { result ≤ at + 21 }
-{
-    if z < 0 {
-        let next = add(out, at, b"-");
-        return add_number(out, next, size_below(z));
-    }
-    add_number(out, at, z as u64)
-}
 
 // A word and a space.
 fn begin(word: &[u8], out: &mut [u8]) -> usize
@@ -46,7 +25,7 @@ pub fn amount_line(word: &[u8], p: Place, z: i64, out: &mut [u8]) -> usize
     let a = begin(word, out);
     let b = add_place(out, a, p);
     let c = add(out, b, b" ");
-    let d = add_cents(out, c, z);
+    let d = add_signed(out, c, z);
     add(out, d, b"\n")
 }
 
@@ -56,7 +35,7 @@ pub fn sum_line(word: &[u8], z: i64, out: &mut [u8]) -> usize
     ensures { Lines (word.now ++ (32 ∷ integer z)) out.new result }
 {
     let a = begin(word, out);
-    let b = add_cents(out, a, z);
+    let b = add_signed(out, a, z);
     add(out, b, b"\n")
 }
 
@@ -79,7 +58,7 @@ pub fn rows_sum_line(word: &[u8], n: usize, z: i64, out: &mut [u8]) -> usize
     let a = begin(word, out);
     let b = add_number(out, a, n as u64);
     let c = add(out, b, b" rows ");
-    let d = add_cents(out, c, z);
+    let d = add_signed(out, c, z);
     add(out, d, b"\n")
 }
 

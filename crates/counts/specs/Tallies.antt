@@ -2,7 +2,6 @@
 use Rattle.std.specs.Prelude.{◌≡◌, List, ◌⊎◌, ℕ, suc, ◌+◌, ◌-◌, ◌*◌, ◌≤◌, ◌<◌, length, get_or, set}
 use Rattle.ground.specs.Lists.{tab}
 use Rattle.words.specs.Le.{le32}
-use Rattle.words.specs.Zeros.{Zero}
 use Rattle.words.specs.Moves.{Frame, Put32}
 use Rattle.partition.specs.declared.Shape.{Shape}
 use Rattle.store.specs.Pages.{size, page, read, Page, depth_on, contents}
@@ -29,14 +28,12 @@ pub record Tallying (S : Shape) (s : List ℕ) (p : ℕ) (tallies : List ℕ) : 
   pub shallow : depth_on (read (page S s p)) ≤ 12
   pub before : TalliedTo S s p tallies
 
--- a store of n pages, none deeper than 12, and an array of zeros
-pub record Tallyable (S : Shape) (s : List ℕ) (n : ℕ) (tallies : List ℕ) : Type 0 where
+-- a store of n pages, none deeper than 12
+pub record Tallyable (S : Shape) (s : List ℕ) (n : ℕ) : Type 0 where
   pub long : length s ≡ n * size S
   pub least : 2 ≤ n
   pub most : n ≤ 4098
   pub shallow : (p : ℕ) → 2 ≤ p → p < n → depth_on (read (page S s p)) ≤ 12
-  pub fourteen : length tallies ≡ 14
-  pub zero : Zero tallies
 
 -- the counts in page 0 are those of the array
 abbrev pub SameCounts : List ℕ → List ℕ → Type 0
@@ -52,10 +49,9 @@ pub record BucketsCounted (gs : List Page) (tallies : List ℕ) : Type 0 where
   pub long : length tallies ≡ 14
   pub each : (k : ℕ) → k ≤ 12 → get_or tallies (suc k) 0 ≡ buckets_at k gs
 
--- page 0 has room for its counts, the array is one, and so many rows can be counted
-pub record CountsDue (s tallies : List ℕ) (rows : ℕ) : Type 0 where
+-- page 0 has room for its counts, and so many rows can be counted
+pub record CountsDue (s : List ℕ) (rows : ℕ) : Type 0 where
   pub room : 80 ≤ length s
-  pub fourteen : length tallies ≡ 14
   pub few : rows < 4294967296
 
 -- t is s with that many rows and the array's counts of buckets in page 0

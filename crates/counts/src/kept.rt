@@ -16,14 +16,12 @@ pub fn deepest_counted(s: &[u8], most: usize) -> usize
     requires { (80 ≤ length s.now) × (most ≤ 12) }
     ensures { DeepestCounted s.now most result }
 {
-    let mut k = most;
-    while 0 < k {
+    for k in (1..=most).rev() {
         if words::get32(s, 28 + 4 * k) != 0 {
             return k;
         }
-        k -= 1;
     }
-    k
+    0
 }
 
 // Count j is one more.

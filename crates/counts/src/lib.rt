@@ -6,5 +6,5 @@ mod tallies;
 
 pub use kept::{deepest_counted, lower, raise, rows_counted};
 pub use tallies::{
-    are_counts, count_down, count_up, read_counts, tally, write_counted, write_counts,
+    Tallies, are_counts, count_down, count_up, read_counts, tally, write_counted, write_counts,
 };

@@ -6,16 +6,15 @@ ghost use Rattle.store.specs.Demands.{Sized};
 ghost use Rattle.directory.specs.Directory.{RunSet, Runnable, Namable, PrefixNamed, PageNamed, PageOf, Directable, Directed, Settling, SettleDue, Recounted};
 
 use partition::Shape;
+use std::ops::Range;
 
-// The entries from a up to b name page p.
-fn set_run(s: &mut [u8], z: Shape, a: usize, b: usize, p: usize)
-    requires { Sized z × Runnable z s.old a b p }
-    ensures { RunSet z s.old a b p s.new }
+// The entries of a run name page p.
+fn set_run(s: &mut [u8], z: Shape, run: Range<usize>, p: usize)
+    requires { Sized z × Runnable z s.old run.start run.end p }
+    ensures { RunSet z s.old run.start run.end p s.new }
 {
-    let mut i = a;
-    while i < b {
-        words::put32(s, 8 + z.capacity + 4 * i, p);
-        i += 1;
+    for i in run {
+        words::put32(s, z.size() + 4 * i, p);
     }
 }
 
@@ -24,8 +23,7 @@ pub fn name_prefix(s: &mut [u8], z: Shape, x: u32, k: u32, d: u32, p: usize)
     requires { Sized z × Namable z s.old d k p }
     ensures { PrefixNamed z s.old d k (top k x) p s.new }
 {
-    let r = partition::run_of(x, k, d);
-    set_run(s, z, r.from, r.to, p);
+    set_run(s, z, partition::run_of(x, k, d), p);
 }
 
 // The entries that page p calls for name it.
@@ -33,12 +31,11 @@ fn name_page(s: &mut [u8], z: Shape, p: usize, d: u32)
     requires { Sized z × PageOf z s.old d p }
     ensures { PageNamed z fnv s.old d p s.new }
 {
-    let size = 8 + z.capacity;
+    let size = z.size();
     let a = p * size;
-    let e = a + size;
     if s[a] == 1 {
         let k = s[a + 1] as u32;
-        let x = page_check::hash_slot(&s[a..e], 0);
+        let x = page_check::hash_slot(&s[a..a + size], 0);
         name_prefix(s, z, x, k, d, p);
     }
 }
@@ -49,12 +46,10 @@ fn write_directory(s: &mut [u8], z: Shape, n: usize, d: u32)
     ensures { Directed z fnv s.old d n s.new }
 {
     words::put32(s, 16, d as usize);
-    let size = 8 + z.capacity;
+    let size = z.size();
     words::clear(s, size, 2 * size);
-    let mut p = 2;
-    while p < n {
+    for p in 2..n {
         name_page(s, z, p, d);
-        p += 1;
     }
 }
 
@@ -63,8 +58,7 @@ pub fn recount(s: &mut [u8], z: Shape, n: usize)
     requires { Sized z × Settling z s.old n }
     ensures { Recounted z s.old s.new }
 {
-    let mut tallies = [0u32; 14];
-    counts::tally(s, z, n, &mut tallies);
+    let tallies = counts::tally(s, z, n);
     counts::write_counts(s, &tallies);
 }
 

@@ -21,14 +21,14 @@ fn format_pages(s: &mut [u8], z: Shape) -> store::Answer
 {
     let size = 8 + z.capacity;
     if s.len() % size != 0 {
-        return store::Answer::Refused(store::Refusal::BadLength);
+        return Err(store::Refusal::BadLength);
     }
     let n = s.len() / size;
     if n < 3 {
-        return store::Answer::Refused(store::Refusal::BadLength);
+        return Err(store::Refusal::BadLength);
     }
     if z.entries + 2 < n {
-        return store::Answer::Refused(store::Refusal::BadLength);
+        return Err(store::Refusal::BadLength);
     }
     let len = s.len();
     words::clear(s, 0, len);
@@ -37,20 +37,14 @@ fn format_pages(s: &mut [u8], z: Shape) -> store::Answer
     words::put32(s, 8, z.entries);
     words::put32(s, 12, 2 * size);
     words::put32(s, 20, partition::size_number(z));
-    store::Answer::Formatted
+    Ok(store::Done::Formatted)
 }
 
 // Whether a page size is one of the three.
 fn is_page_size(n: usize) -> bool
     ensures { Says result (PageSize n) }
 {
-    if n == 1024 {
-        return true;
-    }
-    if n == 4096 {
-        return true;
-    }
-    n == 16384
+    matches!(n, 1024 | 4096 | 16384)
 }
 
 // A store without rows, of the page size that is given.
@@ -58,7 +52,7 @@ pub fn format(s: &mut [u8], size: usize) -> store::Answer
     ensures { Answers (format_sized size s.old) (meaning result, s.new) }
 {
     if !is_page_size(size) {
-        return store::Answer::Refused(store::Refusal::BadLength);
+        return Err(store::Refusal::BadLength);
     }
     format_pages(s, partition::shape_for(size))
 }

@@ -10,6 +10,7 @@ pub fn lowest_free(s: &[u8], z: Shape) -> usize
     requires { 0 < frees (contents z s.now) }
     ensures { (result ≡ 2 + find is_free (contents z s.now)) × (result < pages z s.now) }
 {
+    // Stays: a free page is there (the requires), so the search needs no end; a range's find would hand out an Option that is never None.
     let mut p = 2;
     while s[p * (8 + z.capacity)] != 0 {
         p += 1;
@@ -23,15 +24,13 @@ pub fn free_pages(s: &[u8], z: Shape, n: usize, most: usize) -> usize
     ensures { (result ≡ min most (frees (contents z s.now))) × (result ≤ n) }
 {
     let mut many = 0;
-    let mut p = 2;
-    while p < n {
+    for p in 2..n {
         if many == most {
             return many;
         }
         if s[p * (8 + z.capacity)] == 0 {
             many += 1;
         }
-        p += 1;
     }
     many
 }

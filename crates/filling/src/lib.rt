@@ -7,21 +7,17 @@ ghost use Rattle.partition.specs.Sizes.{shape_of};
 ghost use Rattle.store.specs.Tables.{meaning};
 ghost use Rattle.filling.specs.Filling.{fill_table};
 
-use store::{Answer, Refusal};
-use store_check::Length;
+use store::{Answer, Done, Refusal};
 
 // The counts of page 0, from the pages. A store that has them already breaks the old rules, unless it has no rows.
 pub fn fill_counts(s: &mut [u8]) -> Answer
     ensures { Answers (fill_table (shape_of s.old) fnv s.old) (meaning result, s.new) }
 {
-    let Length::Of(z) = store_check::said_shape(s) else {
-        return Answer::Refused(Refusal::BadLength);
-    };
-    let n = s.len() / (8 + z.capacity);
-    let p = store_check::first_bad_before(s, z);
-    if p < n {
-        return Answer::Refused(Refusal::BadPage(p));
+    let z = store_check::said_shape(s)?;
+    if let Some(p) = store_check::first_bad_before(s, z) {
+        return Err(Refusal::BadPage(p));
     }
+    let n = s.len() / (8 + z.capacity);
     directory::recount(s, z, n);
-    Answer::Formatted
+    Ok(Done::Formatted)
 }

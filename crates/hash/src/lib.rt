@@ -28,114 +28,65 @@ fn step(h: u32, b: u8) -> u32
     wrapping_mul(h ^ (b as u32), 16777619)
 }
 
-// Two bytes from i on, taken in.
-fn two(h: u32, s: &[u8], i: usize) -> u32
-    requires { i + 2 ≤ length s.now }
-    ensures { result ≡ each h (take 2 (drop i s.now)) }
+// The N bytes from i on, taken in.
+fn block<const N: usize>(h: u32, s: &[u8], i: usize) -> u32
+    requires { i + N ≤ length s.now }
+    ensures { result ≡ each h (take N (drop i s.now)) }
 {
-    let a = step(h, s[i]);
-    step(a, s[i + 1])
-}
-
-// Four bytes from i on, taken in.
-fn four(h: u32, s: &[u8], i: usize) -> u32
-    requires { i + 4 ≤ length s.now }
-    ensures { result ≡ each h (take 4 (drop i s.now)) }
-{
-    let a = two(h, s, i);
-    two(a, s, i + 2)
-}
-
-// Eight bytes from i on, taken in.
-fn eight(h: u32, s: &[u8], i: usize) -> u32
-    requires { i + 8 ≤ length s.now }
-    ensures { result ≡ each h (take 8 (drop i s.now)) }
-{
-    let a = four(h, s, i);
-    four(a, s, i + 4)
-}
-
-// Sixteen bytes from i on, taken in.
-fn sixteen(h: u32, s: &[u8], i: usize) -> u32
-    requires { i + 16 ≤ length s.now }
-    ensures { result ≡ each h (take 16 (drop i s.now)) }
-{
-    let a = eight(h, s, i);
-    eight(a, s, i + 8)
-}
-
-// What is left of n bytes once a multiple of two is taken in: none or one, from i on.
-fn last_one(h: u32, s: &[u8], i: usize, n: usize) -> u32
-    requires { i + n % 2 ≤ length s.now }
-    ensures { result ≡ each h (take (n % 2) (drop i s.now)) }
-{
-    if n % 2 == 0 {
-        return h;
+    let mut x = h;
+    for &b in &s[i..i + N] {
+        x = step(x, b);
     }
-    step(h, s[i])
+    x
 }
 
-// The bytes from i on that n has over a multiple of four, taken in: fewer than four.
-fn last_three(h: u32, s: &[u8], i: usize, n: usize) -> u32
-    requires { i + n % 4 ≤ length s.now }
-    ensures { result ≡ each h (take (n % 4) (drop i s.now)) }
+// The N bytes from i on, where n has them past a multiple of 2 N, taken in; and where the next begin.
+fn odd<const N: usize>(h: u32, s: &[u8], i: usize, n: usize) -> (u32, usize)
+    requires { (1 ≤ N) × (i + n / N % 2 * N ≤ length s.now) }
+    ensures { (result.0 ≡ each h (take (n / N % 2 * N) (drop i s.now))) × (result.1 ≡ i + n / N % 2 * N) }
 {
-    if n % 4 < 2 {
-        return last_one(h, s, i, n);
+    if n / N % 2 == 0 {
+        return (h, i);
     }
-    let a = two(h, s, i);
-    last_one(a, s, i + 2, n)
-}
-
-// The bytes from i on that n has over a multiple of eight, taken in: fewer than eight.
-fn last_seven(h: u32, s: &[u8], i: usize, n: usize) -> u32
-    requires { i + n % 8 ≤ length s.now }
-    ensures { result ≡ each h (take (n % 8) (drop i s.now)) }
-{
-    if n % 8 < 4 {
-        return last_three(h, s, i, n);
-    }
-    let a = four(h, s, i);
-    last_three(a, s, i + 4, n)
+    (block::<N>(h, s, i), i + N)
 }
 
 // The bytes from i on that n has over a multiple of sixteen, taken in: fewer than sixteen.
-fn last_fifteen(h: u32, s: &[u8], i: usize, n: usize) -> u32
+fn rest(h: u32, s: &[u8], i: usize, n: usize) -> u32
     requires { i + n % 16 ≤ length s.now }
     ensures { result ≡ each h (take (n % 16) (drop i s.now)) }
 {
-    if n % 16 < 8 {
-        return last_seven(h, s, i, n);
-    }
-    let a = eight(h, s, i);
-    last_seven(a, s, i + 8, n)
+    let (w, j) = odd::<8>(h, s, i, n);
+    let (x, k) = odd::<4>(w, s, j, n);
+    let (y, l) = odd::<2>(x, s, k, n);
+    let (z, _) = odd::<1>(y, s, l, n);
+    z
 }
 
-// The eight bytes from i on, where n has them past a multiple of sixteen, taken in.
-fn odd_eight(h: u32, s: &[u8], i: usize, n: usize) -> u32
-    requires { i + n % 16 / 8 * 8 ≤ length s.now }
-    ensures { result ≡ each h (take (n % 16 / 8 * 8) (drop i s.now)) }
+// The bytes from `from` up to `to`, taken in: sixteen at a time, since a turn of a loop costs as much as a byte, then the odd ones.
+fn take_in(h: u32, s: &[u8], from: usize, to: usize) -> u32
+    requires { PartOf s.now from to }
+    ensures { result ≡ each h (take (to - from) (drop from s.now)) }
 {
-    if n % 16 < 8 {
-        return h;
+    let n = to - from;
+    let mut x = h;
+    for k in 0..n / 16 {
+        x = block::<16>(x, s, from + 16 * k);
     }
-    eight(h, s, i)
+    rest(x, s, from + n / 16 * 16, n)
 }
 
-// The hash of any bytes, of any length: sixteen at a time, since a turn of a loop costs as much as a byte, then the odd ones.
+// The hash of any bytes, of any length: sixteen at a time, then the odd ones.
 pub fn hash(code: &[u8]) -> u32
     ensures { result ≡ fnv code.now }
 {
+    // Stays: as a call of take_in it is six instructions more.
     let n = code.len();
-    let e = n / 16 * 16;
-    let mut i = 0;
     let mut h = 2166136261;
-    while i < e {
-        h = sixteen(h, code, i);
-        i += 16;
+    for k in 0..n / 16 {
+        h = block::<16>(h, code, 16 * k);
     }
-    let y = odd_eight(h, code, e, n);
-    last_seven(y, code, e + n % 16 / 8 * 8, n)
+    rest(h, code, n / 16 * 16, n)
 }
 
 // The hash of the bytes from `from` up to `to`, where they lie. Its body is its own: called at one place, in a loop over the codes of a page, it becomes a part of
@@ -144,37 +95,12 @@ pub fn hash_part(s: &[u8], from: usize, to: usize) -> u32
     requires { PartOf s.now from to }
     ensures { result ≡ fnv (take (to - from) (drop from s.now)) }
 {
-    let mut i = from;
-    let mut x = 2166136261;
-    while i + 16 <= to {
-        x = sixteen(x, s, i);
-        i += 16;
+    let n = to - from;
+    let mut y = 2166136261;
+    for k in 0..n / 16 {
+        y = block::<16>(y, s, from + 16 * k);
     }
-    last_fifteen(x, s, i, to - from)
-}
-
-// The bytes from `from` up to `to`, taken in: eight at a time, then the odd ones.
-fn take_in(h: u32, s: &[u8], from: usize, to: usize) -> u32
-    requires { PartOf s.now from to }
-    ensures { result ≡ each h (take (to - from) (drop from s.now)) }
-{
-    let mut i = from;
-    let mut x = h;
-    while i + 8 <= to {
-        x = eight(x, s, i);
-        i += 8;
-    }
-    last_seven(x, s, i, to - from)
-}
-
-// The lesser of two lengths.
-fn shorter(x: usize, y: usize) -> usize
-    ensures { (result ≤ x) × (result ≤ y) }
-{
-    if x < y {
-        return x;
-    }
-    y
+    rest(y, s, from + n / 16 * 16, n)
 }
 
 // The hashes of two parts, from a up to b and from c up to d, side by side as long as both go on: a byte waits for the product of the one before it, and meanwhile
@@ -183,17 +109,15 @@ pub fn hash_two(s: &[u8], a: usize, b: usize, c: usize, d: usize) -> Hashes
     requires { PartOf s.now a b × PartOf s.now c d }
     ensures { (result.first ≡ fnv (take (b - a) (drop a s.now))) × (result.second ≡ fnv (take (d - c) (drop c s.now))) }
 {
-    let e = a + shorter(b - a, d - c);
-    let mut i = a;
-    let mut j = c;
+    let turns = (b - a).min(d - c) / 16;
     let mut x = 2166136261;
     let mut y = 2166136261;
-    while i + 16 <= e {
-        x = sixteen(x, s, i);
-        y = sixteen(y, s, j);
-        i += 16;
-        j += 16;
+    for k in 0..turns {
+        x = block::<16>(x, s, a + 16 * k);
+        y = block::<16>(y, s, c + 16 * k);
     }
+    let i = a + 16 * turns;
+    let j = c + 16 * turns;
     // what has no rest is not worth a call
     Hashes {
         first: if i == b { x } else { take_in(x, s, i, b) },

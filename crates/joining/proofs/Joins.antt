@@ -3,11 +3,11 @@ use mathlib.Core.Path.{◌≡◌, refl, sym, ap, subst, subst₂, ◌∙◌}
 use mathlib.Core.Bool.{true}
 use mathlib.Core.Logic.{⊎_elim}
 use mathlib.Core.List.{List, [], ◌∷◌, ◌++◌, map}
-use Prim.Native.Nat.{ℕ, zero, suc, ◌+◌, ◌-◌, ◌*◌, ◌/◌, ◌≤◌, ◌<◌}
+use Prim.Native.Nat.{ℕ, suc, ◌+◌, ◌-◌, ◌*◌, ◌/◌, ◌≤◌, ◌<◌}
 use native.Mathlib.Omega.{arith}
 use native.Mathlib.Nat.{mul-le-mul_right}
 use native.Mathlib.Decide.{ℕ_discrete}
-use lib.ListN.{length, get_or, set, take, drop, replicate}
+use lib.ListN.{length, get_or, set, replicate}
 use Rattle.ground.specs.Lists.{tab}
 use Rattle.ground.proofs.Sides.{side}
 use Rattle.page.specs.Page.{BucketPage, count, depth, row_at}
@@ -32,15 +32,6 @@ use Rattle.directory.specs.Directory.{SoundPage, used}
 use Rattle.joining.specs.Join.{Housed, Taking, Gathered, rows_at, others_in, is_of, Emptied, Joinable, Rejoined}
 use Rattle.joining.proofs.Prefixes.{many, page_at, listed}
 use Rattle.joining.proofs.Empties.{emptied_sound, emptied_holds}
-
--- the first n of the zeros that are lent are n zeros
-pub lent_blank : (m n : ℕ) → n ≤ m → take {A = ℕ} (n - 0) (drop 0 (replicate m 0)) ≡ replicate n 0
-lent_blank m n b = let e : n - 0 ≡ n = omega arith in ap (λ k. take {A = ℕ} k (replicate m 0)) e ∙ go m n b
-  where
-    go : (m n : ℕ) → n ≤ m → take {A = ℕ} n (replicate m 0) ≡ replicate n 0
-    go m zero b = refl
-    go zero (suc n) b = absurd (omega arith)
-    go (suc m) (suc n) b = ap {B = List ℕ} (λ l. 0 ∷ l) (go m n (omega arith))
 
 no_rows : (g : List ℕ) → count g ≡ 0 → rows_at g ≡ []
 unfolding tab

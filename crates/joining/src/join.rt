@@ -10,20 +10,15 @@ ghost use Rattle.joining.specs.Join.{Taking, Gathered, Storable, row_with, rows_
 ghost use Rattle.joining.specs.Join.{Used, Emptied, JoinCounted, Rejoined};
 ghost use Rattle.counts.specs.Tallies.{BucketsCounted};
 
-use page::Found;
 use partition::Shape;
-use words::Order;
 
 // A new row goes to a page at the frontier, its slot in code order.
 fn gather_row(to: &mut [u8], key: &[u8], place: &[u8])
     requires { Storable key.now place.now × Taking to.old (row_with key.now place.now ∷ []) }
     ensures { Gathered to.old (row_with key.now place.now ∷ []) to.new }
 {
-    match page::find_code(to, key) {
-        Found::At(_) => {}
-        Found::Absent(i) => {
-            page::insert_at_frontier(to, i, key, place);
-        }
+    if let Err(i) = page::find_code(to, key) {
+        page::insert_at_frontier(to, i, key, place);
     }
 }
 
@@ -32,11 +27,7 @@ fn has_code(from: &[u8], i: usize, key: &[u8]) -> bool
     requires { Slotted from.now × (i < count from.now) }
     ensures { Says result (code from.now i ≡ key.now) }
 {
-    match page::compare_slot(from, i, key) {
-        Order::Less => false,
-        Order::Equal => true,
-        Order::Greater => false,
-    }
+    page::compare_slot(from, i, key).is_eq()
 }
 
 // Slot i's row goes to a page, if its code is another.
@@ -54,11 +45,8 @@ fn add_rows(to: &mut [u8], from: &[u8], key: &[u8])
     requires { Slotted from.now × Taking to.old (others key.now (rows_at from.now)) }
     ensures { Gathered to.old (others key.now (rows_at from.now)) to.new }
 {
-    let n = words::get16(from, 2);
-    let mut i = 0;
-    while i < n {
+    for i in 0..words::get16(from, 2) {
         add_other(to, from, i, key);
-        i += 1;
     }
 }
 
@@ -92,16 +80,13 @@ fn take_page(
     ensures counted { BucketsCounted (contents z s.new) tallies.new }
     ensures lowest { result ≡ min low p }
 {
-    let size = 8 + z.capacity;
+    let size = z.size();
     let start = p * size;
     let end = start + size;
     counts::count_down(tallies, 1 + s[start + 1] as usize);
     add_rows(to, &s[start..end], key);
     page::clear_page(&mut s[start..end]);
-    if low < p {
-        return low;
-    }
-    p
+    low.min(p)
 }
 
 // The rows of another code on the pages of the prefix of j bits of x go to another page, and these pages are cleared and no longer counted: entry after entry of the prefix's run, so that no other page is looked at. The lowest-numbered of them.
@@ -122,13 +107,9 @@ fn gather(
     ensures lowest { result ≡ 2 + find (within fnv j (top j x)) (contents z s.old) }
 {
     let d = words::get32(s, 16) as u32;
-    let run = partition::run_of(x, j, d);
-    let end = run.to;
-    let mut i = run.from;
     let mut low = n;
-    while i < end {
-        let p = words::get32(s, 8 + z.capacity + 4 * i);
-        i += 1;
+    for i in partition::run_of(x, j, d) {
+        let p = words::get32(s, z.size() + 4 * i);
         if is_used(s, z, p) {
             low = take_page(to, s, z, p, key, low, tallies);
         }
@@ -153,12 +134,29 @@ fn join(
 {
     page::new_page(scratch, j as u8);
     let low = gather(scratch, s, z, n, x, j, key, tallies);
-    let size = 8 + z.capacity;
+    let size = z.size();
     let start = low * size;
-    let end = start + size;
-    page::pack_into(&mut s[start..end], scratch);
+    page::pack_into(&mut s[start..start + size], scratch);
     counts::count_up(tallies, 1 + j as usize);
     low
+}
+
+// The rows of a prefix joined, with a page lent out of N bytes.
+fn join_with<const N: usize>(
+    s: &mut [u8],
+    z: Shape,
+    n: usize,
+    x: u32,
+    j: u32,
+    key: &[u8],
+    tallies: &mut [u32],
+) -> usize
+    requires { (size_of z ≤ N) × (N ≤ 16384) × JoinCounted z fnv s.old n x j key.now tallies.old }
+    ensures joined { Rejoined z fnv s.old n j (top j x) key.now result s.new }
+    ensures counted { BucketsCounted (contents z s.new) tallies.new }
+{
+    let mut scratch = [0u8; N];
+    join(s, z, n, x, j, key, tallies, &mut scratch[..z.size()])
 }
 
 // The rows of a prefix joined, with a page lent by the size, so that a small one pays for no more.
@@ -175,15 +173,12 @@ pub fn join_lent(
     ensures joined { Rejoined z fnv s.old n j (top j x) key.now result s.new }
     ensures counted { BucketsCounted (contents z s.new) tallies.new }
 {
-    let size = 8 + z.capacity;
+    let size = z.size();
     if size <= 1024 {
-        let mut scratch = [0u8; 1024];
-        return join(s, z, n, x, j, key, tallies, &mut scratch[0..size]);
+        join_with::<1024>(s, z, n, x, j, key, tallies)
+    } else if size <= 4096 {
+        join_with::<4096>(s, z, n, x, j, key, tallies)
+    } else {
+        join_with::<16384>(s, z, n, x, j, key, tallies)
     }
-    if size <= 4096 {
-        let mut scratch = [0u8; 4096];
-        return join(s, z, n, x, j, key, tallies, &mut scratch[0..size]);
-    }
-    let mut scratch = [0u8; 16384];
-    join(s, z, n, x, j, key, tallies, &mut scratch[0..size])
 }

@@ -15,10 +15,11 @@ fn needs_at_most(s: &[u8], z: Shape, x: u32, j: u32, limit: usize) -> bool
 {
     let d = words::get32(s, 16) as u32;
     let run = partition::run_of(x, j, d);
-    let to = run.to;
-    let mut i = run.from;
+    let end = run.end;
+    // Stays: each turn goes on by the entries of the page it has read, which no iterator of the library does.
+    let mut i = run.start;
     let mut sum = 0;
-    while i < to {
+    while i < end {
         let size = 8 + z.capacity;
         let p = words::get32(s, size + 4 * i);
         if p == 0 {
@@ -41,12 +42,10 @@ pub fn climb(s: &[u8], z: Shape, x: u32, k: u32, need: usize) -> u32
     requires { Sized z × Climbing z fnv s.now x k need }
     ensures { Climbed z fnv (rows_held z s.now) x k need result }
 {
-    let mut j = k;
-    while 0 < j {
-        if !needs_at_most(s, z, x, j - 1, z.capacity + need) {
-            return j;
+    for j in (0..k).rev() {
+        if !needs_at_most(s, z, x, j, z.capacity + need) {
+            return j + 1;
         }
-        j -= 1;
     }
-    j
+    0
 }

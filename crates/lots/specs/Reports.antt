@@ -1,5 +1,5 @@
 -- What a line report is given to tell. Its sheet is the rows of some file's lines, laid out in fl as numbers. Assumes nothing.
-use Rattle.std.specs.Prelude.{◌≡◌, ℕ, ◌+◌, ◌*◌, ◌<◌, ◌≤◌, List, length, replicate}
+use Rattle.std.specs.Prelude.{◌≡◌, ℕ, ◌+◌, ◌*◌, ◌<◌, ◌≤◌, List, length, replicate, None}
 use Rattle.commands.specs.declared.SheetLine.{SheetLine}
 use Rattle.ground.specs.Ladder.{Answers}
 use Rattle.hash.specs.Fnv.{fnv}
@@ -42,7 +42,7 @@ pub record FileRead (z : Sheet) (fl : List ℕ) : Type 0 where
 pub record FileFormed (z : Sheet) (fl : List ℕ) : Type 0 where
   pub room : length fl ≡ 2 * limit
   pub file : FileRead z fl
-  pub formed : z.wrong ≡ 0
+  pub formed : z.wrong ≡ None
 
 -- ---- what is told of it
 

@@ -11,19 +11,10 @@ pub fn word<R: Env>(rt: &R, i: usize, out: &mut [u8]) -> usize
 }
 
 fn is_there<R: Env>(rt: &R, i: usize) -> bool {
-    let mut byte = [0u8; 1];
-    match rt.arg(i, &mut byte) {
-        Ok(_) => true,
-        Err(FillError::TooLong) => true,
-        Err(FillError::NotPresent) => false,
-    }
+    !matches!(rt.arg(i, &mut [0u8; 1]), Err(FillError::NotPresent))
 }
 
 // How many words there are; of more than 6 only so many are counted.
 pub fn count<R: Env>(rt: &R) -> usize {
-    let mut n = 0;
-    while n < 6 && is_there(rt, n) {
-        n += 1;
-    }
-    n
+    (0..6).take_while(|i| is_there(rt, *i)).count()
 }

@@ -9,11 +9,11 @@ use super::sheet_file;
 use crate::Outcome;
 use page::Place;
 use partition::Shape;
-use report::{LIMIT, NamedRow, Sums};
+use report::{LIMIT, NamedRow, OUTSIDE, ReportRefusal, Sums};
 use sheets::Sheet;
 use std::env::Env;
 use std::fs::Files;
-use store::Answer;
+use store::{Answer, Done};
 use telling::say;
 
 // A word, a place and its amount on a line; whether it could be written.
@@ -105,7 +105,7 @@ fn tell_row<R: Print + Eprint>(
     }
 }
 
-// Of n rows the one after the first i by its mark, and how many are told then: no more where it could not be written.
+// Row i of n by its mark.
 fn tell_next<R: Print + Eprint>(
     rt: &R,
     s: &[u8],
@@ -114,18 +114,14 @@ fn tell_next<R: Print + Eprint>(
     counts: &[u8],
     n: usize,
     i: usize,
-) -> usize
+) -> bool
     requires { MarkedRows z s.now flat.now n counts.now × (i < n) }
-    ensures { (i ≤ result) × (result ≤ i + 1) }
 {
     let r = report::named_row(flat, counts, i);
-    if tell_row(rt, s, z, flat, n, i, r) {
-        return i + 1;
-    }
-    i
+    tell_row(rt, s, z, flat, n, i, r)
 }
 
-// Every row of the sheet by its mark, in the sheet's order.
+// Every row of the sheet by its mark, in the sheet's order; no more where one could not be written.
 fn tell_rows<R: Print + Eprint>(
     rt: &R,
     s: &[u8],
@@ -136,13 +132,10 @@ fn tell_rows<R: Print + Eprint>(
 ) -> bool
     requires { MarkedRows z s.now flat.now n counts.now }
 {
-    let mut i = 0;
-    while i < n {
-        let next = tell_next(rt, s, z, flat, counts, n, i);
-        if next == i {
+    for i in 0..n {
+        if !tell_next(rt, s, z, flat, counts, n, i) {
             return false;
         }
-        i = next;
     }
     true
 }
@@ -158,7 +151,7 @@ fn tell_marked<R: Print + Eprint>(
 ) -> bool
     requires { Summable z s.now flat.now n × (counts.old ≡ replicate n 0) }
 {
-    report::mark_rows(s, z, flat, counts);
+    let _ = report::mark_rows(s, z, flat, counts);
     tell_rows(rt, s, z, flat, counts, n)
 }
 
@@ -181,13 +174,9 @@ fn tell_named<R: Print + Eprint>(rt: &R, s: &[u8], flat: &[u64], n: usize) -> bo
 fn tell_sums<R: Print + Eprint>(rt: &R, s: &[u8], flat: &[u64], n: usize, x: Sums) -> bool
     requires { Reports s.now flat.now n (summed x) }
 {
-    if !tell_sum(rt, b"total", x.total) {
-        return false;
-    }
-    if !tell_many_sum(rt, b"hidden", x.hidden, x.cents) {
-        return false;
-    }
-    tell_many(rt, b"doubled", x.doubled)
+    tell_sum(rt, b"total", x.total)
+        && tell_many_sum(rt, b"hidden", x.hidden, x.cents)
+        && tell_many(rt, b"doubled", x.doubled)
 }
 
 // A line that is not obeyed was answered, or could not be.
@@ -207,10 +196,10 @@ fn tell<R: Print + Eprint>(rt: &R, s: &[u8], flat: &[u64], z: Sheet, number: usi
 {
     let n = z.rows;
     match report::judge(s, flat, n) {
-        report::Outcome::Refused(r) => passed(say::answer(rt, Answer::Refused(r), b"", number)),
-        report::Outcome::BadSheet => passed(tell_bad_row(rt, s, flat, z.bad)),
-        report::Outcome::NotInSheet(p) => passed(tell_not_there(rt, s, flat, n, p, number)),
-        report::Outcome::Summed(x) => {
+        Err(ReportRefusal::Store(r)) => passed(say::answer(rt, Err(r), b"", number)),
+        Err(ReportRefusal::BadSheet) => passed(tell_bad_row(rt, s, flat, z.bad.unwrap())),
+        Err(ReportRefusal::NotInSheet(p)) => passed(tell_not_there(rt, s, flat, n, p, number)),
+        Ok(x) => {
             if !tell_named(rt, s, flat, n) {
                 return Outcome::Stopped;
             }
@@ -226,13 +215,12 @@ fn tell<R: Print + Eprint>(rt: &R, s: &[u8], flat: &[u64], z: Sheet, number: usi
 pub fn ask<R: Env + Files + Print + Eprint>(rt: &R, s: &[u8], name: &[u8], number: usize) -> Outcome
     ensures { ReportAsked s.now result }
 {
-    let mut flat = [9223372036854775808u64; 2 * LIMIT];
-    let z = sheet_file::load(rt, name, &mut flat);
-    if z.unread {
+    let mut flat = [OUTSIDE; 2 * LIMIT];
+    let Some(z) = sheet_file::load(rt, name, &mut flat) else {
         return passed(tell_unread(rt, number));
-    }
-    if z.wrong > 0 {
-        return passed(tell_no_row(rt, &flat, number, z.wrong));
+    };
+    if let Some(l) = z.wrong {
+        return passed(tell_no_row(rt, &flat, number, l));
     }
     tell(rt, s, &flat, z, number)
 }

@@ -1,16 +1,32 @@
 // The store's file: read whole, and written anew beside itself.
-ghost use Rattle.std.specs.Prelude.{◌+◌, ◌≤◌, IfOk, length};
+ghost use Rattle.std.specs.Prelude.{◌+◌, ◌≤◌, IfOk, IfSome, length};
 
 use std::fs::{Files, OpenFile, OpenOptions};
 use std::io::{ErrorKind, Read, Write};
 use std::{fs, io};
 use telling::say;
 
-// A file's length, where it could be read.
-#[derive(Clone, Copy)]
-pub struct Loaded {
-    pub len: usize,
-    pub good: bool,
+// Why the store's file cannot be read or written anew.
+enum Failure<'a> {
+    // its name is not UTF-8
+    Unnamed,
+    // the system says so of the file of that name
+    System(&'a str, io::Error),
+}
+
+// What could not be read or written is told.
+fn tell<R: Eprint>(rt: &R, failure: Failure<'_>) {
+    match failure {
+        Failure::Unnamed => {
+            let _ = eprintln!(rt; "lots: a file whose name is not UTF-8 cannot be opened");
+        }
+        Failure::System(path, e) => say::failure(rt, path, e),
+    }
+}
+
+// A file's name as text, without which std opens no file.
+fn text_of(name: &[u8]) -> Result<&str, Failure<'_>> {
+    std::str::from_utf8(name).map_err(|_| Failure::Unnamed)
 }
 
 // Reads until the buffer is full or the file is at its end: how many bytes there were.
@@ -18,6 +34,7 @@ fn read_full<F: Read>(file: &mut F, store: &mut [u8]) -> io::Result<usize>
     ensures { IfOk result (λ n. n ≤ length store.new) }
 {
     let mut done = 0;
+    // Stays: a read brings as many bytes as it likes, and read_exact does not say how many came before the end.
     while done < store.len() {
         let n = file.read(&mut store[done..])?;
         if n == 0 {
@@ -28,61 +45,27 @@ fn read_full<F: Read>(file: &mut F, store: &mut [u8]) -> io::Result<usize>
     Ok(done)
 }
 
-// What could not be read is told.
-fn unread<R: Eprint>(rt: &R, path: &str, e: io::Error) -> Loaded
-    ensures { result.len ≤ 0 }
+// The first bytes of the file of that name, as many as the buffer holds; none where there is no file.
+fn read<'a, R: Files>(rt: &R, path: &'a [u8], store: &mut [u8]) -> Result<usize, Failure<'a>>
+    ensures { IfOk result (λ n. n ≤ length store.new) }
 {
-    say::failure(rt, path, e);
-    Loaded {
-        len: 0,
-        good: false,
-    }
-}
-
-// The first bytes of an open file, as many as the buffer holds.
-fn read_open<R: Files + Eprint>(rt: &R, path: &str, mut file: R::File, store: &mut [u8]) -> Loaded
-    ensures { result.len ≤ length store.new }
-{
-    match read_full(&mut file, store) {
-        Ok(n) => Loaded { len: n, good: true },
-        Err(e) => unread(rt, path, e),
-    }
-}
-
-// A file whose name is not UTF-8 cannot be opened, which is told.
-fn unnamed<R: Eprint>(rt: &R) -> Loaded
-    ensures { result.len ≤ 0 }
-{
-    let _ = eprintln!(rt; "lots: a file whose name is not UTF-8 cannot be opened");
-    Loaded {
-        len: 0,
-        good: false,
-    }
-}
-
-// The file's bytes, as many as the buffer holds; none where there is no file.
-pub fn load<R: Files + Eprint>(rt: &R, path: &[u8], store: &mut [u8]) -> Loaded
-    ensures { result.len ≤ length store.new }
-{
-    match std::str::from_utf8(path) {
-        Ok(path) => load_named(rt, path, store),
-        Err(_) => unnamed(rt),
-    }
-}
-
-// The bytes of the file of that name, as many as the buffer holds; none where there is none.
-fn load_named<R: Files + Eprint>(rt: &R, path: &str, store: &mut [u8]) -> Loaded
-    ensures { result.len ≤ length store.new }
-{
+    let path = text_of(path)?;
     match fs::open(rt, path) {
-        Ok(file) => read_open(rt, path, file, store),
+        Ok(mut file) => read_full(&mut file, store).map_err(|e| Failure::System(path, e)),
         Err(e) => {
             if e.kind() == ErrorKind::NotFound {
-                return Loaded { len: 0, good: true };
+                return Ok(0);
             }
-            unread(rt, path, e)
+            Err(Failure::System(path, e))
         }
     }
+}
+
+// How many bytes the file has, as many as the buffer holds; none where it could not be read, which is told.
+pub fn load<R: Files + Eprint>(rt: &R, path: &[u8], store: &mut [u8]) -> Option<usize>
+    ensures { IfSome result (λ n. n ≤ length store.new) }
+{
+    read(rt, path, store).map_err(|e| tell(rt, e)).ok()
 }
 
 // Writes an open file to the device.
@@ -99,37 +82,30 @@ fn create<R: Files>(rt: &R, path: &str) -> io::Result<R::File> {
 }
 
 // Makes a file of the store. The name must be free, and a file that cannot be made whole is removed.
-fn make<R: Files + Eprint>(rt: &R, path: &str, store: &[u8]) -> bool {
-    match create(rt, path) {
-        Ok(file) => fill(rt, path, file, store),
-        Err(e) => {
-            say::failure(rt, path, e);
-            false
-        }
-    }
-}
-
-// Makes the new file whole, or removes it.
-fn fill<R: Files + Eprint>(rt: &R, path: &str, mut file: R::File, store: &[u8]) -> bool {
-    if let Err(e) = write_open(&mut file, store) {
-        say::failure(rt, path, e);
+fn make<R: Files>(rt: &R, path: &str, store: &[u8]) -> io::Result<()> {
+    let mut file = create(rt, path)?;
+    let made = write_open(&mut file, store);
+    if made.is_err() {
         let _ = fs::remove_file(rt, path);
-        return false;
     }
-    true
+    made
 }
 
 // The store goes to a new file, which then takes the old one's name.
-fn replace<R: Files + Eprint>(rt: &R, path: &str, beside: &str, store: &[u8]) -> bool {
-    if !make(rt, beside, store) {
-        return false;
-    }
+fn replace<'a, R: Files>(
+    rt: &R,
+    path: &'a [u8],
+    beside: &'a [u8],
+    store: &[u8],
+) -> Result<(), Failure<'a>> {
+    let path = text_of(path)?;
+    let beside = text_of(beside)?;
+    make(rt, beside, store).map_err(|e| Failure::System(beside, e))?;
     if let Err(e) = fs::rename(rt, beside, path) {
-        say::failure(rt, path, e);
         let _ = fs::remove_file(rt, beside);
-        return false;
+        return Err(Failure::System(path, e));
     }
-    true
+    Ok(())
 }
 
 // The name of the new file: FILE.new.
@@ -142,22 +118,13 @@ fn name(path: &[u8], out: &mut [u8]) -> usize
     path.len() + 4
 }
 
-// Both names as text, without which std opens no file.
-fn replace_named<R: Files + Eprint>(rt: &R, path: &[u8], beside: &[u8], store: &[u8]) -> bool {
-    match std::str::from_utf8(path) {
-        Ok(path) => match std::str::from_utf8(beside) {
-            Ok(beside) => replace(rt, path, beside, store),
-            Err(_) => unnamed(rt).good,
-        },
-        Err(_) => unnamed(rt).good,
-    }
-}
-
-// Writes the store beside the file and renames it over the file. Whatever fails, the old file is as it was.
+// Writes the store beside the file and renames it over the file. Whatever fails is told, and the old file is as it was.
 pub fn save<R: Files + Eprint>(rt: &R, path: &[u8], store: &[u8]) -> bool
     requires { length path.now ≤ 4096 }
 {
     let mut beside = [0u8; 4100];
     let n = name(path, &mut beside);
-    replace_named(rt, path, &beside[0..n], store)
+    replace(rt, path, &beside[0..n], store)
+        .map_err(|e| tell(rt, e))
+        .is_ok()
 }

@@ -1,5 +1,5 @@
 // The input taken apart into lines, and what is kept from one to the next.
-ghost use Rattle.std.specs.Prelude.{◌≡◌, ◌≤◌, true, ◌⊎◌, [], ◌∷◌, length, take};
+ghost use Rattle.std.specs.Prelude.{◌≡◌, ◌≤◌, true, ◌⊎◌, [], ◌∷◌, length, MatchOption};
 ghost use Rattle.ground.specs.Says.{Says};
 ghost use Rattle.lots.specs.Runs.{Aside, BeforeAnew, Brought, Feeds, LineTurned, Ran, Turned, WordsTurned};
 ghost use Rattle.lots.specs.Sessions.{After, Alike, AsRead, SessionBegins, FormatAsked, FormatTold, Kept, LacksRoom, Learnt, lent_for, most_pages, NextLine, SessionHolds, SessionReads};
@@ -17,6 +17,7 @@ use telling::say;
 fn length_of(n: usize, size: usize, most: usize) -> usize
     ensures { (result ≡ lent_for most n size) × (result ≤ most) }
 {
+    // Stays: the call is made on no byte then, as Sessions:FormatAsked says, so that 0 is the length that is lent.
     if n > 4098 {
         return 0;
     }
@@ -33,17 +34,9 @@ fn marked(z: Session, o: Outcome) -> Session
 {
     let mut y = z;
     match o {
-        Outcome::Changed(_) => {
-            y.changed = true;
-        }
-        Outcome::Stopped => {
-            y.stopped = true;
-        }
-        Outcome::Silent => {}
-        Outcome::Unknown => {}
-        Outcome::Told(_) => {}
-        Outcome::Listed(_) => {}
-        Outcome::Format(_, _) => {}
+        Outcome::Changed(_) => y.changed = true,
+        Outcome::Stopped => y.stopped = true,
+        _ => {}
     }
     y
 }
@@ -83,16 +76,14 @@ fn format<R: Print + Eprint>(rt: &R, store: &mut [u8], z: Session, n: usize, siz
 fn may_clear(len: usize, anew: bool) -> bool
     ensures { Says result ((len ≡ 0) ⊎ (anew ≡ true)) }
 {
-    if anew {
-        return true;
-    }
-    len == 0
+    anew || len == 0
 }
 
 // How many pages a store of a larger page size has at most; none of another size.
 fn most_pages(size: usize) -> usize
     ensures { (result ≡ most_pages size) × (result ≤ 4098) }
 {
+    // Stays: tried as a match; its last arm does not tell the proof which sizes are out, and that did not close.
     if size == 4096 {
         return 1026;
     }
@@ -112,11 +103,7 @@ fn lacks_room(n: usize, size: usize, most: usize) -> bool
     if n > most_pages(size) {
         return false;
     }
-    let len = n * size;
-    if len <= most {
-        return false;
-    }
-    true
+    most < n * size
 }
 
 // A format of n pages of a size that a line asks.
@@ -215,8 +202,7 @@ fn next_line(z: Session) -> Session
 {
     let mut y = z;
     y.number = std::num::wrapping_add_usize(y.number, 1);
-    let line = text_lines::fresh_line();
-    y.line = line;
+    y.line = text_lines::fresh_line();
     y
 }
 
@@ -249,8 +235,7 @@ fn end_line<R: Env + Files + Print + Eprint>(
     ensures { LineTurned line.now z store.old result store.new }
 {
     let g = z.line;
-    let fill = g.fill;
-    words_line(rt, store, next_line(z), g.over, &line[0..fill])
+    words_line(rt, store, next_line(z), g.over, &line[0..g.fill])
 }
 
 // One byte of the input.
@@ -267,9 +252,8 @@ fn take<R: Env + Files + Print + Eprint>(
     if b == 10 {
         return end_line(rt, store, z, line);
     }
-    let g = text_lines::read_byte(line, z.line, b);
     let mut y = z;
-    y.line = g;
+    y.line = text_lines::read_byte(line, z.line, b);
     y
 }
 
@@ -285,43 +269,43 @@ fn feed<R: Env + Files + Print + Eprint>(
     ensures { Feeds piece.now z store.old line.old result store.new line.new }
 {
     let mut y = z;
-    let mut i = 0;
-    while i < piece.len() {
+    for b in piece {
         if y.stopped {
             return y;
         }
         if y.quit {
             return y;
         }
-        y = take(rt, store, y, line, piece[i]);
-        i += 1;
+        y = take(rt, store, y, line, *b);
     }
     y
 }
 
-// What a read of the input brought, the first n bytes of the buffer: none at its end, and where it failed.
+// What a read of the input brought: its bytes, of which there are none at the end; or none where it failed.
 fn take_read<R: Env + Files + Print + Eprint>(
     rt: &R,
     store: &mut [u8],
     z: Session,
     line: &mut [u8],
-    piece: &[u8],
-    n: usize,
-    failed: bool,
+    came: Option<&[u8]>,
 ) -> Session
-    requires { SessionReads z store.old line.old × (n ≤ length piece.now) }
-    ensures { Feeds (take n piece.now) z store.old line.old result store.new line.new }
+    requires { SessionReads z store.old line.old }
+    ensures { MatchOption came.entry (Feeds [] z store.old line.old result store.new line.new) (λ piece. Feeds piece.now z store.old line.old result store.new line.new) }
 {
     let mut y = z;
-    if failed {
-        y.stopped = true;
-        return y;
+    match came {
+        Some(piece) => {
+            if piece.is_empty() {
+                y.ended = true;
+                return y;
+            }
+            feed(rt, store, y, line, piece)
+        }
+        None => {
+            y.stopped = true;
+            y
+        }
     }
-    if n == 0 {
-        y.ended = true;
-        return y;
-    }
-    feed(rt, store, y, line, &piece[0..n])
 }
 
 // What one read of the input brings.
@@ -338,15 +322,15 @@ fn read<R: Env + Files + Print + Eprint, I: Read>(
     say::prompt(rt, z.terminal);
     let mut piece = io::buffer();
     match input.read(&mut piece) {
-        Ok(n) => take_read(rt, store, z, line, &piece, n, false),
+        Ok(n) => take_read(rt, store, z, line, Some(&piece[..n])),
         Err(e) => {
             say::failure(rt, "standard input", e);
-            take_read(rt, store, z, line, &piece, 0, true)
+            take_read(rt, store, z, line, None)
         }
     }
 }
 
-// The whole input. A proved loop has to end, and nothing says that the input does: it counts down from a number that no run uses up.
+// The whole input. A proved loop has to end, and nothing says that the input does: so many reads no run uses up.
 fn read_all<R: Env + Files + Print + Eprint, I: Read>(
     rt: &R,
     input: &mut I,
@@ -358,8 +342,7 @@ fn read_all<R: Env + Files + Print + Eprint, I: Read>(
     ensures { Brought z store.old line.old result store.new line.new }
 {
     let mut y = z;
-    let mut turns = u64::MAX;
-    while turns > 0 {
+    for _ in 0..u64::MAX {
         if y.stopped {
             return y;
         }
@@ -370,7 +353,6 @@ fn read_all<R: Env + Files + Print + Eprint, I: Read>(
             return y;
         }
         y = read(rt, input, store, y, line);
-        turns -= 1;
     }
     y
 }

@@ -10,7 +10,7 @@ ghost use Rattle.lots.specs.Known.{Known};
 
 use super::obey;
 use page::Place;
-use store::{Answer, Refusal};
+use store::{Answer, Done, Refusal};
 
 // Whether the store is accepted: the one check of a run.
 pub fn is_accepted(s: &[u8]) -> bool
@@ -26,7 +26,7 @@ pub fn check_known(s: &[u8], known: bool) -> Answer
     if !known {
         return query::check(s);
     }
-    Answer::Accepted
+    Ok(Done::Accepted)
 }
 
 pub fn count_known(s: &[u8], known: bool) -> Answer
@@ -36,7 +36,7 @@ pub fn count_known(s: &[u8], known: bool) -> Answer
     if !known {
         return query::count(s);
     }
-    Answer::Rows(counts::rows_counted(s))
+    Ok(Done::Rows(counts::rows_counted(s)))
 }
 
 pub fn lookup_known(s: &[u8], key: &[u8], known: bool) -> Answer
@@ -47,7 +47,7 @@ pub fn lookup_known(s: &[u8], key: &[u8], known: bool) -> Answer
         return query::lookup(s, key);
     }
     if !store::good_code(key) {
-        return Answer::Refused(Refusal::BadCode);
+        return Err(Refusal::BadCode);
     }
     query::place_given(s, partition::shape_of(s), key)
 }
@@ -66,10 +66,7 @@ pub fn put_known(s: &mut [u8], key: &[u8], place: Place, mode: u64, known: bool)
     requires { Known known s.old }
     ensures { Answers (put_table (shape_of s.old) fnv s.old key.now place mode) (meaning result, s.new) }
 {
-    if !known {
-        return putting::put(s, key, place, mode);
-    }
-    if 2 < mode {
+    if !known || 2 < mode {
         return putting::put(s, key, place, mode);
     }
     let z = partition::shape_of(s);
@@ -84,7 +81,7 @@ pub fn remove_known(s: &mut [u8], key: &[u8], known: bool) -> Answer
         return removal::remove(s, key);
     }
     if !store::good_code(key) {
-        return Answer::Refused(Refusal::BadCode);
+        return Err(Refusal::BadCode);
     }
     let z = partition::shape_of(s);
     removal::remove_given(s, z, key)

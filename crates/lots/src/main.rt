@@ -15,7 +15,7 @@ mod sheet_file;
 use check::same;
 use std::env::Env;
 use std::fs::Files;
-use store::Answer;
+use store::{Answer, Done};
 use text_lines::LineRead;
 
 // What a line said, and whether it changed the store. Listed: so many rows, and their number. Format is still to be done, so many pages of that size; Stopped: an answer could not be written.
@@ -43,6 +43,7 @@ pub struct Session {
     pub refused: usize,
     pub terminal: bool,
     // the line quit was read; the input is at its end; it cannot be read, or an answer cannot be written
+    // Stays: Runs:Turned says of quit what it says where the session is stopped too, which one enum cannot hold at once.
     pub quit: bool,
     pub ended: bool,
     pub stopped: bool,
@@ -52,15 +53,7 @@ fn main(rt: HostRuntime) {
     let mut path = io::buffer();
     let n = arguments::word(&rt, 1, &mut path);
     let words = arguments::count(&rt);
-    if words < 2 {
-        usage(&rt);
-        return;
-    }
-    if words > 5 {
-        usage(&rt);
-        return;
-    }
-    if n == 0 {
+    if words < 2 || words > 5 || n == 0 {
         usage(&rt);
         return;
     }
@@ -89,20 +82,15 @@ fn in_room<R: Env + Files + Input + Print + Eprint>(rt: &R, path: &[u8], words: 
     in_small_room(rt, path, is_typed(rt));
 }
 
+fn room<const N: usize>() -> [u8; N] {
+    [0; N]
+}
+
 // 258 pages of 1,024 bytes and one byte more, so that a longer file shows refusal 1.
-fn small_room() -> [u8; 264193] {
-    [0u8; 264193]
-}
-
-// 4,098 pages of 16,384 bytes and one byte more: for a stack of over 64 MiB.
-fn large_room() -> [u8; 67141633] {
-    [0u8; 67141633]
-}
-
 fn in_small_room<R: Env + Files + Input + Print + Eprint>(rt: &R, path: &[u8], terminal: bool)
     requires { length path.now ≤ 4096 }
 {
-    let mut store = small_room();
+    let mut store = room::<264193>();
     work(rt, path, &mut store, terminal);
 }
 
@@ -112,6 +100,8 @@ fn turns_left<R: Env>(rt: &R, words: usize) -> usize {
     if arguments::count(rt) == words { 0 } else { 1 }
 }
 
+// 4,098 pages of 16,384 bytes and one byte more: for a stack of over 64 MiB.
+// Stays: tried as one function with in_small_room, over the room's size; that any such room is below 2^63 bytes did not close.
 fn in_large_room<R: Env + Files + Input + Print + Eprint>(
     rt: &R,
     path: &[u8],
@@ -120,7 +110,7 @@ fn in_large_room<R: Env + Files + Input + Print + Eprint>(
 )
     requires { length path.now ≤ 4096 }
 {
-    let mut store = large_room();
+    let mut store = room::<67141633>();
     work(rt, path, &mut store, terminal);
     if turns > 0 {
         in_large_room(rt, path, terminal, turns - 1);
@@ -136,7 +126,7 @@ fn tell_refused<R: Eprint>(rt: &R, n: usize) {
 
 // How many rows the file has now.
 fn tell_saved<R: Eprint>(rt: &R, a: Answer) {
-    if let Answer::Rows(n) = a {
+    if let Ok(Done::Rows(n)) = a {
         let _ = eprintln!(rt; "saved {n} rows");
     }
 }
@@ -150,20 +140,16 @@ fn work<R: Env + Files + Input + Print + Eprint>(
 )
     requires { length path.now ≤ 4096 }
 {
-    let f = files::load(rt, path, store);
-    if !f.good {
+    let Some(len) = files::load(rt, path, store) else {
         return;
-    }
-    let z = input::run(rt, store, f.len, terminal);
+    };
+    let z = input::run(rt, store, len, terminal);
     tell_refused(rt, z.refused);
-    if z.stopped {
+    if z.stopped || !z.changed {
         return;
     }
-    if !z.changed {
-        return;
-    }
-    let len = z.len;
-    if files::save(rt, path, &store[0..len]) {
-        tell_saved(rt, known::count_known(&store[0..len], z.known));
+    let store = &store[0..z.len];
+    if files::save(rt, path, store) {
+        tell_saved(rt, known::count_known(store, z.known));
     }
 }

@@ -13,8 +13,8 @@ use crate::Outcome;
 use commands::{Command, Fault};
 use std::env::Env;
 use std::fs::Files;
-use store::{Answer, Refusal};
-use telling::{ToldRows, say};
+use store::Answer;
+use telling::say;
 
 // A line that reads: its answer was written, or could not be. Of a row the code stands in the buffer.
 fn tell<R: Print + Eprint>(rt: &R, a: Answer, code: &[u8], number: usize) -> Outcome
@@ -44,17 +44,12 @@ pub fn unknown<R: Print + Eprint>(rt: &R, f: Fault, number: usize) -> Outcome
 }
 
 // The number of rows, after they are told.
-fn listed<R: Print + Eprint>(rt: &R, t: ToldRows) -> Outcome
+fn listed<R: Print + Eprint>(rt: &R, t: Option<usize>) -> Outcome
     ensures { (n : ℕ) → AllTold n t → TellsNumber n result }
 {
     match t {
-        ToldRows::All(n) => {
-            if !say::number(rt, b"rows", n) {
-                return Outcome::Stopped;
-            }
-            Outcome::Listed(n)
-        }
-        ToldRows::Stopped => Outcome::Stopped,
+        Some(n) if say::number(rt, b"rows", n) => Outcome::Listed(n),
+        _ => Outcome::Stopped,
     }
 }
 
@@ -62,33 +57,15 @@ fn listed<R: Print + Eprint>(rt: &R, t: ToldRows) -> Outcome
 pub fn is_done(a: Answer) -> bool
     ensures { result ≡ ok (meaning a) }
 {
-    match a {
-        Answer::Refused(_) => false,
-        Answer::Formatted => true,
-        Answer::Accepted => true,
-        Answer::New => true,
-        Answer::Replaced(_) => true,
-        Answer::Found(_) => true,
-        Answer::Rows(_) => true,
-        Answer::RowOf(_, _) => true,
-    }
+    a.is_ok()
 }
 
 // One where the line was refused or unknown, else none.
 pub fn faults_in(o: Outcome) -> usize {
     match o {
-        Outcome::Unknown => 1,
-        Outcome::Told(a) => refusals_in(a),
-        Outcome::Silent => 0,
-        Outcome::Changed(_) => 0,
-        Outcome::Listed(_) => 0,
-        Outcome::Format(_, _) => 0,
-        Outcome::Stopped => 0,
+        Outcome::Unknown | Outcome::Told(Err(_)) => 1,
+        _ => 0,
     }
-}
-
-fn refusals_in(a: Answer) -> usize {
-    if is_done(a) { 0 } else { 1 }
 }
 
 // The answer of a call that writes.
@@ -142,7 +119,7 @@ fn list_page<R: Print + Eprint>(rt: &R, page: &[u8], number: usize) -> Outcome
     ensures { PageAsked page.now result }
 {
     if words::all_zero(page) {
-        return listed(rt, ToldRows::All(0));
+        return listed(rt, Some(0));
     }
     let a = first_slot(page);
     if !is_done(a) {

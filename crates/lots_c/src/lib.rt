@@ -12,32 +12,17 @@ ghost use Rattle.report.specs.Report.{reported, report_table};
 ghost use Rattle.lots_c.specs.Words.{plain, place_word, refusal_word, answer_word, length_after, Tells, TellsAnd, TellsAll, TellsRow, no_sums, report_words, TellsReport};
 
 use page::Place;
-use report::{Outcome, SheetRow};
-use store::{Answer, Numbers};
+use report::{ReportRefusal, SheetRow, Sums};
+use store::{Answer, Done, Numbers};
 
-// A part of a place as a number.
-fn plain32(x: i32) -> u64
-    ensures { (result ≡ plain x) × (result < 2147483648) }
-{
-    if x < 0 {
-        return 0;
-    }
-    x as u64
-}
-
-fn plain16(x: i16) -> u64
-    ensures { (result ≡ plain x) × (result < 32768) }
-{
-    if x < 0 {
-        return 0;
-    }
-    x as u64
-}
-
+// The word of a place, of which no part is negative.
 fn place_word(p: Place) -> u64
     ensures { result ≡ place_word p }
 {
-    plain32(p.page) + 4294967296 * plain16(p.slot) + 281474976710656 * plain16(p.volume)
+    let page = p.page.max(0) as u64;
+    let slot = p.slot.max(0) as u64;
+    let volume = p.volume.max(0) as u64;
+    page + 4294967296 * slot + 281474976710656 * volume
 }
 
 fn refusal_word(n: Numbers) -> u64
@@ -51,14 +36,11 @@ fn word_of(a: Answer) -> u64
     ensures { result ≡ answer_word (meaning a) }
 {
     match a {
-        Answer::Refused(r) => refusal_word(store::numbers_of(r)),
-        Answer::Formatted => 0,
-        Answer::Accepted => 0,
-        Answer::New => 2147483648,
-        Answer::Replaced(p) => place_word(p),
-        Answer::Found(p) => place_word(p),
-        Answer::Rows(n) => n as u64,
-        Answer::RowOf(_, p) => place_word(p),
+        Err(r) => refusal_word(store::numbers_of(r)),
+        Ok(Done::Formatted | Done::Accepted) => 0,
+        Ok(Done::New) => 2147483648,
+        Ok(Done::Replaced(p) | Done::Found(p) | Done::RowOf(_, p)) => place_word(p),
+        Ok(Done::Rows(n)) => n as u64,
     }
 }
 
@@ -66,7 +48,7 @@ fn word_of(a: Answer) -> u64
 fn found_word(a: Answer) -> u64
     ensures { result ≡ answer_word (meaning a) }
 {
-    let Answer::Found(p) = a else {
+    let Ok(Done::Found(p)) = a else {
         return word_of(a);
     };
     place_word(p)
@@ -76,7 +58,7 @@ fn found_word(a: Answer) -> u64
 fn new_word(a: Answer) -> u64
     ensures { result ≡ answer_word (meaning a) }
 {
-    let Answer::New = a else {
+    let Ok(Done::New) = a else {
         return word_of(a);
     };
     2147483648
@@ -86,17 +68,8 @@ fn new_word(a: Answer) -> u64
 fn give_length(a: Answer, len: &mut u32)
     ensures { len.new ≡ length_after (meaning a) len.old }
 {
-    match a {
-        Answer::RowOf(n, _) => {
-            *len = (n % 4294967296) as u32;
-        }
-        Answer::Refused(_) => {}
-        Answer::Formatted => {}
-        Answer::Accepted => {}
-        Answer::New => {}
-        Answer::Replaced(_) => {}
-        Answer::Found(_) => {}
-        Answer::Rows(_) => {}
+    if let Ok(Done::RowOf(n, _)) = a {
+        *len = (n % 4294967296) as u32;
     }
 }
 
@@ -127,14 +100,14 @@ fn unsummed(answer: u64, place: u64) -> ReportAnswer
 }
 
 // The words of a report.
-pub fn report_of(o: Outcome) -> ReportAnswer
+pub fn report_of(o: Result<Sums, ReportRefusal>) -> ReportAnswer
     ensures { result ≡ report_words (reported o) }
 {
     match o {
-        Outcome::Refused(r) => unsummed(refusal_word(store::numbers_of(r)), 0),
-        Outcome::BadSheet => unsummed(9223372036854775818, 0),
-        Outcome::NotInSheet(p) => unsummed(9223372036854775819, place_word(p)),
-        Outcome::Summed(x) => ReportAnswer {
+        Err(ReportRefusal::Store(r)) => unsummed(refusal_word(store::numbers_of(r)), 0),
+        Err(ReportRefusal::BadSheet) => unsummed(9223372036854775818, 0),
+        Err(ReportRefusal::NotInSheet(p)) => unsummed(9223372036854775819, place_word(p)),
+        Ok(x) => ReportAnswer {
             answer: 0,
             place: 0,
             total: x.total,

@@ -3,7 +3,6 @@ pub mod Writes
 pub mod Painted
 pub mod Inserting
 pub mod Unique
-pub mod Tops
 pub mod Removing
 pub mod Overwriting
 pub mod Signs

@@ -6,8 +6,7 @@ use native.Mathlib.Omega.{arith}
 use Rattle.ground.specs.Lists.{tab}
 use Rattle.page.specs.Page.{Slotted, Belongs, row_at, count, frontier, off, len, code}
 use Rattle.page.specs.Found.{FoundIn}
-use Rattle.page.specs.declared.Found.{Found}
-use Rattle.page.specs.declared.Found.TheVariants.{At, Absent}
+use Rattle.std.specs.Prelude.{Result, Ok, Err}
 use Rattle.words.proofs.Orders.{irrefl, before_trans}
 use lib.ListN.{length}
 use mathlib.Core.Logic.{⊎_elim}
@@ -71,11 +70,11 @@ module _ (p c : List ℕ) (P : Slotted p) where
   one_slot : (i j : ℕ) → (i < j → ⊥) → (j < i → ⊥) → i ≡ j
   one_slot i j a b = ⊎_elim (λ l. absurd (a l)) (λ g. ⊎_elim (λ l. absurd (b l)) (λ g₂. omega arith) (side j i)) (side i j)
 
-  pub found_one : (a b : Found) → FoundIn p c a → FoundIn p c b → a ≡ b
-  found_one (At i) (At j) x y = ap At (one_slot i j (not_later i j y.0 x.1 y.1) (not_later j i x.0 y.1 x.1))
-  found_one (At i) (Absent j) x y = absurd (not_both i j x.0 x.1 y)
-  found_one (Absent i) (At j) x y = absurd (not_both j i y.0 y.1 x)
-  found_one (Absent i) (Absent j) x y = ap Absent (one_slot i j (not_after i j x y) (not_after j i y x))
+  pub found_one : (a b : Result ℕ ℕ) → FoundIn p c a → FoundIn p c b → a ≡ b
+  found_one (Ok i) (Ok j) x y = ap Ok (one_slot i j (not_later i j y.0 x.1 y.1) (not_later j i x.0 y.1 x.1))
+  found_one (Ok i) (Err j) x y = absurd (not_both i j x.0 x.1 y)
+  found_one (Err i) (Ok j) x y = absurd (not_both j i y.0 y.1 x)
+  found_one (Err i) (Err j) x y = ap Err (one_slot i j (not_after i j x y) (not_after j i y x))
 
 -- the largest record end
 pub top_one : {p : List ℕ} {n r t : ℕ} → Top p n r → Top p n t → r ≡ t

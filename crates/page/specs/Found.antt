@@ -1,13 +1,11 @@
 -- What a search answers, and what is read of a row. Assumes nothing.
-use Rattle.std.specs.Prelude.{ℕ, ◌≤◌, ◌<◌, ◌≡◌, List, ◌++◌, length, drop}
+use Rattle.std.specs.Prelude.{ℕ, ◌≤◌, ◌<◌, ◌≡◌, List, ◌++◌, length, drop, Result, Ok, Err}
 use Rattle.page.specs.Page.{Slotted, count, code, Belongs}
-use Rattle.page.specs.declared.Found.{Found}
-use Rattle.page.specs.declared.Found.TheVariants.{At, Absent}
 
 -- the slot that holds c, or the slot where c belongs
-abbrev pub FoundIn : List ℕ → List ℕ → Found → Type 0
-FoundIn p c (At i) = (i < count p) × (code p i ≡ c)
-FoundIn p c (Absent i) = Belongs p i c
+abbrev pub FoundIn : List ℕ → List ℕ → Result ℕ ℕ → Type 0
+FoundIn p c (Ok i) = (i < count p) × (code p i ≡ c)
+FoundIn p c (Err i) = Belongs p i c
 
 -- p has slot i, and the output has room for any code
 pub record CodeAsked (p : List ℕ) (i : ℕ) (out : List ℕ) : Type 0 where

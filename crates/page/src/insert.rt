@@ -21,6 +21,7 @@ fn open_slot(page: &mut [u8], n: usize, s: usize, w: usize)
     words::put32(page, size - 4 * (s + 1), w);
 }
 
+#[tactic(auto, using(crate::proofs::Writes::headed))]
 pub fn set_head(page: &mut [u8], n: usize, f: usize, r: usize)
     requires { Headable page.old n f r }
     ensures { Headed page.old n f r page.new }

@@ -24,12 +24,6 @@ pub struct Place {
 }
 
 #[derive(Clone, Copy)]
-pub enum Found {
-    At(usize),
-    Absent(usize),
-}
-
-#[derive(Clone, Copy)]
 pub struct Extent {
     pub off: usize,
     pub len: usize,

@@ -42,10 +42,8 @@ pub fn pack_into(page: &mut [u8], from: &[u8])
     let n = words::get16(from, 2);
     let d = from[1];
     new_page(page, d);
-    let mut i = 0;
-    while i < n {
+    for i in 0..n {
         append(page, from, i);
-        i += 1;
     }
 }
 

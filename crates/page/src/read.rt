@@ -5,10 +5,11 @@ ghost use Rattle.words.specs.Codes.{Ordered};
 ghost use Rattle.page.specs.Page.{Slotted, off, len, code, place, count};
 ghost use Rattle.page.specs.Found.{FoundIn, CodeAsked, CodeOut};
 
-use crate::{Extent, Found};
-use words::Order;
+use crate::Extent;
+use std::cmp::Ordering;
 
 // Where slot i says that its record lies.
+#[tactic(auto, unfolding(crate::specs::Page::off, crate::specs::Page::len, crate::specs::Page::word))]
 pub fn extent_of(page: &[u8], i: usize) -> Extent
     requires { (4 * (i + 1) ≤ length page.now) × (length page.now ≤ 16384) }
     ensures { (result.off ≡ off page.now i) × (result.len ≡ len page.now i) }
@@ -29,9 +30,7 @@ pub fn code_at(page: &[u8], i: usize) -> &[u8]
     let o = w % 16384;
     // of a record that lies, 1 stands above its length
     let l = w / 16384 - 16384;
-    let from = o + 8;
-    let to = o + l;
-    &page[from..to]
+    &page[o + 8..o + l]
 }
 
 // The 8 bytes of slot i's place, as a part of the page.
@@ -39,14 +38,12 @@ pub fn place_at(page: &[u8], i: usize) -> &[u8]
     requires { Slotted page.now × (i < count page.now) }
     ensures { result.now ≡ place page.now i }
 {
-    let e = extent_of(page, i);
-    let from = e.off;
-    let to = from + 8;
-    &page[from..to]
+    let Extent { off, .. } = extent_of(page, i);
+    &page[off..off + 8]
 }
 
 // Slot i's code against a code.
-pub fn compare_slot(page: &[u8], i: usize, key: &[u8]) -> Order
+pub fn compare_slot(page: &[u8], i: usize, key: &[u8]) -> Ordering
     requires { Slotted page.now × (i < count page.now) }
     ensures { Ordered (code page.now i) key.now result }
 {
@@ -61,13 +58,14 @@ fn first_byte(page: &[u8], i: usize) -> u8
     page[extent_of(page, i).off + 8]
 }
 
-// Where a code stands, or where it belongs: slots are in code order, so what is left is halved. Most codes differ in their first byte; before all stands an empty one.
-pub fn find_code(page: &[u8], key: &[u8]) -> Found
+// Where a code stands, or else where it belongs: slots are in code order, so what is left is halved. Most codes differ in their first byte; before all stands an empty one.
+// Stays: slots lie from the page's end on and hold where their codes lie, so there is no slice of codes that `binary_search_by` could halve.
+pub fn find_code(page: &[u8], key: &[u8]) -> Result<usize, usize>
     requires { Slotted page.now }
     ensures { FoundIn page.now key.now result }
 {
     if key.len() < 1 {
-        return Found::Absent(0);
+        return Err(0);
     }
     let mut lo = 0;
     let mut hi = words::get16(page, 2);
@@ -76,30 +74,22 @@ pub fn find_code(page: &[u8], key: &[u8]) -> Found
         let x = first_byte(page, mid);
         if x < key[0] {
             lo = mid + 1;
+        } else if key[0] < x {
+            hi = mid;
         } else {
-            if key[0] < x {
-                hi = mid;
-            } else {
-                let c = code_at(page, mid);
-                // both are that one byte
-                if c.len() + key.len() == 2 {
-                    return Found::At(mid);
-                }
-                match words::compare_alike(c, key) {
-                    Order::Less => {
-                        lo = mid + 1;
-                    }
-                    Order::Equal => {
-                        return Found::At(mid);
-                    }
-                    Order::Greater => {
-                        hi = mid;
-                    }
-                }
+            let c = code_at(page, mid);
+            // both are that one byte
+            if c.len() + key.len() == 2 {
+                return Ok(mid);
+            }
+            match words::compare_alike(c, key) {
+                Ordering::Less => lo = mid + 1,
+                Ordering::Equal => return Ok(mid),
+                Ordering::Greater => hi = mid,
             }
         }
     }
-    Found::Absent(lo)
+    Err(lo)
 }
 
 // Slot i's code goes to the start of out; its length.

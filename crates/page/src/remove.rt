@@ -5,14 +5,16 @@ ghost use Rattle.page.specs.Steps.{Top, Closed, Removable, Removed};
 
 use super::insert::set_head;
 use super::read::extent_of;
+use crate::Extent;
 
 // Where slot i's record ends.
+#[tactic(auto, unfolding(crate::specs::Page::off, crate::specs::Page::len))]
 pub fn end_of(page: &[u8], i: usize) -> usize
     requires { (4 * (i + 1) ≤ length page.now) × (length page.now ≤ 16384) }
     ensures { (result ≡ off page.now i + len page.now i) × (result < 32768) }
 {
-    let e = extent_of(page, i);
-    e.off + e.len
+    let Extent { off, len } = extent_of(page, i);
+    off + len
 }
 
 // The largest record end of n slots; 8, where records begin, for none.
@@ -21,13 +23,8 @@ pub fn top_of(page: &[u8], n: usize) -> usize
     ensures { Top page.now n result × (result < 32768) }
 {
     let mut best = 8;
-    let mut i = 0;
-    while i < n {
-        let e = end_of(page, i);
-        if best < e {
-            best = e;
-        }
-        i += 1;
+    for i in 0..n {
+        best = best.max(end_of(page, i));
     }
     best
 }
@@ -49,11 +46,9 @@ pub fn remove_slot(page: &mut [u8], s: usize)
 {
     let n = words::get16(page, 2);
     let r = words::get16(page, 6);
-    let e = extent_of(page, s);
-    let from = e.off;
-    let m = e.len;
-    words::clear(page, from, from + m);
+    let Extent { off, len } = extent_of(page, s);
+    words::clear(page, off, off + len);
     close_slot(page, n, s);
     let f = top_of(page, n - 1);
-    set_head(page, n - 1, f, r + 4 + m);
+    set_head(page, n - 1, f, r + 4 + len);
 }

@@ -5,3 +5,4 @@ pub mod Sweep
 pub mod Whole
 pub mod Marks
 pub mod Prefixes
+pub mod Lent

@@ -1,7 +1,7 @@
 -- Where places are marked, the bytes without a capital are those of folded codes. Assumes nothing.
-use Prim.Native.Nat.{ℕ, ◌+◌, ◌*◌, ◌-◌, ◌≤◌, ◌<◌, min}
+use Prim.Native.Nat.{ℕ, ◌+◌, ◌*◌, ◌-◌, ◌≤◌, ◌<◌}
 use mathlib.Core.Path.{◌≡◌, ap, ◌∙◌}
-use mathlib.Core.Logic.{inl, inr, ⊎_elim, ◌↔◌}
+use mathlib.Core.Logic.{inl, inr, ⊎_elim}
 use mathlib.Core.List.{List}
 use native.Mathlib.Decide.{ℕ_discrete}
 use native.Mathlib.Omega.{arith}
@@ -64,30 +64,7 @@ module _ (p t : List ℕ) (b : BucketPage p) (m : Marked p (count p) t) where
       bare : byte t k ≡ 0 → (fold_byte (byte p k) ≡ byte p k → ⊥) → fold_byte (byte p k) ≡ byte p k
       bare z n = (byte_kept _).1 (inl (omega (arith, b.rules.clear k l (omega arith) (outside z n))))
 
--- one byte more
-small_more : (p t : List ℕ) (a k : ℕ) → NoCapital p t a (a + k) → fold_byte (bit_or (byte p (a + k)) (byte t (a + k))) ≡ bit_or (byte p (a + k)) (byte t (a + k)) → NoCapital p t a (a + (k + 1))
-small_more p t a k n e j l h = ⊎_elim (λ lt. n j l lt) (λ ge. let same : j ≡ a + k = omega arith in rw same e) (side j (a + k))
-
 -- low is 26 or more exactly when none of the k bytes from 8 on and from d on is a capital, but for those that are marked
 pub record Low (p t : List ℕ) (d k low : ℕ) : Type 0 where
   pub so : 26 ≤ low → NoCapital p t 8 (8 + k) × NoCapital p t d (d + k)
   pub back : NoCapital p t 8 (8 + k) → NoCapital p t d (d + k) → 26 ≤ low
-
-pub low_none : (p t : List ℕ) (d : ℕ) → Low p t d 0 255
-low_none p t d = record { so = λ _. ((λ k h l. absurd (omega arith)), (λ k h l. absurd (omega arith))); back = λ _ _. omega arith }
-
--- x is 26 or more where the byte at k, or-ed with its mark, is no capital
-abbrev pub LetterAt : List ℕ → List ℕ → ℕ → ℕ → Type 0
-LetterAt p t k x = (26 ≤ x) ↔ (fold_byte (bit_or (byte p k) (byte t k)) ≡ bit_or (byte p k) (byte t k))
-
-pub low_more : (p t : List ℕ) (d k low x m y z : ℕ) → Low p t d k low → LetterAt p t (8 + k) x → m ≡ min low x → LetterAt p t (d + k) y → z ≡ min m y → Low p t d (k + 1) z
-low_more p t d k low x m y z w e u f v = record {
-  so = λ l.
-      let n = w.so (omega (arith, u, v)) in
-      (small_more p t 8 k n.0 (e.0 (omega (arith, u, v))), small_more p t d k n.1 (f.0 (omega (arith, v))));
-  back = λ n o.
-      let q : 26 ≤ low = w.back (λ j a r. n j a (omega arith)) (λ j a r. o j a (omega arith)) in
-      let r : 26 ≤ x = e.1 (n (8 + k) (omega arith) (omega arith)) in
-      let s : 26 ≤ y = f.1 (o (d + k) (omega arith) (omega arith)) in
-      omega (arith, u, v);
-}

@@ -1,5 +1,6 @@
 -- What the pass over the slots has shown of the first of them. Assumes nothing.
-use Prim.Native.Nat.{ℕ, ◌+◌, ◌*◌, ◌-◌, ◌≤◌, ◌<◌}
+use Prim.Native.Nat.{ℕ, ◌+◌, ◌*◌, ◌-◌, ◌/◌, ◌%◌, ◌≤◌, ◌<◌}
+use Rattle.std.specs.Prelude.{Option, Some, None}
 use mathlib.Core.Path.{◌≡◌, refl, sym, ap, ◌∙◌}
 use mathlib.Core.List.{List, [], ◌∷◌}
 use native.Mathlib.Omega.{arith}
@@ -76,9 +77,10 @@ led_more p j w lead e l x y s h o = rw (add-one, ap (λ v. part p (off_of v + 8)
 pub led_none : (p : List ℕ) → Led p (prior p 0) 0
 led_none p x y s h o = after_none (part p x (y - x)) (omega (arith, length_part p x (y - x) (omega (arith, s)), h))
 
--- a slot whose word breaks a rule
-pub told_none : (p : List ℕ) (f i w : ℕ) → (NextOk p f i w → ⊥) → NextTold p f i w 0
-told_none p f i w n = record { none = λ _. n; sound = λ h. absurd (omega (arith, h)); told = λ h. absurd (omega (arith, h)) }
+-- a slot's word that keeps its rules in the whole page keeps them before the frontier, where its record ends there
+pub told_within : (p : List ℕ) (f i w : ℕ) → f ≤ length p → w % 16384 + w / 16384 ≤ f + 16384 → (r : Option ℕ) → NextTold p (length p) i w r → NextTold p f i w r
+told_within p f i w a b None t = λ n. t (record { sound = record { kind_one = n.sound.kind_one; short = n.sound.short; long = n.sound.long; inside = omega (arith, n.sound.inside, a) }; rises = n.rises })
+told_within p f i w a b (Some r) t = (record { sound = record { kind_one = t.0.sound.kind_one; short = t.0.sound.short; long = t.0.sound.long; inside = omega (arith, b, t.0.sound.kind_one) }; rises = t.0.rises }, t.1)
 
 -- the code before the slot at k
 pub before_none : (p : List ℕ) (k : ℕ) → Preceded p k → length p ≤ k + 4 → Codes p 131072 (prior p (slot_of p k))

@@ -1,5 +1,5 @@
 -- The table of starts: a record's length at its start, zero elsewhere. Assumes nothing.
-use Rattle.std.specs.Prelude.{ℕ, zero, suc, ◌+◌, ◌-◌, ◌/◌, ◌≤◌, ◌<◌, ◌≡◌, ◌⊎◌, List, [], ◌∷◌, length}
+use Rattle.std.specs.Prelude.{Option, Some, None, ℕ, zero, suc, ◌+◌, ◌-◌, ◌/◌, ◌≤◌, ◌<◌, ◌≡◌, ◌⊎◌, List, [], ◌∷◌, length}
 use Rattle.ground.specs.Lists.{byte, part}
 use Rattle.words.specs.Codes.{Before}
 use Rattle.words.specs.Zeros.{Zero}
@@ -80,8 +80,7 @@ pub record LeadOver (p : List ℕ) (lead w r : ℕ) : Type 0 where
   pub is : r ≡ big 8 p (off_of w + 8)
   pub over : lead < r
 
--- r is 0 just where slot i's word w breaks a rule; else it tells of w's code
-pub record NextTold (p : List ℕ) (f i w r : ℕ) : Type 0 where
-  pub none : r ≡ 0 → NextOk p f i w → ⊥
-  pub sound : 1 ≤ r → NextOk p f i w
-  pub told : 1 ≤ r → Led p (part p (off_of w + 8) (len_of w - 8)) r
+-- nothing is told just where slot i's word w breaks a rule; else r tells of w's code
+abbrev pub NextTold : List ℕ → ℕ → ℕ → ℕ → Option ℕ → Type 0
+NextTold p f i w None = NextOk p f i w → ⊥
+NextTold p f i w (Some r) = NextOk p f i w × Led p (part p (off_of w + 8) (len_of w - 8)) r

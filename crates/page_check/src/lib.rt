@@ -1,7 +1,7 @@
 // Whether bytes are a bucket page: the rules of its bytes by page_ok, the shared bits of its hashes slot by slot.
 #![tactic(auto)]
 
-ghost use Rattle.std.specs.Prelude.{◌≡◌, true, ◌↔◌, ◌+◌, ◌*◌, ◌-◌, ◌/◌, ◌%◌, ◌^◌, ◌≤◌, ◌<◌, length};
+ghost use Rattle.std.specs.Prelude.{◌≡◌, true, MatchOption, ◌↔◌, ◌+◌, ◌*◌, ◌-◌, ◌/◌, ◌%◌, ◌^◌, ◌≤◌, ◌<◌, length};
 ghost use Rattle.std.specs.Int.Bits.{bit_xor};
 ghost use Rattle.ground.specs.Says.{Says};
 ghost use Rattle.ground.specs.Lists.{part};
@@ -17,7 +17,26 @@ ghost use Rattle.page_check.specs.Leads.{Stretch, Led};
 ghost use Rattle.page_check.specs.Shared.{PageOk, FirstHash, LentTable, AllShare, Share, Keeps, NearUpTo};
 
 use hash::Hashes;
-use words::Order;
+use page::Extent;
+use std::cmp::Ordering;
+
+// A slot's word above its 14 bits of offset: a record's length, with the 1 that stands above that.
+// The lengths of the shortest record, of the shortest with eight bytes of code and of the longest are so:
+const SHORTEST: usize = 0x4000 + 9;
+
+const WITH_EIGHT: usize = 0x4000 + 16;
+
+const LONGEST: usize = 0x4000 + 72;
+
+// The word of a record with an empty code.
+const NO_CODE: usize = 8 * 0x4000;
+
+// The sign bits of a place's three parts in its eight bytes as one number.
+const PAGE_SIGN: usize = 0x8000_0000;
+
+const SLOT_SIGN: usize = 0x8000_0000_0000;
+
+const VOLUME_SIGN: usize = 0x8000_0000_0000_0000;
 
 // Size, byte 0, row count, and a frontier that leaves room for a record and for the slots.
 fn head_ok(page: &[u8]) -> bool
@@ -27,24 +46,9 @@ fn head_ok(page: &[u8]) -> bool
     if size < 16 {
         return false;
     }
-    if 16384 < size {
-        return false;
-    }
-    if page[0] != 1 {
-        return false;
-    }
     let n = words::get16(page, 2);
-    if n < 1 {
-        return false;
-    }
     let f = words::get16(page, 4);
-    if f < 17 {
-        return false;
-    }
-    if size < f + 4 * n {
-        return false;
-    }
-    true
+    size <= 16384 && page[0] == 1 && 1 <= n && 17 <= f && f + 4 * n <= size
 }
 
 // The eight bytes at k as one number, the first the lowest.
@@ -53,6 +57,7 @@ fn le64(s: &[u8], k: usize) -> usize
     ensures signs { NoSign result ↔ NaturalAt s.now k }
     ensures zero { (result ≡ 0) ↔ ZeroFrom s.now k (k + 8) }
 {
+    // Stays: nested so that it becomes one load (words::on).
     words::join8(
         words::wide(s[k + 7]),
         words::wide(s[k + 6]),
@@ -71,7 +76,7 @@ fn word_before(page: &[u8], k: usize) -> usize
     ensures { Codes page.now result (prior page.now (slot_of page.now k)) }
 {
     if page.len() <= k + 4 {
-        return 131072;
+        return NO_CODE;
     }
     words::get32(page, k + 4)
 }
@@ -85,82 +90,71 @@ fn rises(page: &[u8], k: usize, x: usize, y: usize) -> bool
     let a = v % 16384 + 8;
     let b = v % 16384 + v / 16384 % 16384;
     match words::compare(&page[a..b], &page[x..y]) {
-        Order::Less => true,
-        Order::Equal => false,
-        Order::Greater => false,
+        Ordering::Less => true,
+        Ordering::Equal => false,
+        Ordering::Greater => false,
     }
 }
 
 // What tells of the code from x up to y: its first eight bytes as one number, or the greatest number, which tells nothing.
 fn lead_of(page: &[u8], x: usize, y: usize) -> usize
     requires { Stretch page.now x y }
-    ensures { (1 ≤ result) × Led page.now (part page.now x (y - x)) result }
+    ensures { Led page.now (part page.now x (y - x)) result }
 {
     if y - x < 8 {
         return usize::MAX;
     }
-    let next = words::be64(page, x);
-    if next == 0 {
-        return usize::MAX;
-    }
-    next
+    words::be64(page, x)
 }
 
-// The slot at k by comparing its code with the one before: what tells of it, 0 where its word w breaks a rule.
-fn compared(page: &[u8], k: usize, w: usize) -> usize
+// The slot at k by comparing its code with the one before: what tells of it, if its word w breaks no rule.
+fn compared(page: &[u8], k: usize, w: usize) -> Option<usize>
     requires { Preceded page.now k × (off_of w + w / 16384 ≤ length page.now + 16384) }
     ensures { NextTold page.now (length page.now) (slot_of page.now k) w result }
 {
-    let t = w / 16384;
-    if t < 16393 {
-        return 0;
+    let t = w / 0x4000;
+    if t < SHORTEST || LONGEST < t {
+        return None;
     }
-    if 16457 <= t {
-        return 0;
-    }
-    let x = w % 16384 + 8;
-    let y = w % 16384 + (t - 16384);
+    let x = w % 0x4000 + 8;
+    let y = w % 0x4000 + (t - 0x4000);
     if !rises(page, k, x, y) {
-        return 0;
+        return None;
     }
-    lead_of(page, x, y)
+    Some(lead_of(page, x, y))
 }
 
-// The first eight bytes of w's code as one number, where it has so many and they are above lead; else 0. The length, with the 1 above it, is tested in one look.
-fn lead_over(page: &[u8], lead: usize, w: usize) -> usize
+// The first eight bytes of w's code as one number, where it has so many and they are above lead. The length, with the 1 above it, is tested in one look.
+fn lead_over(page: &[u8], lead: usize, w: usize) -> Option<usize>
     requires { off_of w + w / 16384 ≤ length page.now + 16384 }
-    ensures { 1 ≤ result → LeadOver page.now lead w result }
+    ensures { MatchOption result (Unit {0}) (λ r. LeadOver page.now lead w r) }
 {
-    let t = w / 16384;
-    if t < 16400 {
-        return 0;
+    let t = w / 0x4000;
+    if t < WITH_EIGHT || LONGEST < t {
+        return None;
     }
-    if 16456 < t {
-        return 0;
-    }
-    let next = words::be64(page, w % 16384 + 8);
+    let next = words::be64(page, w % 0x4000 + 8);
     if next <= lead {
-        return 0;
+        return None;
     }
-    next
+    Some(next)
 }
 
-// What tells of the code of the slot at k, whose word is w, after one of which lead tells; 0 where it breaks a rule. Only where the first eight bytes do not tell are codes compared.
-fn next_lead(page: &[u8], f: usize, k: usize, lead: usize, w: usize) -> usize
+// What tells of the code of the slot at k, whose word is w, after one of which lead tells; none where it breaks a rule. Only where the first eight bytes do not tell are codes compared.
+fn next_lead(page: &[u8], f: usize, k: usize, lead: usize, w: usize) -> Option<usize>
     requires { Turn page.now f k lead }
     ensures { NextTold page.now f (slot_of page.now k) w result }
 {
-    if f + 16384 < w % 16384 + w / 16384 {
-        return 0;
+    if f + 0x4000 < w % 0x4000 + w / 0x4000 {
+        return None;
     }
-    let next = lead_over(page, lead, w);
-    if 0 < next {
-        return next;
+    match lead_over(page, lead, w) {
+        Some(next) => Some(next),
+        None => compared(page, k, w),
     }
-    compared(page, k, w)
 }
 
-// The slots with their records, in one pass, each at k; lead tells of the code before.
+// The slots with their records, in one pass; lead tells of the code before.
 // Each length is entered at its record's start: two that start at one byte have one entry, so that the walk meets too few.
 fn slots_ok(page: &[u8], tab: &mut [u8], n: usize, f: usize) -> bool
     requires { HeadKnown page.now tab.old n f }
@@ -172,15 +166,16 @@ fn slots_ok(page: &[u8], tab: &mut [u8], n: usize, f: usize) -> bool
     let mut k = page.len();
     let mut lead = 0;
     let mut lens = 0;
+    // Stays: tried as a `for` over the slots' numbers; 3 more instructions a slot, 2 % more of a full store's check.
     while end < k {
         k -= 4;
         let w = words::get32(page, k);
-        lead = next_lead(page, f, k, lead, w);
-        if lead == 0 {
-            return false;
+        match next_lead(page, f, k, lead, w) {
+            Some(next) => lead = next,
+            None => return false,
         }
-        tab[w % 16384] = (w / 16384 % 256) as u8;
-        lens = lens + w / 16384;
+        tab[w % 0x4000] = (w / 0x4000 % 256) as u8;
+        lens += w / 0x4000;
     }
     words::get16(page, 6) + 8 + lens == page.len() + 16380 * n
 }
@@ -189,13 +184,7 @@ fn slots_ok(page: &[u8], tab: &mut [u8], n: usize, f: usize) -> bool
 fn no_sign(w: usize) -> bool
     ensures { Says result (NoSign w) }
 {
-    if w / 2147483648 % 2 != 0 {
-        return false;
-    }
-    if w / 140737488355328 % 2 != 0 {
-        return false;
-    }
-    w / 9223372036854775808 % 2 == 0
+    w / PAGE_SIGN % 2 == 0 && w / SLOT_SIGN % 2 == 0 && w / VOLUME_SIGN % 2 == 0
 }
 
 // From 8 to the frontier by the table: over each record that is met, its place or-ed and marked in the table, and the bytes of none or-ed; gap is where the last of these ends.
@@ -211,19 +200,21 @@ fn walk(page: &[u8], tab: &mut [u8], n: usize, f: usize) -> bool
     let mut met = 0;
     let mut acc: u8 = 0;
     let mut signs = 0;
+    // Stays: a turn goes on by one byte or by a whole record, which no iterator of the library does.
     while pos < f {
         let l = tab[pos] as usize;
         if l == 0 {
-            acc = acc | page[pos];
+            acc |= page[pos];
             pos += 1;
             gap = pos;
             continue;
         }
-        signs = signs | le64(page, pos);
+        signs |= le64(page, pos);
         words::fill(tab, pos, pos + 8, 255);
         pos += l;
         met += 1;
     }
+    // Stays: tried as one expression with &&; the proof did not close, since its goals speak of the joined tests by no name.
     if acc != 0 {
         return false;
     }
@@ -236,18 +227,12 @@ fn walk(page: &[u8], tab: &mut [u8], n: usize, f: usize) -> bool
     no_sign(signs)
 }
 
-// Whether the bytes from a up to b are zero, one by one.
+// Whether the bytes from a up to b are zero, where they are few.
 fn each_zero(page: &[u8], a: usize, b: usize) -> bool
     requires { Stretch page.now a b }
     ensures { Says result (ZeroFrom page.now a b) }
 {
-    let mut acc: u8 = 0;
-    let mut i = a;
-    while i < b {
-        acc = acc | page[i];
-        i += 1;
-    }
-    acc == 0
+    words::all_zero(&page[a..b])
 }
 
 // Whether the 8 h bytes from a on and those from b on are zero. No way out before the end, so that it vectorises; two stretches at once, so that a turn has more of them.
@@ -256,10 +241,9 @@ fn both_zero(page: &[u8], a: usize, b: usize, h: usize) -> bool
     ensures { Says result (ZeroFrom page.now a (a + 8 * h) × ZeroFrom page.now b (b + 8 * h)) }
 {
     let mut acc = 0;
-    let mut i = 0;
-    while i < h {
-        acc = acc | le64(page, a + 8 * i) | le64(page, b + 8 * i);
-        i += 1;
+    for i in 0..h {
+        acc |= le64(page, a + 8 * i);
+        acc |= le64(page, b + 8 * i);
     }
     acc == 0
 }
@@ -282,11 +266,9 @@ fn both_small(page: &[u8], tab: &[u8], d: usize, h: usize) -> bool
     ensures { Says result (NoCapital page.now tab.now 8 (8 + h) × NoCapital page.now tab.now d (d + h)) }
 {
     let mut low: u8 = 255;
-    let mut k = 0;
-    while k < h {
+    for k in 0..h {
         low = words::lesser(low, words::letter(page[8 + k] | tab[8 + k]));
         low = words::lesser(low, words::letter(page[d + k] | tab[d + k]));
-        k += 1;
     }
     26 <= low
 }
@@ -309,16 +291,10 @@ fn records_ok(page: &[u8], tab: &mut [u8], n: usize, f: usize) -> bool
     ensures says { Says result (PageOk page.now) }
     ensures inside { Inside f tab.new }
 {
-    if !slots_ok(page, tab, n, f) {
-        return false;
-    }
-    if !walk(page, tab, n, f) {
-        return false;
-    }
-    if !zeros(page, f, page.len() - 4 * n) {
-        return false;
-    }
-    no_capital(page, tab, f)
+    slots_ok(page, tab, n, f)
+        && walk(page, tab, n, f)
+        && zeros(page, f, page.len() - 4 * n)
+        && no_capital(page, tab, f)
 }
 
 // Whether the page keeps the rules of a bucket page (but for the hashes' shared bits). tab is scratch of the page's length, zero before and after.
@@ -337,12 +313,16 @@ pub fn page_ok(page: &[u8], tab: &mut [u8]) -> bool
     ok
 }
 
-// Slot i's word, 1 above its record's length.
-fn slot_word(page: &[u8], i: usize) -> usize
+// Slot i's record.
+fn record_of(page: &[u8], i: usize) -> Extent
     requires { BucketPage page.now × (i < count page.now) }
-    ensures { (result % 16384 ≡ off page.now i) × (result / 16384 ≡ 16384 + len page.now i) }
+    ensures { (result.off ≡ off page.now i) × (result.len ≡ len page.now i) }
 {
-    words::get32(page, page.len() - 4 * (i + 1))
+    let w = words::get32(page, page.len() - 4 * (i + 1));
+    Extent {
+        off: w % 0x4000,
+        len: w / 0x4000 - 0x4000,
+    }
 }
 
 // The hash of slot i's code.
@@ -358,10 +338,8 @@ pub fn hash_in_place(page: &[u8], i: usize) -> u32
     requires { BucketPage page.now × (i < count page.now) }
     ensures { result ≡ fnv (code page.now i) }
 {
-    let w = slot_word(page, i);
-    let o = w % 16384;
-    let l = w / 16384 - 16384;
-    hash::hash_part(page, o + 8, o + l)
+    let r = record_of(page, i);
+    hash::hash_part(page, r.off + 8, r.off + r.len)
 }
 
 // The hashes of the codes of slots i and i + 1.
@@ -369,13 +347,9 @@ fn hash_pair(page: &[u8], i: usize) -> Hashes
     requires { BucketPage page.now × (i + 1 < count page.now) }
     ensures { (result.first ≡ fnv (code page.now i)) × (result.second ≡ fnv (code page.now (i + 1))) }
 {
-    let v = slot_word(page, i);
-    let w = slot_word(page, i + 1);
-    let o = v % 16384;
-    let l = v / 16384 - 16384;
-    let q = w % 16384;
-    let k = w / 16384 - 16384;
-    hash::hash_two(page, o + 8, o + l, q + 8, q + k)
+    let r = record_of(page, i);
+    let q = record_of(page, i + 1);
+    hash::hash_two(page, r.off + 8, r.off + r.len, q.off + 8, q.off + q.len)
 }
 
 // Whether two hashes have the same prefix of k bits.
@@ -391,7 +365,7 @@ pub fn share_limit(k: u8) -> u64
     requires { k ≤ 32 }
     ensures { result ≡ 2 ^ (32 - k) }
 {
-    4294967296u64 >> (k as u32)
+    0x1_0000_0000u64 >> (k as u32)
 }
 
 // Whether the difference of two hashes is below m: where m is a limit worked out once, cheaper than to count the bits they share.
@@ -405,10 +379,7 @@ pub fn differ_below(first: u32, x: u32, m: u64) -> bool
 fn both_below(first: u32, two: Hashes, m: u64) -> bool
     ensures { Says result ((bit_xor first two.first < m) × (bit_xor first two.second < m)) }
 {
-    if !differ_below(first, two.first, m) {
-        return false;
-    }
-    differ_below(first, two.second, m)
+    differ_below(first, two.first, m) && differ_below(first, two.second, m)
 }
 
 // How far from slot 1 on the hashes differ from the first by less than m, two slots at a time.
@@ -418,6 +389,7 @@ fn near_by_twos(page: &[u8], first: u32, m: u64) -> usize
 {
     let n = words::get16(page, 2);
     let mut i = 1;
+    // Stays: the slot after the last pair is the answer, which a range by steps of two does not give.
     while i + 1 < n {
         if !both_below(first, hash_pair(page, i), m) {
             return i;
@@ -445,10 +417,8 @@ fn alike(page: &[u8], first: u32, k: u8) -> bool
 {
     let n = words::get16(page, 2);
     let mut acc: u32 = 0;
-    let mut i = near_by_twos(page, first, share_limit(k));
-    while i < n {
-        acc = acc | (first ^ hash_slot(page, i));
-        i += 1;
+    for i in near_by_twos(page, first, share_limit(k))..n {
+        acc |= first ^ hash_slot(page, i);
     }
     shares(0, acc, k)
 }
@@ -467,11 +437,5 @@ pub fn bucket_ok(page: &[u8], tab: &mut [u8], deepest: u8) -> bool
     ensures says { Says result (Keeps deepest page.now) }
     ensures zero { Zero tab.new }
 {
-    if !page_ok(page, tab) {
-        return false;
-    }
-    if deepest < page[1] {
-        return false;
-    }
-    share_ok(page)
+    page_ok(page, tab) && page[1] <= deepest && share_ok(page)
 }

@@ -12,7 +12,7 @@ ghost use Rattle.store.specs.Tables.{meaning, inspect_table};
 ghost use Rattle.page_reader.specs.Read.{Reads, Readable, nth_table};
 
 use page::Place;
-use store::{Answer, Refusal};
+use store::{Answer, Done, Refusal};
 
 mod slots;
 
@@ -103,13 +103,13 @@ pub fn inspect(page: &[u8], n: usize, out: &mut [u8]) -> Answer
 {
     let z = partition::shape_for(page.len());
     if page.len() != 8 + z.capacity {
-        return Answer::Refused(Refusal::BadLength);
+        return Err(Refusal::BadLength);
     }
     if out.len() < 64 {
-        return Answer::Refused(Refusal::ShortOutput);
+        return Err(Refusal::ShortOutput);
     }
     if words::all_zero(page) {
-        return Answer::Refused(Refusal::NoRow);
+        return Err(Refusal::NoRow);
     }
     nth(page, n, out)
 }

@@ -9,32 +9,14 @@ ghost use Rattle.store.specs.Tables.{meaning};
 ghost use Rattle.page_reader.specs.Read.{SoundBucket, Reads, Readable, nth_table};
 
 use page::Place;
-use store::{Answer, Refusal};
+use store::{Answer, Done, Refusal};
 
-// Whether a page of 1,024 bytes keeps a bucket page's rules up to a depth.
-fn keeps_1024(page: &[u8], deepest: u8) -> bool
-    requires { (length page.now ≡ 1024) × (deepest ≤ 32) }
+// Whether a page of SIZE bytes keeps a bucket page's rules up to a depth.
+fn keeps<const SIZE: usize>(page: &[u8], deepest: u8) -> bool
+    requires { (length page.now ≡ SIZE) × (deepest ≤ 32) }
     ensures { Says result (Keeps deepest page.now) }
 {
-    let mut tab = [0u8; 1024];
-    page_check::bucket_ok(page, &mut tab, deepest)
-}
-
-// Whether a page of 4,096 bytes keeps a bucket page's rules up to a depth.
-fn keeps_4096(page: &[u8], deepest: u8) -> bool
-    requires { (length page.now ≡ 4096) × (deepest ≤ 32) }
-    ensures { Says result (Keeps deepest page.now) }
-{
-    let mut tab = [0u8; 4096];
-    page_check::bucket_ok(page, &mut tab, deepest)
-}
-
-// Whether a page of 16,384 bytes keeps a bucket page's rules up to a depth.
-fn keeps_16384(page: &[u8], deepest: u8) -> bool
-    requires { (length page.now ≡ 16384) × (deepest ≤ 32) }
-    ensures { Says result (Keeps deepest page.now) }
-{
-    let mut tab = [0u8; 16384];
+    let mut tab = [0u8; SIZE];
     page_check::bucket_ok(page, &mut tab, deepest)
 }
 
@@ -44,16 +26,12 @@ fn sound(page: &[u8]) -> bool
 {
     let n = page.len();
     let deepest = partition::shape_for(n).deepest as u8;
-    if n == 1024 {
-        return keeps_1024(page, deepest);
+    match n {
+        1024 => keeps::<1024>(page, deepest),
+        4096 => keeps::<4096>(page, deepest),
+        16384 => keeps::<16384>(page, deepest),
+        _ => false,
     }
-    if n == 4096 {
-        return keeps_4096(page, deepest);
-    }
-    if n == 16384 {
-        return keeps_16384(page, deepest);
-    }
-    false
 }
 
 // The page, if it is sound; else none of it.
@@ -123,12 +101,12 @@ pub fn give_at(page: &[u8], slot: usize, out: &mut [u8]) -> Answer
     ensures { Answers (nth_table page.now slot out.old) (meaning result, out.new) }
 {
     if page.len() == 0 {
-        return Answer::Refused(Refusal::BadPage(0));
+        return Err(Refusal::BadPage(0));
     }
     if left_at(page, slot) == 0 {
-        return Answer::Refused(Refusal::NoRow);
+        return Err(Refusal::NoRow);
     }
     let c = code_at(page, slot);
     words::copy_at(out, 0, c);
-    Answer::RowOf(c.len(), read_place(page, slot))
+    Ok(Done::RowOf(c.len(), read_place(page, slot)))
 }

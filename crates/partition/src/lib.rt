@@ -4,7 +4,9 @@
 ghost use Rattle.std.specs.Prelude.{◌≡◌, ◌≤◌, ◌<◌, ◌^◌, length};
 ghost use Rattle.partition.specs.Bits.{top, shared};
 ghost use Rattle.partition.specs.Partition.{first, after};
-ghost use Rattle.partition.specs.Sizes.{Sized, shape_at, shape_for, number_of_size, shape_of};
+ghost use Rattle.partition.specs.Sizes.{Sized, size, shape_at, shape_for, number_of_size, shape_of};
+
+use std::ops::Range;
 
 // What a page size decides: the bytes that rows may need together (page size less 8), the directory's entry count, the deepest depth.
 #[derive(Clone, Copy)]
@@ -14,36 +16,55 @@ pub struct Shape {
     pub deepest: usize,
 }
 
+impl Shape {
+    // The bytes of a page.
+    pub fn size(self) -> usize
+        requires { size self < 18446744073709551616 }
+        ensures { result ≡ size self }
+    {
+        8 + self.capacity
+    }
+}
+
+// Pages of 1,024 bytes.
+pub const S1024: Shape = Shape {
+    capacity: 1016,
+    entries: 256,
+    deepest: 8,
+};
+
 // The table of the page sizes, 1,024, 4,096 and 16,384.
-const CAPACITIES: [usize; 3] = [1016, 4088, 16376];
-
-const ENTRIES: [usize; 3] = [256, 1024, 4096];
-
-const DEPTHS: [usize; 3] = [8, 10, 12];
+const SHAPES: [Shape; 3] = [
+    S1024,
+    Shape {
+        capacity: 4088,
+        entries: 1024,
+        deepest: 10,
+    },
+    Shape {
+        capacity: 16376,
+        entries: 4096,
+        deepest: 12,
+    },
+];
 
 // Row i of the table.
 pub fn shape_at(i: usize) -> Shape
     requires { i < 3 }
     ensures { result ≡ shape_at i }
 {
-    Shape {
-        capacity: CAPACITIES[i],
-        entries: ENTRIES[i],
-        deepest: DEPTHS[i],
-    }
+    SHAPES[i]
 }
 
 // What a size number stands for.
 pub fn shape_for(number: usize) -> Shape
     ensures { result ≡ shape_for number }
 {
-    if number == 4096 {
-        return shape_at(1);
+    match number {
+        4096 => shape_at(1),
+        16384 => shape_at(2),
+        _ => shape_at(0),
     }
-    if number == 16384 {
-        return shape_at(2);
-    }
-    shape_at(0)
 }
 
 // The number that stands for a page size: the size, written 0 for 1,024.
@@ -51,11 +72,10 @@ pub fn size_number(z: Shape) -> usize
     requires { Sized z }
     ensures { result ≡ number_of_size z }
 {
-    let size = 8 + z.capacity;
-    if size == 1024 {
-        return 0;
+    match z.size() {
+        1024 => 0,
+        size => size,
     }
-    size
 }
 
 // The shape of a store, by the number at 20.
@@ -65,13 +85,6 @@ pub fn shape_of(s: &[u8]) -> Shape
 {
     shape_for(words::get32(s, 20))
 }
-
-// Pages of 1,024 bytes.
-pub const S1024: Shape = Shape {
-    capacity: 1016,
-    entries: 256,
-    deepest: 8,
-};
 
 // The number of leading bits in which two hashes agree.
 pub fn shared_bits(a: u32, b: u32) -> u32
@@ -96,20 +109,13 @@ pub fn two_to(k: u32) -> usize
     1usize << k
 }
 
-// A run of directory entries: from the first up to the one after the last.
-#[derive(Clone, Copy)]
-pub struct Run {
-    pub from: usize,
-    pub to: usize,
-}
-
 // The entries that the prefix of k bits of a hash calls for in a directory of depth d.
-pub fn run_of(x: u32, k: u32, d: u32) -> Run
+pub fn run_of(x: u32, k: u32, d: u32) -> Range<usize>
     requires { (k ≤ d) × (d ≤ 12) }
-    ensures { (result.from ≡ first d (record { bits = k; value = top k x })) × (result.to ≡ after d (record { bits = k; value = top k x })) × (result.from ≤ result.to) × (result.to ≤ 2 ^ d) }
+    ensures { (result.start ≡ first d (record { bits = k; value = top k x })) × (result.end ≡ after d (record { bits = k; value = top k x })) × (result.start ≤ result.end) × (result.end ≤ 2 ^ d) }
 {
     let v = top_bits(x, k) as usize;
     let w = two_to(d - k);
     let from = v * w;
-    Run { from, to: from + w }
+    from..from + w
 }

@@ -1,5 +1,5 @@
 -- The customer's three demands at FNV-1a: for pages of each of the three sizes, and where each store says its own. Assumes nothing.
-use Rattle.std.specs.Prelude.{◌≡◌, false, List, [], ◌∷◌, ◌↔◌, ℕ, ◌+◌, ◌-◌, ◌*◌, ◌/◌, ◌≤◌, ◌<◌, length}
+use Rattle.std.specs.Prelude.{◌≡◌, false, List, [], ◌∷◌, ◌↔◌, ℕ, ◌+◌, ◌-◌, ◌*◌, ◌/◌, ◌≤◌, ◌<◌, length, Result}
 use Rattle.std.proofs.Math.Option.{Option, some, none}
 use Rattle.ground.specs.Ladder.{Answers}
 use Rattle.hash.specs.Fnv.{fnv}
@@ -10,7 +10,8 @@ use Rattle.partition.specs.Partition.{Row, needs, rows_of, buckets}
 use Rattle.partition.specs.Sizes.{size, S4096, S16384, shape_of}
 use Rattle.page.specs.declared.Place.{Place}
 use Rattle.page.specs.Places.{place_from, stored, Negative}
-use Rattle.store.specs.declared.Answer.{Answer}
+use Rattle.store.specs.declared.Done.{Done}
+use Rattle.store.specs.declared.Refusal.{Refusal}
 use Rattle.store.specs.Pages.{S1024, rows_held}
 use Rattle.store.specs.Accepted.{GoodLength, Accepted}
 use Rattle.store.specs.Tables.{Out, refused, formatted, new, replaced, meaning, row_table, inspect_table}
@@ -24,7 +25,7 @@ pub record Settled (S : Shape) : Type 0 where
   pub store : (c : Call) (s : List ℕ) (o o' : Out) (t t' : List ℕ) → Made S fnv c s o t → Made S fnv c s o' t' → (o ≡ o') × (t ≡ t')
   pub row : (s : List ℕ) (n : ℕ) (out : List ℕ) (a b : Out × List ℕ) → Answers (row_table S fnv s n out) a → Answers (row_table S fnv s n out) b → a ≡ b
   pub inspection : (g : List ℕ) (n : ℕ) (out : List ℕ) (a b : Out × List ℕ) → Answers (inspect_table S fnv g n out) a → Answers (inspect_table S fnv g n out) b → a ≡ b
-  pub enum : (a b : Answer) → meaning a ≡ meaning b → a ≡ b
+  pub enum : (a b : Result Done Refusal) → meaning a ≡ meaning b → a ≡ b
 
 -- 1. Any bytes may come as the store, any code, any row place. .. The store and the output buffer keep every byte. A page has z bytes, a directory e entries.
 pub record First (S : Shape) (z e : ℕ) : Type 0 where

@@ -1,5 +1,5 @@
 -- What rows of a prefix need, row by row, and the buckets below a prefix, case by case. Over any page size and hash. Assumes nothing.
-use mathlib.Core.Path.{◌≡◌, refl, sym, ap, ◌∙◌}
+use mathlib.Core.Path.{◌≡◌, refl, sym, ap, subst, ◌∙◌}
 use mathlib.Core.Bool.{Bool, true, false}
 use mathlib.Core.List.{List, [], ◌∷◌, ◌++◌, map, append-nil, Memᴰ}
 use mathlib.Core.Logic.{⊎_elim}
@@ -10,7 +10,8 @@ use native.Mathlib.Numerals.{add-one}
 use lib.Dec.{eqb}
 use lib.Pow.{pow_pos, pow_mono}
 use lib.ListN.{length, get_or, drop, set, length-append, length-map, length-set}
-use lib.Seq.{drop-cons, drop-length, get_or-set_same, get_or-set_other}
+use Rattle.std.proofs.lemmas.List.{get_or-map}
+use lib.Seq.{map-set, drop-cons, drop-length, get_or-set_same, get_or-set_other}
 use Rattle.ground.proofs.Tables.{length_tab, get_d_tab}
 use Rattle.page.specs.Page.{Slotted, count, code, rows, row_at}
 use Rattle.page.proofs.Sums.{len_of_code}
@@ -29,8 +30,9 @@ use Rattle.partition.proofs.Splice.{walk_bare, walk_fits}
 use Rattle.store.specs.Pages.{as_row}
 use Rattle.store.proofs.Paging.PageTies.{rows_tab}
 use Rattle.store.specs.Moves.{pick}
-use Rattle.store_check.proofs.Fills.{Filled}
-use Rattle.putting.specs.Split.{weight, keyed, Told, below}
+use Rattle.store_check.proofs.Fills.{Filled, filled_more}
+use Rattle.putting.specs.declared.weigh.Weight.{Weight}
+use Rattle.putting.specs.Split.{weight, keyed, Each, Told, hashes_in, needs_in, below}
 
 -- ---- what is told of a page's codes and a new one
 
@@ -43,6 +45,21 @@ told f g c {l = l} F n e a b x q = record {
   };
   new = ap (λ k. get_or (set l n x) k 0) (sym e) ∙ get_or-set_same l n x 0 (omega (arith, F.long)) ∙ q;
 }
+
+-- the same of weights, one part of each
+module _ (of : Weight → ℕ) where
+  pub filled_next : (P : ℕ → ℕ → Type 0) {n i : ℕ} (ws : List Weight) → Filled P n 0 i (map of ws) → i < n → (w : Weight) → P i (of w) → Filled P n 0 (i + 1) (map of (set ws i w))
+  filled_next P {n} {i} ws F l w p = subst (Filled P n 0 (i + 1)) (sym (map-set of ws i w)) (filled_more P F l p)
+
+  pub told_new : (f : List ℕ → ℕ) (g c : List ℕ) {m i : ℕ} (ws : List Weight) → Filled (λ j x. x ≡ f (code g j)) m 0 i (map of ws) → (n : ℕ) → n ≡ count g → n ≤ i → n < m → (w : Weight) → of w ≡ f c → Told f g c (map of (set ws n w))
+  told_new f g c ws F n e a b w q = subst (Told f g c) (sym (map-set of ws n w)) (told f g c F n e a b (of w) q)
+
+module _ (f : List ℕ → ℕ) (of : Weight → ℕ) (g : List ℕ) (ws : List Weight) (d : Weight) where
+  pub slot_at : Each f g (map of ws) → (i : ℕ) → i < count g → of (get_or ws i d) ≡ f (code g i)
+  slot_at E i l = sym (get_or-map of ws i d 0 (omega (arith, E.long, length-map ws of))) ∙ E.at i l
+
+  pub new_at : (c : List ℕ) → Told f g c (map of ws) → (n : ℕ) → n ≡ count g → of (get_or ws n d) ≡ f c
+  new_at c T n e = ap (λ m. of (get_or ws m d)) e ∙ sym (get_or-map of ws (count g) d 0 (omega (arith, T.rows.long, length-map ws of))) ∙ T.new
 
 -- a row of a page needs 76 at most
 pub light : (g : List ℕ) (i : ℕ) → Slotted g → i < count g → weight (code g i) ≤ 76
@@ -83,11 +100,12 @@ module _ (h : List ℕ → ℕ) where
   load_pick c k v = keep_pick (eqb (top k (h c)) v) c
 
   -- as it is told: that of a slot, and that of the new row
-  pub slot_told : (g c hs ns : List ℕ) (k v : ℕ) → Told h g c hs → Told weight g c ns → (i : ℕ) → i < count g → pick (eqb (top k (get_or hs i 0)) v) (get_or ns i 0) 0 ≡ load h (keyed (code g i) ∷ []) k v
-  slot_told g c hs ns k v H N i l = (λ x. pick (eqb (top k (H.rows.at i l x)) v) (N.rows.at i l x) 0) ∙ sym (load_pick (code g i) k v)
+  module _ (g c : List ℕ) (ws : List Weight) (d : Weight) (k v : ℕ) (H : Told h g c (hashes_in ws)) (N : Told weight g c (needs_in ws)) where
+    pub slot_told : (i : ℕ) → i < count g → pick (eqb (top k (get_or ws i d).hash) v) (get_or ws i d).need 0 ≡ load h (keyed (code g i) ∷ []) k v
+    slot_told i l = (λ x. pick (eqb (top k (slot_at h (λ (w : Weight). w.hash) g ws d H.rows i l x)) v) (slot_at weight (λ (w : Weight). w.need) g ws d N.rows i l x) 0) ∙ sym (load_pick (code g i) k v)
 
-  pub new_told : (g c hs ns : List ℕ) (k v : ℕ) → Told h g c hs → Told weight g c ns → (n : ℕ) → n ≡ count g → pick (eqb (top k (get_or hs n 0)) v) (get_or ns n 0) 0 ≡ load h (keyed c ∷ []) k v
-  new_told g c hs ns k v H N n e = ap (λ m. pick (eqb (top k (get_or hs m 0)) v) (get_or ns m 0) 0) e ∙ (λ x. pick (eqb (top k (H.new x)) v) (N.new x) 0) ∙ sym (load_pick c k v)
+    pub new_told : (n : ℕ) → n ≡ count g → pick (eqb (top k (get_or ws n d).hash) v) (get_or ws n d).need 0 ≡ load h (keyed c ∷ []) k v
+    new_told n e = (λ x. pick (eqb (top k (new_at h (λ (w : Weight). w.hash) g ws d c H n e x)) v) (new_at weight (λ (w : Weight). w.need) g ws d c N n e x) 0) ∙ sym (load_pick c k v)
 
   -- ---- a page's rows, slot by slot
 

@@ -12,6 +12,7 @@ use Rattle.partition.specs.Partition.{Row}
 use Rattle.store.specs.Pages.{size, page, dir_depth, entry_at}
 use Rattle.store.specs.Accepted.{Calls, Accepted}
 use Rattle.store.specs.Demands.{Sized, Mode}
+use Rattle.putting.specs.declared.weigh.Weight.{Weight}
 
 -- the row of a code and a place
 abbrev pub new_row : List ℕ → List ℕ → Row
@@ -77,12 +78,10 @@ pub record Crowded (S : Shape) (h : List ℕ → ℕ) (s : List ℕ) (p i : ℕ)
   pub belongs : Belongs (page S s p) i c
   pub tight : free (page S s p) < 12 + length c
 
--- what a split is lent to work in: a page, twice a number for each row that a page can have and one for the new row, and the counts
-pub record Lent (S : Shape) (t hs ns tallies : List ℕ) : Type 0 where
+-- what a split is lent to work in: a page, and a hash and a need for each row that a page can have and for the new row
+pub record Lent (S : Shape) (t : List ℕ) (ws : List Weight) : Type 0 where
   pub page : length t ≡ size S
-  pub hashes : S.capacity / 13 < length hs
-  pub weights : S.capacity / 13 < length ns
-  pub counts : length tallies ≡ 14
+  pub weights : S.capacity / 13 < length ws
 
 -- of the entries that the prefix v of k bits calls for, in a directory of depth d, none names a page
 abbrev pub Unset : Shape → List ℕ → ℕ → ℕ → ℕ → Type 0

@@ -15,6 +15,7 @@ use Rattle.store.specs.Moves.{find, is_free, frees, pack_from, packed, written}
 use Rattle.query.specs.Spots.{DirectoryOf}
 use Rattle.directory.specs.Directory.{CallsFor, PrefixNamed, Rewritten}
 use Rattle.putting.specs.Put.{new_row}
+use Rattle.putting.specs.declared.weigh.Weight.{Weight}
 
 -- a row of the code, its place left aside
 abbrev pub keyed : List ℕ → Row
@@ -38,19 +39,25 @@ pub record Told (f : List ℕ → ℕ) (g c l : List ℕ) : Type 0 where
   pub rows : Each f g l
   pub new : get_or l (count g) 0 ≡ f c
 
--- there is room for the hashes and needs of the rows of the page g and of a row of the code c
-pub record Weighable (g c hs ns : List ℕ) : Type 0 where
-  pub page : Slotted g
-  pub good : GoodCode c
-  pub hashes : count g < length hs
-  pub weights : count g < length ns
+-- the hashes in ws, and the needs
+abbrev pub hashes_in : List Weight → List ℕ
+hashes_in ws = map (λ (w : Weight). w.hash) ws
 
--- hs and ns have them
-pub record Weighed (h : List ℕ → ℕ) (g c hs ns : List ℕ) : Type 0 where
+abbrev pub needs_in : List Weight → List ℕ
+needs_in ws = map (λ (w : Weight). w.need) ws
+
+-- there is room for the hashes and needs of the rows of the page g and of a row of the code c
+pub record Weighable (g c : List ℕ) (ws : List Weight) : Type 0 where
   pub page : Slotted g
   pub good : GoodCode c
-  pub hashes : Told h g c hs
-  pub weights : Told weight g c ns
+  pub room : count g < length ws
+
+-- ws has them
+pub record Weighed (h : List ℕ → ℕ) (g c : List ℕ) (ws : List Weight) : Type 0 where
+  pub page : Slotted g
+  pub good : GoodCode c
+  pub hashes : Told h g c (hashes_in ws)
+  pub weights : Told weight g c (needs_in ws)
 
 -- v is a prefix of k bits, at most the deepest depth
 pub record PrefixIn (S : Shape) (k v : ℕ) : Type 0 where
@@ -68,8 +75,8 @@ abbrev pub pages_below : Shape → (List ℕ → ℕ) → List Row → ℕ → �
 pages_below S h rs k v = map (packed h rs) (below S h rs k v)
 
 -- the buckets of the rows of the page g and a row of the code c can be counted in the array, too
-pub record Countable (S : Shape) (h : List ℕ → ℕ) (g c hs ns : List ℕ) (k v : ℕ) (tallies : List ℕ) : Type 0 where
-  pub weighed : Weighed h g c hs ns
+pub record Countable (S : Shape) (h : List ℕ → ℕ) (g c : List ℕ) (ws : List Weight) (k v : ℕ) (tallies : List ℕ) : Type 0 where
+  pub weighed : Weighed h g c ws
   pub prefix : PrefixIn S k v
   pub array : length tallies ≡ 14
   pub few : (j : ℕ) → j ≤ 12 → get_or tallies (suc j) 0 + length (below S h (with_new g (keyed c)) k v) < 4294967296
@@ -119,11 +126,11 @@ pub record SlotAppendable (h : List ℕ → ℕ) (p g : List ℕ) (i x k v : ℕ
   pub hash : x ≡ h (code g i)
   pub deep : k ≤ 12
 
--- the rows in the slots of g from a up to b, whose hashes are in hs, can be appended to the page p, those that begin with the k bits of v
-pub record SlotsAppendable (h : List ℕ → ℕ) (p g hs : List ℕ) (a b k v : ℕ) : Type 0 where
+-- the rows in the slots of g from a up to b, whose hashes are in ws, can be appended to the page p, those that begin with the k bits of v
+pub record SlotsAppendable (h : List ℕ → ℕ) (p g : List ℕ) (ws : List Weight) (a b k v : ℕ) : Type 0 where
   pub behind : Behind p (rows_of h (slots g a b) k v)
   pub page : Slotted g
-  pub hashes : Each h g hs
+  pub hashes : Each h g (hashes_in ws)
   pub from : a ≤ b
   pub to : b ≤ count g
   pub deep : k ≤ 12
@@ -135,10 +142,10 @@ pub record Source (g : List ℕ) (i : ℕ) (c pl : List ℕ) : Type 0 where
   pub natural : Natural pl
   pub good : GoodCode c
 
--- of these rows those whose hashes, in hs, begin with the k bits of v fit the page p, and there is one
-pub record Bucketable (h : List ℕ → ℕ) (g : List ℕ) (i : ℕ) (c pl hs : List ℕ) (k v : ℕ) (p : List ℕ) : Type 0 where
+-- of these rows those whose hashes, in ws, begin with the k bits of v fit the page p, and there is one
+pub record Bucketable (h : List ℕ → ℕ) (g : List ℕ) (i : ℕ) (c pl : List ℕ) (ws : List Weight) (k v : ℕ) (p : List ℕ) : Type 0 where
   pub source : Source g i c pl
-  pub hashes : Told h g c hs
+  pub hashes : Told h g c (hashes_in ws)
   pub deep : k ≤ 12
   pub least : 16 ≤ length p
   pub most : length p ≤ 16384
@@ -214,11 +221,11 @@ pub record Writable (S : Shape) (h : List ℕ → ℕ) (rs : List Row) (k v : �
   pub to : at < pages S s
   pub room : Room (contents S s) at (pages_below S h rs k v)
 
--- buckets that can be written of the rows of the page g, whose hashes and needs are in hs and ns, and of the new row, which belongs at slot i; d is a depth that there is
-pub record Spread (S : Shape) (h : List ℕ → ℕ) (d : ℕ) (s g : List ℕ) (i : ℕ) (c pl hs ns : List ℕ) (k v at : ℕ) : Type 0 where
+-- buckets that can be written of the rows of the page g, whose hashes and needs are in ws, and of the new row, which belongs at slot i; d is a depth that there is
+pub record Spread (S : Shape) (h : List ℕ → ℕ) (d : ℕ) (s g : List ℕ) (i : ℕ) (c pl : List ℕ) (ws : List Weight) (k v at : ℕ) : Type 0 where
   pub depth : d ≤ S.deepest
   pub source : Source g i c pl
-  pub weighed : Weighed h g c hs ns
+  pub weighed : Weighed h g c ws
   pub writable : Writable S h (with_new g (new_row c pl)) k v s at
 
 -- t is s with the buckets below the prefix (k, v), the first in page at unless that is 0, each next in the lowest free page; p is what is left of page at; d is the directory's depth

@@ -7,6 +7,8 @@ ghost use Rattle.store.specs.Pages.{as_row};
 ghost use Rattle.putting.specs.Put.{new_row};
 ghost use Rattle.putting.specs.Split.{slots, with_new, Appendable, AppendableIf, SlotAppendable, SlotsAppendable, Appended, Bucketable, Bucketed};
 
+use super::weigh::Weight;
+
 // The row goes behind those of a packed page.
 fn append(page: &mut [u8], key: &[u8], place: &[u8])
     requires { Appendable page.old key.now place.now }
@@ -36,35 +38,34 @@ fn append_slot(page: &mut [u8], from: &[u8], i: usize, x: u32, k: u32, v: u64)
     }
 }
 
-// Of the slots from a up to b, the rows whose hashes, in hs, begin with the k bits of v go behind those of a packed page.
-fn append_slots(page: &mut [u8], from: &[u8], hs: &[u32], a: usize, b: usize, k: u32, v: u64)
-    requires { SlotsAppendable fnv page.old from.now hs.now a b k v }
+// Of the slots from a up to b, the rows whose hashes, in ws, begin with the k bits of v go behind those of a packed page.
+fn append_slots(page: &mut [u8], from: &[u8], ws: &[Weight], a: usize, b: usize, k: u32, v: u64)
+    requires { SlotsAppendable fnv page.old from.now ws.now a b k v }
     ensures { Appended page.old (rows_of fnv (slots from.now a b) k v) page.new }
 {
-    let mut i = a;
-    while i < b {
-        append_slot(page, from, i, hs[i], k, v);
-        i += 1;
+    for i in a..b {
+        append_slot(page, from, i, ws[i].hash, k, v);
     }
 }
 
-// The rows of a page and the new row, which belongs at slot i, whose hashes begin with the k bits of v; hs has the hashes.
-pub fn write_bucket(
-    page: &mut [u8],
-    from: &[u8],
-    i: usize,
-    key: &[u8],
-    place: &[u8],
-    hs: &[u32],
-    k: u32,
-    v: u64,
-)
-    requires { Bucketable fnv from.now i key.now place.now hs.now k v page.old }
-    ensures { Bucketed fnv (with_new from.now (new_row key.now place.now)) k v page.old page.new }
+// What is split: the rows of the page from, and a new row, whose code belongs at slot i; ws has their hashes and needs.
+#[derive(Clone, Copy)]
+pub struct Rows<'a> {
+    pub from: &'a [u8],
+    pub i: usize,
+    pub key: &'a [u8],
+    pub place: &'a [u8],
+    pub ws: &'a [Weight],
+}
+
+// Those of the rows whose hashes begin with the k bits of v.
+pub fn write_bucket<'a, 'p>(page: &'p mut [u8], rows: Rows<'a>, k: u32, v: u64)
+    requires { Bucketable fnv rows.from.now rows.i rows.key.now rows.place.now rows.ws.now k v page.old }
+    ensures { Bucketed fnv (with_new rows.entry.from.now (new_row rows.entry.key.now rows.entry.place.now)) k v page.old page.new }
 {
-    let n = words::get16(from, 2);
+    let n = words::get16(rows.from, 2);
     page::new_page(page, k as u8);
-    append_slots(page, from, hs, 0, i, k, v);
-    append_if(page, key, place, hs[n], k, v);
-    append_slots(page, from, hs, i, n, k, v);
+    append_slots(page, rows.from, rows.ws, 0, rows.i, k, v);
+    append_if(page, rows.key, rows.place, rows.ws[n].hash, k, v);
+    append_slots(page, rows.from, rows.ws, rows.i, n, k, v);
 }

@@ -38,10 +38,10 @@ pub fn put_checked(
     ensures { Made z fnv (put key.now place mode) s.old (meaning result) s.new }
 {
     if !store::good_code(key) {
-        return store::Answer::Refused(store::Refusal::BadCode);
+        return Err(store::Refusal::BadCode);
     }
     if page::negative(place) {
-        return store::Answer::Refused(store::Refusal::BadPlace);
+        return Err(store::Refusal::BadPlace);
     }
     put_allowed(s, z, key, place, mode)
 }

@@ -14,7 +14,6 @@ use super::split::split_lent;
 use super::vacant::vacant_depth;
 use directory::{free_pages, lowest_free, name_prefix};
 use partition::Shape;
-use store_check::Length;
 
 // The code in slot i of page p gets another place.
 fn replace(s: &mut [u8], z: Shape, p: usize, i: usize, place: &[u8]) -> store::Answer
@@ -26,7 +25,7 @@ fn replace(s: &mut [u8], z: Shape, p: usize, i: usize, place: &[u8]) -> store::A
     let e = a + size;
     let old = page::read_place(&s[a..e], i);
     page::set_place(&mut s[a..e], i, place);
-    store::Answer::Replaced(old)
+    Ok(store::Done::Replaced(old))
 }
 
 // A new code goes to slot i of page p, in which it fits; scratch is a page to work in.
@@ -47,7 +46,7 @@ fn insert_new(
     let e = a + size;
     page::insert_row(&mut s[a..e], i, key, place, scratch);
     counts::raise(s, 0);
-    store::Answer::New
+    Ok(store::Done::New)
 }
 
 // A row inserted, with a page to work in: of 1,024 bytes where the pages are no longer, so that these pay for no more, else of the largest size.
@@ -91,7 +90,7 @@ fn insert_fitting(
     if f + 4 * n + 12 + key.len() <= size {
         page::insert_at_frontier(&mut s[a..e], i, key, place);
         counts::raise(s, 0);
-        return store::Answer::New;
+        return Ok(store::Done::New);
     }
     insert_lent(s, z, p, i, key, place)
 }
@@ -104,7 +103,7 @@ fn new_bucket(s: &mut [u8], z: Shape, x: u32, key: &[u8], place: &[u8]) -> store
     let size = 8 + z.capacity;
     let n = s.len() / size;
     if free_pages(s, z, n, 1) < 1 {
-        return store::Answer::Refused(store::Refusal::PagesFull);
+        return Err(store::Refusal::PagesFull);
     }
     let p = lowest_free(s, z);
     let d = words::get32(s, 16) as u32;
@@ -115,7 +114,7 @@ fn new_bucket(s: &mut [u8], z: Shape, x: u32, key: &[u8], place: &[u8]) -> store
     name_prefix(s, z, x, k, d, p);
     counts::raise(s, 0);
     counts::raise(s, 1 + k as usize);
-    store::Answer::New
+    Ok(store::Done::New)
 }
 
 // Page p holds the hash of the code; mode 1 wants a new code, mode 2 a known one.
@@ -126,17 +125,16 @@ fn put_on(s: &mut [u8], z: Shape, p: usize, key: &[u8], place: &[u8], mode: u64)
     let size = 8 + z.capacity;
     let a = p * size;
     let e = a + size;
-    let found = page::find_code(&s[a..e], key);
-    match found {
-        page::Found::At(i) => {
+    match page::find_code(&s[a..e], key) {
+        Ok(i) => {
             if mode == 1 {
-                return store::Answer::Refused(store::Refusal::KnownCode);
+                return Err(store::Refusal::KnownCode);
             }
             replace(s, z, p, i, place)
         }
-        page::Found::Absent(i) => {
+        Err(i) => {
             if mode == 2 {
-                return store::Answer::Refused(store::Refusal::NoCode);
+                return Err(store::Refusal::NoCode);
             }
             let room = words::get16(&s[a..e], 6);
             if 12 + key.len() <= room {
@@ -156,7 +154,7 @@ pub fn put_row(s: &mut [u8], z: Shape, key: &[u8], place: &[u8], mode: u64) -> s
     let p = query::entry_of(s, z, x);
     if p == 0 {
         if mode == 2 {
-            return store::Answer::Refused(store::Refusal::NoCode);
+            return Err(store::Refusal::NoCode);
         }
         return new_bucket(s, z, x, key, place);
     }
@@ -178,21 +176,16 @@ pub fn put_given(s: &mut [u8], z: Shape, key: &[u8], place: &[u8], mode: u64) ->
 pub fn put(s: &mut [u8], key: &[u8], place: page::Place, mode: u64) -> store::Answer
     ensures { Answers (put_table (shape_of s.old) fnv s.old key.now place mode) (meaning result, s.new) }
 {
-    let Length::Of(z) = store_check::said_shape(s) else {
-        return store::Answer::Refused(store::Refusal::BadLength);
-    };
+    let z = store_check::said_shape(s)?;
     if !store::good_code(key) {
-        return store::Answer::Refused(store::Refusal::BadCode);
+        return Err(store::Refusal::BadCode);
     }
     if page::negative(place) {
-        return store::Answer::Refused(store::Refusal::BadPlace);
+        return Err(store::Refusal::BadPlace);
     }
     if 2 < mode {
-        return store::Answer::Refused(store::Refusal::BadMode);
+        return Err(store::Refusal::BadMode);
     }
-    let p = store_check::first_bad(s, z);
-    if p < s.len() / (8 + z.capacity) {
-        return store::Answer::Refused(store::Refusal::BadPage(p));
-    }
+    store_check::accept(s, z)?;
     put_allowed(s, z, key, place, mode)
 }

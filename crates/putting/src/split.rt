@@ -1,17 +1,18 @@
 // A page that is split.
-ghost use Rattle.std.specs.Prelude.{◌≡◌, ◌+◌, ◌^◌, ◌≤◌, ◌<◌};
+ghost use Rattle.std.specs.Prelude.{◌≡◌, ◌+◌, ◌/◌, ◌^◌, ◌≤◌, ◌<◌};
 ghost use Rattle.words.specs.Le.{le32};
 ghost use Rattle.counts.specs.Tallies.{CountsNow, one_less};
 ghost use Rattle.ground.specs.Ladder.{Answers};
 ghost use Rattle.hash.specs.Fnv.{fnv};
 ghost use Rattle.partition.specs.Bits.{top};
-ghost use Rattle.store.specs.Pages.{pages, contents};
+ghost use Rattle.store.specs.Pages.{size, pages, contents};
 ghost use Rattle.store.specs.Tables.{put_accepted, meaning};
 ghost use Rattle.putting.specs.Put.{new_row, Crowded, Lent};
 ghost use Rattle.putting.specs.Split.{with_new, taken_next, PageComing, NamingBucket, NamedIf, Spread, BucketsWritten, SplitCounted};
 
-use super::bucket::write_bucket;
-use super::weigh::{count_below, gather, load};
+use super::bucket::{Rows, write_bucket};
+use super::weigh::{Weight, count_below, gather, load};
+use counts::Tallies;
 use directory::{free_pages, lowest_free, name_prefix, settle_depth};
 use partition::Shape;
 
@@ -45,24 +46,19 @@ fn name_bucket(s: &mut [u8], z: Shape, k: u32, v: u64, d: u32, p: usize)
 }
 
 // The buckets at the prefix v of k bits and below it are written packed, the first to page at unless that is 0, each next to the lowest free page, and their entries in the directory, of depth d, name them. Page at where none is written, else 0.
-fn write_below(
-    s: &mut [u8],
+fn write_below<'a, 's>(
+    s: &'s mut [u8],
     z: Shape,
     d: u32,
-    from: &[u8],
-    i: usize,
-    key: &[u8],
-    place: &[u8],
-    hs: &[u32],
-    ns: &[u32],
+    rows: Rows<'a>,
     k: u32,
     v: u64,
     at: usize,
 ) -> usize
-    requires { Spread z fnv d s.old from.now i key.now place.now hs.now ns.now k v at }
-    ensures { BucketsWritten z fnv d (with_new from.now (new_row key.now place.now)) k v s.old at s.new result }
+    requires { Spread z fnv d s.old rows.from.now rows.i rows.key.now rows.place.now rows.ws.now k v at }
+    ensures { BucketsWritten z fnv d (with_new rows.entry.from.now (new_row rows.entry.key.now rows.entry.place.now)) k v s.old at s.new result }
 {
-    let need = load(from, key, hs, ns, k, v);
+    let need = load(rows.from, rows.key, rows.ws, k, v);
     if need == 0 {
         return at;
     }
@@ -71,23 +67,23 @@ fn write_below(
         let size = 8 + z.capacity;
         let a = p * size;
         let e = a + size;
-        write_bucket(&mut s[a..e], from, i, key, place, hs, k, v);
+        write_bucket(&mut s[a..e], rows, k, v);
         name_bucket(s, z, k, v, d, p);
         return 0;
     }
     if k as usize == z.deepest {
         return at;
     }
-    let next = write_below(s, z, d, from, i, key, place, hs, ns, k + 1, 2 * v, at);
-    write_below(s, z, d, from, i, key, place, hs, ns, k + 1, 2 * v + 1, next)
+    let next = write_below(s, z, d, rows, k + 1, 2 * v, at);
+    write_below(s, z, d, rows, k + 1, 2 * v + 1, next)
 }
 
 // The counts in page 0 after a split of a bucket of k bits: the array has those before it and those of the new buckets.
-fn write_split(s: &mut [u8], k: u32, tallies: &mut [u32])
-    requires { SplitCounted s.old k tallies.old }
-    ensures { CountsNow s.old (le32 s.old 24 + 1) (one_less tallies.old (1 + k)) s.new }
+fn write_split(s: &mut [u8], k: u32, mut tallies: Tallies)
+    requires { SplitCounted s.old k tallies }
+    ensures { CountsNow s.old (le32 s.old 24 + 1) (one_less tallies (1 + k)) s.new }
 {
-    counts::count_down(tallies, 1 + k as usize);
+    counts::count_down(&mut tallies, 1 + k as usize);
     let rows = counts::rows_counted(s);
     counts::write_counted(s, tallies, rows + 1);
 }
@@ -101,37 +97,69 @@ fn split(
     key: &[u8],
     place: &[u8],
     from: &mut [u8],
-    hs: &mut [u32],
-    ns: &mut [u32],
-    tallies: &mut [u32],
+    ws: &mut [Weight],
 ) -> store::Answer
-    requires { Crowded z fnv s.old p i key.now place.now × Lent z from.old hs.old ns.old tallies.old }
+    requires { Crowded z fnv s.old p i key.now place.now × Lent z from.old ws.old }
     ensures { Answers (put_accepted z fnv s.old (new_row key.now place.now)) (meaning result, s.new) }
 {
     let size = 8 + z.capacity;
     let a = p * size;
     let e = a + size;
     words::copy_at(from, 0, &s[a..e]);
-    gather(from, key, hs, ns);
+    gather(from, key, ws);
     let x = hash::hash(key);
     let deepest = z.deepest as u32;
-    if z.capacity < load(from, key, hs, ns, deepest, partition::top_bits(x, deepest)) {
-        return store::Answer::Refused(store::Refusal::PrefixFull);
+    if z.capacity < load(from, key, ws, deepest, partition::top_bits(x, deepest)) {
+        return Err(store::Refusal::PrefixFull);
     }
     let n = s.len() / size;
     let k = from[1] as u32;
     let v = partition::top_bits(x, k);
-    counts::read_counts(s, tallies);
-    let m = count_below(from, z, key, hs, ns, k, v, tallies);
+    let mut tallies = counts::read_counts(s);
+    let m = count_below(from, z, key, ws, k, v, &mut tallies);
     if free_pages(s, z, n, m) + 1 < m {
-        return store::Answer::Refused(store::Refusal::PagesFull);
+        return Err(store::Refusal::PagesFull);
     }
     let d = words::get32(s, 16);
     name_prefix(s, z, x, k, d as u32, 0);
-    write_below(s, z, d as u32, from, i, key, place, hs, ns, k, v, p);
+    let rows = Rows {
+        from,
+        i,
+        key,
+        place,
+        ws,
+    };
+    write_below(s, z, d as u32, rows, k, v, p);
     write_split(s, k, tallies);
     settle_depth(s, z, n, d, z.deepest);
-    store::Answer::New
+    Ok(store::Done::New)
+}
+
+// A split in a page of PAGE bytes, and with ROWS rows weighed at most.
+fn split_in<const PAGE: usize, const ROWS: usize>(
+    s: &mut [u8],
+    z: Shape,
+    p: usize,
+    i: usize,
+    key: &[u8],
+    place: &[u8],
+) -> store::Answer
+    requires { Crowded z fnv s.old p i key.now place.now × (size z ≤ PAGE) × (z.capacity / 13 < ROWS) × (PAGE ≤ 16384) × (ROWS ≤ 1260) }
+    ensures { Answers (put_accepted z fnv s.old (new_row key.now place.now)) (meaning result, s.new) }
+{
+    let mut from = [0; PAGE];
+    let mut ws = [Weight { hash: 0, need: 0 }; ROWS];
+    let pages = &mut from[..];
+    split(
+        s,
+        z,
+        p,
+        i,
+        key,
+        place,
+        &mut pages[0..8 + z.capacity],
+        &mut ws,
+    )
 }
 
 // A split with what it works in: of a page of 1,024 bytes and its rows where the pages are no longer, else of the largest size.
@@ -146,39 +174,9 @@ pub fn split_lent(
     requires { Crowded z fnv s.old p i key.now place.now }
     ensures { Answers (put_accepted z fnv s.old (new_row key.now place.now)) (meaning result, s.new) }
 {
-    let size = 8 + z.capacity;
-    let mut tallies = [0u32; 14];
-    if size <= 1024 {
-        let mut from = [0u8; 1024];
-        // Such a page has at most 78 rows, one of 16,384 bytes at most 1,259, and here comes one more.
-        let mut hs = [0u32; 79];
-        let mut ns = [0u32; 79];
-        return split(
-            s,
-            z,
-            p,
-            i,
-            key,
-            place,
-            &mut from[0..size],
-            &mut hs,
-            &mut ns,
-            &mut tallies,
-        );
+    // A page of 1,024 bytes has at most 78 rows, one of 16,384 bytes at most 1,259, and here comes one more.
+    if 8 + z.capacity <= 1024 {
+        return split_in::<1024, 79>(s, z, p, i, key, place);
     }
-    let mut from = [0u8; 16384];
-    let mut hs = [0u32; 1260];
-    let mut ns = [0u32; 1260];
-    split(
-        s,
-        z,
-        p,
-        i,
-        key,
-        place,
-        &mut from[0..size],
-        &mut hs,
-        &mut ns,
-        &mut tallies,
-    )
+    split_in::<16384, 1260>(s, z, p, i, key, place)
 }

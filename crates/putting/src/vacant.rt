@@ -12,15 +12,10 @@ fn unset(s: &[u8], z: Shape, x: u32, k: u32, d: u32) -> bool
     requires { DirectoryOf z s.now d × (k ≤ d) }
     ensures { Says result (Unset z s.now d k (top k x)) }
 {
-    let run = partition::run_of(x, k, d);
-    let from = run.from;
-    let to = run.to;
-    let mut i = from;
-    while i < to {
-        if words::get32(s, 8 + z.capacity + 4 * i) != 0 {
+    for i in partition::run_of(x, k, d) {
+        if words::get32(s, z.size() + 4 * i) != 0 {
             return false;
         }
-        i += 1;
     }
     true
 }
@@ -30,12 +25,10 @@ pub fn vacant_depth(s: &[u8], z: Shape, x: u32, d: u32) -> u32
     requires { DirectoryOf z s.now d × Unset z s.now d d (top d x) }
     ensures { Vacant z s.now d x result }
 {
-    let mut k = d;
-    while 0 < k {
-        if !unset(s, z, x, k - 1, d) {
-            return k;
+    for k in (0..d).rev() {
+        if !unset(s, z, x, k, d) {
+            return k + 1;
         }
-        k -= 1;
     }
-    k
+    0
 }

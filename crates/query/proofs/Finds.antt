@@ -31,7 +31,7 @@ use Rattle.store.proofs.Showing.Walked.{from, walk_from, Start, behind, walk_sta
 use Rattle.query.specs.Spots.{StandsAt, Listed}
 use Rattle.query.specs.Cursors.{later, listed_from, At, Along}
 use Rattle.query.specs.declared.Cursor.{Cursor}
-use Rattle.query.specs.declared.Spot.TheVariants.{Here, Nowhere}
+use Rattle.std.specs.Prelude.{Some, None}
 
 module _ (S : Shape) (sz : Sized S) (s : List ℕ) (a : Accepted S fnv s) where
   T : Opened S fnv s
@@ -44,7 +44,7 @@ module _ (S : Shape) (sz : Sized S) (s : List ℕ) (a : Accepted S fnv s) where
   shallow = T.page0.depth
 
   module _ (c : List ℕ) where
-    pub not_named : entry_of S fnv s c ≡ 0 → StandsAt S s c Nowhere
+    pub not_named : entry_of S fnv s c ≡ 0 → StandsAt S s c None
     not_named e = lookup_none S fnv sz fnv_lt s a c e
 
     module _ (n : entry_of S fnv s c ≡ 0 → ⊥) where
@@ -69,10 +69,10 @@ module _ (S : Shape) (sz : Sized S) (s : List ℕ) (a : Accepted S fnv s) where
       on_it : place_of (rows_held S s) c ≡ place_of (map as_row (rows g)) c
       on_it = (lookup_page S fnv sz fnv_lt s a c n).1 ∙ ap (λ x. place_of (rows_on x) c) (read_used g keeps)
 
-      pub here : (i : ℕ) → i < count g → code g i ≡ c → StandsAt S s c (Here p i)
+      pub here : (i : ℕ) → i < count g → code g i ≡ c → StandsAt S s c (Some (record { page = p; slot = i }))
       here i l e = (record { from = from_two; within = inside; rules = keeps; slot = l }, e, on_it ∙ found_at g keeps.rules c i l e)
 
-      pub nowhere : (i : ℕ) → Belongs g i c → StandsAt S s c Nowhere
+      pub nowhere : (i : ℕ) → Belongs g i c → StandsAt S s c None
       nowhere i b = on_it ∙ found_not g keeps.rules c i b
 
 -- an entry of a directory lies in page 1
@@ -135,7 +135,7 @@ module _ (S : Shape) (sz : Sized S) (s : List ℕ) (a : Accepted S fnv s) (n : �
     most = f.most;
   })
 
-  pub from_end : (i left : ℕ) → 2 ^ d ≤ i → From S s n i left → Listed S s n Nowhere
+  pub from_end : (i left : ℕ) → 2 ^ d ≤ i → From S s n i left → Listed S s n None
   from_end i left l f = first_of i left f ∙ ap (λ l. get_elem? l left) (walk_end S fnv sz fnv_lt s a i l)
 
   pub from_none : (i left : ℕ) → i < 2 ^ d → entry_at S s i ≡ 0 → From S s n i left → From S s n (i + 1) left
@@ -163,7 +163,7 @@ module _ (S : Shape) (sz : Sized S) (s : List ℕ) (a : Accepted S fnv s) (n : �
         let e₃ : byte s (q * size S + 2 + 1) ≡ byte s (q * size S + 3) = ap (byte s) (omega arith) in
         omega (arith, page_byte S s q 2 (omega arith), page_byte S s q 3 (omega arith))
 
-    pub from_here : left < le16 s (q * size S + 2) → Listed S s n (Here q left)
+    pub from_here : left < le16 s (q * size S + 2) → Listed S s n (Some (record { page = q; slot = left }))
     from_here m =
         let b : left < count (page S s q) = omega (arith, rows_many) in
         (record { from = named.from; within = page_inside; rules = named.bytes.rules; slot = b }, first_of i left f ∙ walk_here S fnv sz fnv_lt s a i left l z f.starts b)

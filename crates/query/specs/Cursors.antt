@@ -1,5 +1,5 @@
 -- Where a cursor stands in the listing of an accepted store, and what a step gives. Assumes nothing.
-use Rattle.std.specs.Prelude.{◌≡◌, ℕ, ◌+◌, ◌^◌, ◌≤◌, ◌<◌, leb}
+use Rattle.std.specs.Prelude.{◌≡◌, ℕ, ◌+◌, ◌^◌, ◌≤◌, ◌<◌, leb, Option, Some, None}
 use mathlib.Core.List.{List, [], ◌∷◌, flat_map, Memᴰ}
 use Rattle.std.proofs.Math.Option.{some}
 use Rattle.std.proofs.Math.ListN.{get_elem?}
@@ -14,9 +14,7 @@ use Rattle.store.specs.Accepted.{Accepted}
 use Rattle.store.specs.Demands.{Sized}
 use Rattle.query.specs.Spots.{Listed}
 use Rattle.query.specs.declared.Cursor.{Cursor}
-use Rattle.query.specs.declared.Spot.TheVariants.{Here, Nowhere}
-use Rattle.query.specs.declared.Step.{Step}
-use Rattle.query.specs.declared.Step.TheVariants.{Handed, Done}
+use Rattle.query.specs.declared.Spot.{Spot}
 
 -- the buckets that begin at entry i or later
 unfoldable pub later : ℕ → ℕ → List Prefix → List Prefix
@@ -47,6 +45,6 @@ abbrev pub Along : Shape → List ℕ → ℕ → ℕ → ℕ → Type 0
 Along S s n p i = (j : ℕ) → i + j < count (page S s p) → get_elem? (listing S fnv (rows_held S s)) (n + j) ≡ some (as_row (row_at (page S s p) (i + j)))
 
 -- a step from before place n: the row at place n, those behind it on its page, and a cursor one slot on, before the next; or there is no such row
-abbrev pub Stepped : Shape → List ℕ → ℕ → Step → Type 0
-Stepped S s n (Handed p i c) = Listed S s n (Here p i) × At S s (n + 1) c × Along S s n p i × (c.slot ≡ i + 1)
-Stepped S s n Done = Listed S s n Nowhere
+abbrev pub Stepped : Shape → List ℕ → ℕ → Option (Spot × Cursor) → Type 0
+Stepped S s n (Some (a, c)) = Listed S s n (Some a) × At S s (n + 1) c × Along S s n a.page a.slot × (c.slot ≡ a.slot + 1)
+Stepped S s n None = Listed S s n None

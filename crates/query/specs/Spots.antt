@@ -1,5 +1,5 @@
 -- Where a row of an accepted store stands. Assumes nothing.
-use Rattle.std.specs.Prelude.{◌≡◌, List, ℕ, ◌+◌, ◌*◌, ◌≤◌, ◌<◌, length}
+use Rattle.std.specs.Prelude.{◌≡◌, List, ℕ, ◌+◌, ◌*◌, ◌≤◌, ◌<◌, length, Option, Some, None}
 use Rattle.std.proofs.Math.Option.{some, none}
 use Rattle.std.proofs.Math.ListN.{get_elem?}
 use Rattle.hash.specs.Fnv.{fnv}
@@ -10,7 +10,6 @@ use Rattle.partition.specs.Listing.{listing, place_of}
 use Rattle.store.specs.Pages.{size, page, as_row, rows_held}
 use Rattle.store.specs.Demands.{Sized}
 use Rattle.query.specs.declared.Spot.{Spot}
-use Rattle.query.specs.declared.Spot.TheVariants.{Here, Nowhere}
 
 -- the store is long enough for a directory, and d is a depth that there is
 pub record DirectoryOf (S : Shape) (s : List ℕ) (d : ℕ) : Type 0 where
@@ -32,11 +31,11 @@ pub record OnPage (S : Shape) (s : List ℕ) (p i : ℕ) : Type 0 where
   pub slot : i < count (page S s p)
 
 -- the row of the code c stands there, or there is none
-abbrev pub StandsAt : Shape → List ℕ → List ℕ → Spot → Type 0
-StandsAt S s c (Here p i) = OnPage S s p i × (code (page S s p) i ≡ c) × (place_of (rows_held S s) c ≡ some (place (page S s p) i))
-StandsAt S s c Nowhere = place_of (rows_held S s) c ≡ none
+abbrev pub StandsAt : Shape → List ℕ → List ℕ → Option Spot → Type 0
+StandsAt S s c (Some a) = OnPage S s a.page a.slot × (code (page S s a.page) a.slot ≡ c) × (place_of (rows_held S s) c ≡ some (place (page S s a.page) a.slot))
+StandsAt S s c None = place_of (rows_held S s) c ≡ none
 
 -- the row at place n of the listing stands there, or there is none
-abbrev pub Listed : Shape → List ℕ → ℕ → Spot → Type 0
-Listed S s n (Here p i) = OnPage S s p i × (get_elem? (listing S fnv (rows_held S s)) n ≡ some (as_row (row_at (page S s p) i)))
-Listed S s n Nowhere = get_elem? (listing S fnv (rows_held S s)) n ≡ none
+abbrev pub Listed : Shape → List ℕ → ℕ → Option Spot → Type 0
+Listed S s n (Some a) = OnPage S s a.page a.slot × (get_elem? (listing S fnv (rows_held S s)) n ≡ some (as_row (row_at (page S s a.page) a.slot)))
+Listed S s n None = get_elem? (listing S fnv (rows_held S s)) n ≡ none

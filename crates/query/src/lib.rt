@@ -16,18 +16,17 @@ ghost use Rattle.query.specs.Asked.{GivenAsked, RowSought};
 ghost use Rattle.query.specs.Spots.{OnPage};
 
 use partition::Shape;
-use store::{Answer, Refusal};
-use store_check::Length;
+use store::{Answer, Done, Refusal};
 
 mod spots;
 
 pub use spots::{cursor_at, entries_of, entry_of, find_row, next_row};
 
-// A row's page and slot, or no row.
+// Where a row stands: its page and slot.
 #[derive(Clone, Copy)]
-pub enum Spot {
-    Here(usize, usize),
-    Nowhere,
+pub struct Spot {
+    pub page: usize,
+    pub slot: usize,
 }
 
 // A place in the listing: a slot of the rows from a directory entry on.
@@ -37,40 +36,22 @@ pub struct Cursor {
     pub slot: usize,
 }
 
-// A row's page and slot with the cursor behind it, or no row is left.
-#[derive(Clone, Copy)]
-pub enum Step {
-    Handed(usize, usize, Cursor),
-    Done,
-}
-
 // Whether the store keeps every rule, and the first page that does not.
 pub fn check(s: &[u8]) -> Answer
     ensures { Answers (check_table (shape_of s.now) fnv s.now) (meaning result) }
 {
-    let Length::Of(z) = store_check::said_shape(s) else {
-        return Answer::Refused(Refusal::BadLength);
-    };
-    let p = store_check::first_bad(s, z);
-    if p < s.len() / (8 + z.capacity) {
-        return Answer::Refused(Refusal::BadPage(p));
-    }
-    Answer::Accepted
+    let z = store_check::said_shape(s)?;
+    store_check::accept(s, z)?;
+    Ok(Done::Accepted)
 }
 
 // The number of rows: page 0 has it.
 pub fn count(s: &[u8]) -> Answer
     ensures { Answers (count_table (shape_of s.now) fnv s.now) (meaning result) }
 {
-    let Length::Of(z) = store_check::said_shape(s) else {
-        return Answer::Refused(Refusal::BadLength);
-    };
-    let n = s.len() / (8 + z.capacity);
-    let p = store_check::first_bad(s, z);
-    if p < n {
-        return Answer::Refused(Refusal::BadPage(p));
-    }
-    Answer::Rows(counts::rows_counted(s))
+    let z = store_check::said_shape(s)?;
+    store_check::accept(s, z)?;
+    Ok(Done::Rows(counts::rows_counted(s)))
 }
 
 // The place of a code as it is stored, on an accepted store.
@@ -78,15 +59,8 @@ pub fn place_of(s: &[u8], z: Shape, key: &[u8]) -> Answer
     requires { Sized z × Accepted z fnv s.now }
     ensures { Answers (looked_up z s.now key.now) (meaning result) }
 {
-    match spots::find_row(s, z, key, hash::hash(key)) {
-        Spot::Here(p, i) => {
-            let size = 8 + z.capacity;
-            let a = p * size;
-            let e = a + size;
-            Answer::Found(page::read_place(&s[a..e], i))
-        }
-        Spot::Nowhere => Answer::Refused(Refusal::NoCode),
-    }
+    let spot = find_row(s, z, key, hash::hash(key)).ok_or(Refusal::NoCode)?;
+    Ok(Done::Found(page::read_place(store::page_at(s, z, spot.page), spot.slot)))
 }
 
 // The place of a given code, on an accepted store.
@@ -104,16 +78,11 @@ pub fn place_given(s: &[u8], z: Shape, key: &[u8]) -> Answer
 pub fn lookup(s: &[u8], key: &[u8]) -> Answer
     ensures { Answers (lookup_table (shape_of s.now) fnv s.now key.now) (meaning result) }
 {
-    let Length::Of(z) = store_check::said_shape(s) else {
-        return Answer::Refused(Refusal::BadLength);
-    };
+    let z = store_check::said_shape(s)?;
     if !store::good_code(key) {
-        return Answer::Refused(Refusal::BadCode);
+        return Err(Refusal::BadCode);
     }
-    let p = store_check::first_bad(s, z);
-    if p < s.len() / (8 + z.capacity) {
-        return Answer::Refused(Refusal::BadPage(p));
-    }
+    store_check::accept(s, z)?;
     place_given(s, z, key)
 }
 
@@ -122,11 +91,9 @@ pub fn read_row(s: &[u8], z: Shape, p: usize, i: usize, out: &mut [u8]) -> Answe
     requires { OnPage z s.now p i × (64 ≤ length out.old) }
     ensures { (meaning result, out.new) ≡ giving (as_row (row_at (page z s.now p) i)) out.old }
 {
-    let size = 8 + z.capacity;
-    let a = p * size;
-    let e = a + size;
-    let len = page::read_code(&s[a..e], i, out);
-    Answer::RowOf(len, page::read_place(&s[a..e], i))
+    let bucket = store::page_at(s, z, p);
+    let len = page::read_code(bucket, i, out);
+    Ok(Done::RowOf(len, page::read_place(bucket, i)))
 }
 
 // The row at place n of the listing, its code to the start of the output, on an accepted store.
@@ -134,25 +101,18 @@ pub fn give_row(s: &[u8], z: Shape, n: usize, out: &mut [u8]) -> Answer
     requires { RowSought z fnv s.now out.old }
     ensures { Answers (row_of (listing z fnv (rows_held z s.now)) n out.old) (meaning result, out.new) }
 {
-    match spots::nth_row(s, z, n) {
-        Spot::Here(p, i) => read_row(s, z, p, i, out),
-        Spot::Nowhere => Answer::Refused(Refusal::NoRow),
-    }
+    let spot = spots::nth_row(s, z, n).ok_or(Refusal::NoRow)?;
+    read_row(s, z, spot.page, spot.slot, out)
 }
 
 // The row at place n of the listing, its code to the start of the output.
 pub fn row_at(s: &[u8], n: usize, out: &mut [u8]) -> Answer
     ensures { Answers (row_table (shape_of s.now) fnv s.now n out.old) (meaning result, out.new) }
 {
-    let Length::Of(z) = store_check::said_shape(s) else {
-        return Answer::Refused(Refusal::BadLength);
-    };
+    let z = store_check::said_shape(s)?;
     if out.len() < 64 {
-        return Answer::Refused(Refusal::ShortOutput);
+        return Err(Refusal::ShortOutput);
     }
-    let p = store_check::first_bad(s, z);
-    if p < s.len() / (8 + z.capacity) {
-        return Answer::Refused(Refusal::BadPage(p));
-    }
+    store_check::accept(s, z)?;
     give_row(s, z, n, out)
 }

@@ -10,8 +10,7 @@ ghost use Rattle.query.specs.Asked.{Sought};
 ghost use Rattle.query.specs.Spots.{DirectoryOf, ShallowAt, StandsAt, Listed};
 ghost use Rattle.query.specs.Cursors.{At, Steppable, Stepped};
 
-use super::{Cursor, Spot, Step};
-use page::Found;
+use super::{Cursor, Spot};
 use partition::Shape;
 
 // The entry that a hash's top bits give.
@@ -25,20 +24,17 @@ pub fn entry_of(s: &[u8], z: Shape, x: u32) -> usize
 }
 
 // Where the row of a code of the hash x stands.
-pub fn find_row(s: &[u8], z: Shape, key: &[u8], x: u32) -> Spot
+pub fn find_row(s: &[u8], z: Shape, key: &[u8], x: u32) -> Option<Spot>
     requires { Sought z fnv s.now key.now x }
     ensures { StandsAt z s.now key.now result }
 {
     let p = entry_of(s, z, x);
     if p == 0 {
-        return Spot::Nowhere;
+        return None;
     }
-    let size = 8 + z.capacity;
-    let a = p * size;
-    let e = a + size;
-    match page::find_code(&s[a..e], key) {
-        Found::At(i) => Spot::Here(p, i),
-        Found::Absent(_) => Spot::Nowhere,
+    match page::find_code(store::page_at(s, z, p), key) {
+        Ok(slot) => Some(Spot { page: p, slot }),
+        Err(_) => None,
     }
 }
 
@@ -59,7 +55,7 @@ pub fn cursor_at(s: &[u8], z: Shape, n: usize) -> Cursor
 }
 
 // One row on, from any place before which the cursor stands: bucket after bucket by first entry, each once.
-pub fn next_row(s: &[u8], z: Shape, c: Cursor) -> Step
+pub fn next_row(s: &[u8], z: Shape, c: Cursor) -> Option<(Spot, Cursor)>
     requires { Steppable z s.now c }
     ensures { (n : ℕ) → At z s.now n c → Stepped z s.now n result }
 {
@@ -76,30 +72,28 @@ pub fn next_row(s: &[u8], z: Shape, c: Cursor) -> Step
             let a = p * size;
             let k = words::get16(s, a + 2);
             if left < k {
-                let next = left + 1;
-                return Step::Handed(
-                    p,
-                    left,
-                    Cursor {
-                        entry: i,
-                        slot: next,
-                    },
-                );
+                let spot = Spot {
+                    page: p,
+                    slot: left,
+                };
+                let behind = Cursor {
+                    entry: i,
+                    slot: left + 1,
+                };
+                return Some((spot, behind));
             }
             left -= k;
             i += entries_of(s, a, d);
         }
     }
-    Step::Done
+    None
 }
 
 // Where the row at place n of the listing stands.
-pub fn nth_row(s: &[u8], z: Shape, n: usize) -> Spot
+pub fn nth_row(s: &[u8], z: Shape, n: usize) -> Option<Spot>
     requires { Sized z × Accepted z fnv s.now }
     ensures { Listed z s.now n result }
 {
-    match next_row(s, z, cursor_at(s, z, n)) {
-        Step::Handed(p, i, _) => Spot::Here(p, i),
-        Step::Done => Spot::Nowhere,
-    }
+    let (spot, _) = next_row(s, z, cursor_at(s, z, n))?;
+    Some(spot)
 }

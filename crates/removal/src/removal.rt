@@ -15,8 +15,6 @@ ghost use Rattle.removal.specs.Remove.{Leaving};
 use directory::{name_prefix, settle_depth};
 use joining::{climb, join_lent};
 use partition::Shape;
-use query::Spot;
-use store_check::Length;
 
 // The row of the code of the hash x, which is that of slot i of page p, goes: its page loses the record, is cleared, or is joined with others.
 fn take_out(s: &mut [u8], z: Shape, p: usize, i: usize, key: &[u8], x: u32)
@@ -32,11 +30,10 @@ fn take_out(s: &mut [u8], z: Shape, p: usize, i: usize, key: &[u8], x: u32)
     let d = words::get32(s, 16);
     if j < k {
         let rows = counts::rows_counted(s);
-        let mut tallies = [0u32; 14];
-        counts::read_counts(s, &mut tallies);
+        let mut tallies = counts::read_counts(s);
         let low = join_lent(s, z, n, x, j, key, &mut tallies);
         name_prefix(s, z, x, j, d as u32, low);
-        counts::write_counted(s, &mut tallies, rows - 1);
+        counts::write_counted(s, tallies, rows - 1);
         settle_depth(s, z, n, d, d);
         return;
     }
@@ -58,17 +55,10 @@ pub fn remove_row(s: &mut [u8], z: Shape, key: &[u8]) -> store::Answer
     ensures { Answers (remove_accepted z fnv s.old key.now) (meaning result, s.new) }
 {
     let x = hash::hash(key);
-    match query::find_row(s, z, key, x) {
-        Spot::Nowhere => store::Answer::Refused(store::Refusal::NoCode),
-        Spot::Here(p, i) => {
-            let size = 8 + z.capacity;
-            let a = p * size;
-            let e = a + size;
-            let old = page::read_place(&s[a..e], i);
-            take_out(s, z, p, i, key, x);
-            store::Answer::Found(old)
-        }
-    }
+    let spot = query::find_row(s, z, key, x).ok_or(store::Refusal::NoCode)?;
+    let old = page::read_place(store::page_at(s, z, spot.page), spot.slot);
+    take_out(s, z, spot.page, spot.slot, key, x);
+    Ok(store::Done::Found(old))
 }
 
 // Remove of a given code on an accepted store.
@@ -86,15 +76,10 @@ pub fn remove_given(s: &mut [u8], z: Shape, key: &[u8]) -> store::Answer
 pub fn remove(s: &mut [u8], key: &[u8]) -> store::Answer
     ensures { Answers (remove_table (shape_of s.old) fnv s.old key.now) (meaning result, s.new) }
 {
-    let Length::Of(z) = store_check::said_shape(s) else {
-        return store::Answer::Refused(store::Refusal::BadLength);
-    };
+    let z = store_check::said_shape(s)?;
     if !store::good_code(key) {
-        return store::Answer::Refused(store::Refusal::BadCode);
+        return Err(store::Refusal::BadCode);
     }
-    let p = store_check::first_bad(s, z);
-    if p < s.len() / (8 + z.capacity) {
-        return store::Answer::Refused(store::Refusal::BadPage(p));
-    }
+    store_check::accept(s, z)?;
     remove_given(s, z, key)
 }

@@ -6,17 +6,12 @@ use mathlib.Core.List.{List, [], ◌∷◌}
 use native.Mathlib.Nat.{le_of_suc-le-suc, not-suc-le-zero}
 use native.Mathlib.Omega.{arith}
 use lib.Dec.{ltb, leb, eqb}
-use lib.ListN.{length, get_or, set, drop, replicate, drop_of_length-le}
+use lib.ListN.{length, get_or, set, replicate}
+use Rattle.std.specs.Prelude.{sum}
+use Rattle.std.proofs.lemmas.List.Sums.{sum_by-cons}
 use Rattle.report.specs.declared.Counted.{Counted}
 use Rattle.report.specs.Numbers.{AtMost, mark_at, if_so, unmarked, unmarked_sum, remarked, sum_of, OneMore, MarkedBy}
 use Rattle.report.proofs.Ranks.{lt_no, ne_false}
-use Rattle.report.proofs.Runs.{drop_at}
-
-pub plus_yes : (x n : ℕ) {t : Bool} → t ≡ true → x + n ≡ x + if_so t n
-plus_yes x n e = sym (ap (λ (t : Bool). x + if_so t n) e)
-
-pub plus_no : (x n : ℕ) {t : Bool} → t ≡ false → x ≡ x + if_so t n
-plus_no x n e = let z : x ≡ x + 0 = omega arith in z ∙ sym (ap (λ (t : Bool). x + if_so t n) e)
 
 if_so_le : (t : Bool) (n : ℕ) → if_so t n ≤ n
 if_so_le true n = omega arith
@@ -133,22 +128,18 @@ pub clear_remarked : (n : ℕ) → remarked (replicate n 0) ≡ 0
 clear_remarked zero = refl
 clear_remarked (suc n) = let h : remarked (replicate n 0) ≡ 0 = clear_remarked n in let g : 0 + remarked (replicate n 0) ≡ 0 = omega (arith, h) in g
 
--- ---- the sum of the first i amounts
+-- ---- the sum of all amounts
 
-pub record Adding (ls : List ℕ) (i s : ℕ) : Type 0 where
-  pub i_le : i ≤ length ls
-  pub s_le : s ≤ i * 2000000000000
-  pub s_is : s + sum_of (drop i ls) ≡ sum_of ls
+pub sum_is : (ls : List ℕ) → sum ls ≡ sum_of ls
+sum_is [] = refl
+sum_is (l ∷ ls) = sum_by-cons (λ n. n) l ls ∙ ap (λ (n : ℕ). l + n) (sum_is ls)
 
-pub adding_start : (ls : List ℕ) → Adding ls 0 0
-adding_start ls = record { i_le = omega arith; s_le = omega arith; s_is = omega arith }
+sum_le : (ls : List ℕ) → ((i : ℕ) → i < length ls → get_or {A = ℕ} ls i 0 ≤ 2000000000000) → sum_of ls ≤ length ls * 2000000000000
+sum_le [] h = omega arith
+sum_le (l ∷ ls) h =
+    let a : l ≤ 2000000000000 = h 0 (omega arith) in
+    let b : sum_of ls ≤ length ls * 2000000000000 = sum_le ls (λ i k. h (suc i) (omega (arith, k))) in
+    omega (arith, a, b)
 
-pub adding_next : {ls : List ℕ} {i s : ℕ} → Adding ls i s → i < length ls → AtMost 2000000000000 ls → Adding ls (i + 1) (s + get_or {A = ℕ} ls i 0)
-adding_next {ls} {i} {s} p l a =
-    let y : ℕ = get_or {A = ℕ} ls i 0 in
-    let e : sum_of (drop i ls) ≡ y + sum_of (drop (i + 1) ls) = ap sum_of (drop_at ls i l) in
-    let b : y ≤ 2000000000000 = a.le i l in
-    record { i_le = omega (arith, l); s_le = omega (arith, p.s_le, b); s_is = omega (arith, p.s_is, e) }
-
-pub adding_end : {ls : List ℕ} {i s : ℕ} → Adding ls i s → length ls ≤ i → s ≡ sum_of ls
-adding_end {ls} {i} {s} p h = let e : sum_of (drop i ls) ≡ 0 = ap sum_of (drop_of_length-le ls h) in omega (arith, p.s_is, e)
+pub sum_fits : (ls : List ℕ) → AtMost 2000000000000 ls → length ls ≤ 4000000 → sum ls < 18446744073709551616
+sum_fits ls a m = let b : sum_of ls ≤ length ls * 2000000000000 = sum_le ls a.le in let e : sum ls ≡ sum_of ls = sum_is ls in omega (arith, b, e, m)

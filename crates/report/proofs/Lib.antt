@@ -1,7 +1,7 @@
 pub mod Upto
 pub mod Room
 pub mod Ranks
-pub mod Halves
+pub mod Searched
 pub mod Runs
 pub mod Counts
 pub mod Rises

@@ -16,7 +16,7 @@ use Rattle.report.specs.declared.SheetRow.{SheetRow}
 use Rattle.report.specs.Report.{place_in, sheet_row, RowPlace, same, same_place, names, InSheet}
 use Rattle.report.specs.Numbers.{rank, rank_on, index_of, RisingNumbers}
 use Rattle.report.proofs.Ranks.{holds, eq_true}
-use Rattle.report.proofs.Halves.{index_is}
+use Rattle.report.proofs.Searched.{index_is}
 use Rattle.report.proofs.Orders.{parts, low_place, rank_one}
 use Rattle.report.proofs.Sheets.{ranks, ranks_long, rank_at}
 

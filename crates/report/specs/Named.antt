@@ -1,5 +1,5 @@
 -- What a row's mark says: no code names the row, one does, or more than one. Assumes nothing.
-use Rattle.std.specs.Prelude.{◌≡◌, List, ℕ, ◌+◌, ◌*◌, ◌/◌, ◌%◌, ◌≤◌, ℤ, pos, length, get_or}
+use Rattle.std.specs.Prelude.{◌≡◌, List, ℕ, ◌+◌, ◌*◌, ◌/◌, ◌%◌, ◌≤◌, ℤ, pos, length, get_or, Result}
 use Rattle.hash.specs.Fnv.{fnv}
 use Rattle.page.specs.declared.Place.{Place}
 use Rattle.partition.specs.declared.Shape.{Shape}
@@ -8,7 +8,7 @@ use Rattle.partition.specs.Partition.{Row}
 use Rattle.store.specs.Accepted.{Accepted}
 use Rattle.store.specs.Demands.{Sized}
 use Rattle.store.specs.Pages.{rows_held}
-use Rattle.report.specs.declared.Ending.{Ending}
+use Rattle.report.specs.declared.Counted.{Counted}
 use Rattle.report.specs.declared.NamedRow.{NamedRow}
 use Rattle.report.specs.declared.NamedRow.TheVariants.{Hidden, Once, Doubled}
 use Rattle.report.specs.declared.SheetRow.{SheetRow}
@@ -28,7 +28,7 @@ pub record Markable (S : Shape) (s fl : List ℕ) (n : ℕ) : Type 0 where
   pub laid : LaidSheet fl n
 
 -- the tally of the store's listing over the n rows, from the marks cs
-abbrev pub Marks : Shape → List ℕ → List ℕ → List ℕ → Ending → List ℕ → Type 0
+abbrev pub Marks : Shape → List ℕ → List ℕ → List ℕ → Result Counted Place → List ℕ → Type 0
 Marks S s fl cs r cs' = Ends (ranks_of fl (length cs)) (raised_of fl (length cs)) (listing S fnv (rows_held S s)) cs r cs'
 
 -- the place that a rank is of

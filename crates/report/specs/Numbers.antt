@@ -1,5 +1,5 @@
 -- A sheet as two runs of numbers: each place as one number in the order page, slot, volume, each amount raised by 10^12; and the tally of a listing over them. Assumes nothing.
-use Rattle.std.specs.Prelude.{◌≡◌, Bool, cond, ◌&&◌, List, [], ◌∷◌, map, ℕ, suc, ◌+◌, ◌*◌, ◌-◌, ◌≤◌, ◌<◌, ◌^◌, leb, ltb, eqb, length, get_or, set, take, drop, replicate, ℤ, pos, negsuc, ◌+ℤ◌}
+use Rattle.std.specs.Prelude.{◌≡◌, Bool, cond, ◌&&◌, List, [], ◌∷◌, map, ℕ, suc, ◌+◌, ◌*◌, ◌-◌, ◌≤◌, ◌<◌, ◌^◌, leb, ltb, eqb, length, get_or, set, take, drop, replicate, ℤ, pos, negsuc, ◌+ℤ◌, Option, Some, None, Result, Ok, Err}
 use Rattle.std.proofs.Math.Option.{none}
 use Rattle.std.proofs.Math.ListN.{get_elem?}
 use Rattle.hash.specs.Fnv.{fnv}
@@ -13,14 +13,11 @@ use Rattle.store.specs.Accepted.{Accepted}
 use Rattle.store.specs.Demands.{Sized}
 use Rattle.store.specs.Pages.{rows_held}
 use Rattle.store.specs.Tables.{refused, Refusal1, checked}
+use Rattle.query.specs.declared.Cursor.{Cursor}
 use Rattle.query.specs.Cursors.{At}
-use Rattle.report.specs.declared.Next.{Next}
-use Rattle.report.specs.declared.Next.TheVariants.{Placed, End}
 use Rattle.report.specs.declared.SheetRow.{SheetRow}
 use Rattle.report.specs.declared.Counted.{Counted}
 use Rattle.report.specs.declared.Sums.{Sums}
-use Rattle.report.specs.declared.Ending.{Ending}
-use Rattle.report.specs.declared.Ending.TheVariants.{Missing, Whole}
 use Rattle.report.specs.Report.{place_in, limit, PlaceAt, Reported, other, missing, summed}
 
 -- what no place and no amount has
@@ -93,6 +90,11 @@ abbrev pub index_of : ℕ → List ℕ → ℕ
 index_of w [] = 0
 index_of w (p ∷ ps) = cond (eqb p w) 0 (suc (index_of w ps))
 
+-- the row i has w; or none has
+abbrev pub Finds : ℕ → List ℕ → Option ℕ → Type 0
+Finds w ps (Some i) = (i ≡ index_of w ps) × (i < length ps)
+Finds w ps None = length ps ≤ index_of w ps
+
 -- one code more under row i: none, one, many
 abbrev pub mark_at : List ℕ → ℕ → List ℕ
 mark_at cs i = cond (ltb (get_or cs i 0) 2) (set cs i (get_or cs i 0 + 1)) cs
@@ -103,9 +105,9 @@ tallied ps ls [] k s cs = (k, (s, cs))
 tallied ps ls (w ∷ ws) k s cs = cond (ltb (index_of w ps) (length ps)) (tallied ps ls ws (k + 1) (s + get_or ls (index_of w ps) 0) (mark_at cs (index_of w ps))) (k, (s, cs))
 
 -- the place of the row at place n of the listing, with a cursor before the next; or there is no such row
-abbrev pub Follows : Shape → List ℕ → ℕ → Next → Type 0
-Follows S s n (Placed p c) = PlaceAt (listing S fnv (rows_held S s)) n p × At S s (n + 1) c
-Follows S s n End = get_elem? (listing S fnv (rows_held S s)) n ≡ none
+abbrev pub Follows : Shape → List ℕ → ℕ → Option (Place × Cursor) → Type 0
+Follows S s n (Some (p, c)) = PlaceAt (listing S fnv (rows_held S s)) n p × At S s (n + 1) c
+Follows S s n None = get_elem? (listing S fnv (rows_held S s)) n ≡ none
 
 -- a code's place as a number
 abbrev pub rank_on : Row → ℕ
@@ -165,9 +167,9 @@ pub record WholeTally (ps ls : List ℕ) (rs : List Row) (cs : List ℕ) (t : Co
   pub marks : MarkedBy ls cs cs' t
 
 -- the tally of the rows rs from the marks cs ends with the marks cs': at the first place that is not there, or whole
-abbrev pub Ends : List ℕ → List ℕ → List Row → List ℕ → Ending → List ℕ → Type 0
-Ends ps ls rs cs (Missing p) cs' = PlaceAt rs (tallied ps ls (map rank_on rs) 0 0 cs).0 p
-Ends ps ls rs cs (Whole t) cs' = WholeTally ps ls rs cs t cs'
+abbrev pub Ends : List ℕ → List ℕ → List Row → List ℕ → Result Counted Place → List ℕ → Type 0
+Ends ps ls rs cs (Err p) cs' = PlaceAt rs (tallied ps ls (map rank_on rs) 0 0 cs).0 p
+Ends ps ls rs cs (Ok t) cs' = WholeTally ps ls rs cs t cs'
 
 -- z is the sum of k amounts whose raised sum is s
 abbrev pub Lowered : ℕ → ℕ → ℤ → Type 0

@@ -1,5 +1,5 @@
 -- The bid report over a store's listing and a sheet, as document 02 has it (Item 1). Assumes nothing.
-use Rattle.std.specs.Prelude.{◌≡◌, Bool, false, cond, ◌&&◌, List, [], ◌∷◌, ℕ, ◌+◌, ◌≤◌, ◌<◌, eqb, leb, length, get_or, ℤ, pos, negsuc, neg_ℤ, ◌+ℤ◌, ◌*ℤ◌, ◌≤ℤ◌, ◌<ℤ◌}
+use Rattle.std.specs.Prelude.{◌≡◌, Bool, false, cond, ◌&&◌, List, [], ◌∷◌, ℕ, ◌+◌, ◌≤◌, ◌<◌, eqb, leb, length, get_or, ℤ, pos, negsuc, neg_ℤ, ◌+ℤ◌, ◌*ℤ◌, ◌≤ℤ◌, ◌<ℤ◌, Result, Ok, Err}
 use Rattle.std.proofs.Math.Option.{some}
 use Rattle.std.proofs.Math.ListN.{get_elem?}
 use Rattle.ground.specs.Ladder.{Ladder, rung, given, answer, refuse}
@@ -12,8 +12,8 @@ use Rattle.store.specs.Pages.{rows_held}
 use Rattle.store.specs.Tables.{Out, refused, refusal, Refusal1, checked}
 use Rattle.report.specs.declared.SheetRow.{SheetRow}
 use Rattle.report.specs.declared.Sums.{Sums}
-use Rattle.report.specs.declared.Outcome.{Outcome}
-use Rattle.report.specs.declared.Outcome.TheVariants.{Refused, BadSheet, NotInSheet, Summed}
+use Rattle.report.specs.declared.ReportRefusal.{ReportRefusal}
+use Rattle.report.specs.declared.ReportRefusal.TheVariants.{Store, BadSheet, NotInSheet}
 
 -- ---- the sheet
 
@@ -152,11 +152,11 @@ pub data Reported : Type 0 where
   missing : Place → Reported
   summed : Sums → Reported
 
-abbrev pub reported : Outcome → Reported
-reported (Refused r) = other (refusal r)
-reported BadSheet = other (refused 10)
-reported (NotInSheet p) = missing p
-reported (Summed x) = summed x
+abbrev pub reported : Result Sums ReportRefusal → Reported
+reported (Err (Store r)) = other (refusal r)
+reported (Err BadSheet) = other (refused 10)
+reported (Err (NotInSheet p)) = missing p
+reported (Ok x) = summed x
 
 -- 1; 10: the sheet breaks a rule; 2; 11: a code's place is not in the sheet
 unfoldable pub report_table : Shape → (List ℕ → ℕ) → List ℕ → List SheetRow → Ladder Reported

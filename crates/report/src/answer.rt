@@ -9,10 +9,8 @@ ghost use Rattle.report.specs.Report.{limit, reported};
 ghost use Rattle.report.specs.Numbers.{Lowered, SheetReady, ToldBy, numbers_table};
 
 use super::tally::{add_up, sound, tally};
-use crate::{Ending, LIMIT, Outcome, Sums};
+use crate::{LIMIT, ReportRefusal, Sums};
 use partition::Shape;
-use store::Refusal;
-use store_check::Length;
 
 // The sum of k amounts, from their raised sum.
 pub fn lower(sum: u64, k: usize) -> i64
@@ -27,31 +25,29 @@ pub fn lower(sum: u64, k: usize) -> i64
 }
 
 // Over a sound sheet, with a clear mark for each row: what no code names is what is left of the sheet.
-fn told(s: &[u8], z: Shape, ranks: &[u64], raised: &[u64], counts: &mut [u8]) -> Outcome
+fn told(
+    s: &[u8],
+    z: Shape,
+    ranks: &[u64],
+    raised: &[u64],
+    counts: &mut [u8],
+) -> Result<Sums, ReportRefusal>
     requires { SheetReady z s.now ranks.now raised.now × (counts.old ≡ replicate (length ranks.now) 0) }
     ensures { ToldBy ranks.now raised.now (listing z fnv (rows_held z s.now)) counts.old (reported result) }
 {
-    match tally(s, z, ranks, raised, counts) {
-        Ending::Missing(p) => Outcome::NotInSheet(p),
-        Ending::Whole(t) => {
-            let named = t.named;
-            let once = t.once;
-            let hidden = ranks.len() - named;
-            let rest = add_up(raised) - once;
-            let total = lower(t.sum, t.codes);
-            let cents = lower(rest, hidden);
-            Outcome::Summed(Sums {
-                total: total,
-                hidden: hidden,
-                cents: cents,
-                doubled: t.doubled,
-            })
-        }
-    }
+    let t = tally(s, z, ranks, raised, counts).map_err(ReportRefusal::NotInSheet)?;
+    let hidden = ranks.len() - t.named;
+    let rest = add_up(raised) - t.once;
+    Ok(Sums {
+        total: lower(t.sum, t.codes),
+        hidden,
+        cents: lower(rest, hidden),
+        doubled: t.doubled,
+    })
 }
 
 // The report over a sound sheet, with marks of its own.
-fn told_fresh(s: &[u8], z: Shape, ranks: &[u64], raised: &[u64]) -> Outcome
+fn told_fresh(s: &[u8], z: Shape, ranks: &[u64], raised: &[u64]) -> Result<Sums, ReportRefusal>
     requires { SheetReady z s.now ranks.now raised.now }
     ensures { ToldBy ranks.now raised.now (listing z fnv (rows_held z s.now)) (replicate (length ranks.now) 0) (reported result) }
 {
@@ -61,24 +57,19 @@ fn told_fresh(s: &[u8], z: Shape, ranks: &[u64], raised: &[u64]) -> Outcome
 }
 
 // The report over a sheet's numbers: ranks from 0, raised amounts from the limit on, n rows.
-pub fn judge(s: &[u8], flat: &[u64], n: usize) -> Outcome
+pub fn judge(s: &[u8], flat: &[u64], n: usize) -> Result<Sums, ReportRefusal>
     requires { length flat.now ≡ 2 * limit }
     ensures { Answers (numbers_table (shape_of s.now) fnv s.now flat.now n) (reported result) }
 {
-    let Length::Of(z) = store_check::said_shape(s) else {
-        return Outcome::Refused(Refusal::BadLength);
-    };
+    let z = store_check::said_shape(s)?;
     if LIMIT < n {
-        return Outcome::BadSheet;
+        return Err(ReportRefusal::BadSheet);
     }
     let ranks = &flat[..n];
     let raised = &flat[LIMIT..LIMIT + n];
     if !sound(ranks, raised) {
-        return Outcome::BadSheet;
+        return Err(ReportRefusal::BadSheet);
     }
-    let p = store_check::first_bad(s, z);
-    if p < s.len() / (8 + z.capacity) {
-        return Outcome::Refused(Refusal::BadPage(p));
-    }
+    store_check::accept(s, z)?;
     told_fresh(s, z, ranks, raised)
 }

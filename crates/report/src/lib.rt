@@ -6,10 +6,10 @@ ghost use Rattle.ground.specs.Ladder.{Answers};
 ghost use Rattle.hash.specs.Fnv.{fnv};
 ghost use Rattle.partition.specs.Sizes.{shape_of};
 ghost use Rattle.report.specs.Report.{reported, report_table};
+ghost use Rattle.report.specs.declared.ReportRefusal.TheVariants.{Store};
 ghost use Rattle.report.specs.Numbers.{spread_from};
 
 use page::Place;
-use query::Cursor;
 use store::Refusal;
 
 mod answer;
@@ -23,6 +23,12 @@ pub use rows::lay;
 
 // The most rows of a sheet.
 pub const LIMIT: usize = 200000;
+
+// What no rank and no raised amount is.
+pub const OUTSIDE: u64 = 1 << 63;
+
+// The most that a raised amount is: two times what it is raised by.
+pub const MOST_RAISED: u64 = 2_000_000_000_000;
 
 // A row of the sheet: the parts of a row place, and an amount in cents.
 #[repr(C)]
@@ -43,22 +49,22 @@ pub struct Sums {
     pub doubled: usize,
 }
 
-// The report's answer: a refusal that other calls have too, the report's own two, or the sums.
+// Why there are no sums: a refusal that other calls have too, or the report's own two.
 #[derive(Clone, Copy)]
-pub enum Outcome {
-    Refused(Refusal),
+pub enum ReportRefusal {
+    Store(Refusal),
     // the sheet breaks a rule
     BadSheet,
     // a code's place is not in the sheet
     NotInSheet(Place),
-    Summed(Sums),
 }
 
-// The place of a listed row with the cursor behind it, or no row is left.
-#[derive(Clone, Copy)]
-pub enum Next {
-    Placed(Place, Cursor),
-    End,
+impl From<Refusal> for ReportRefusal {
+    ghost from_gives = { λ r e. e ≡ Store r };
+
+    fn from(r: Refusal) -> ReportRefusal {
+        ReportRefusal::Store(r)
+    }
 }
 
 // What a tally counts: the codes with the sum of their raised amounts, the sheet rows that they name with the sum of theirs, and those that more than one names.
@@ -69,13 +75,6 @@ pub struct Counted {
     pub named: usize,
     pub once: u64,
     pub doubled: usize,
-}
-
-// How a tally ends: at a place that is not in the sheet, or whole.
-#[derive(Clone, Copy)]
-pub enum Ending {
-    Missing(Place),
-    Whole(Counted),
 }
 
 // A row of the sheet by the codes that name it: none, with its place and cents; one; more than one.
@@ -90,19 +89,19 @@ pub enum NamedRow {
 pub fn spread(sheet: &[SheetRow], flat: &mut [u64]) -> usize
     ensures { (result ≡ length sheet.now) × (flat.new ≡ spread_from 0 sheet.now flat.old) }
 {
-    let mut i = 0;
-    while i < sheet.len() {
-        i = rows::lay(flat, i, sheet[i]);
+    let mut n = 0;
+    for row in sheet {
+        n = rows::lay(flat, n, *row);
     }
-    i
+    n
 }
 
 // The one call: the sums over the store's listing and the sheet.
-pub fn report(store: &[u8], sheet: &[SheetRow]) -> Outcome
+pub fn report(store: &[u8], sheet: &[SheetRow]) -> Result<Sums, ReportRefusal>
     ensures { Answers (report_table (shape_of store.now) fnv store.now sheet.now) (reported result) }
 {
     // filled with what no row has: 16 bytes an instruction, where zeros are set byte by byte
-    let mut flat = [9223372036854775808u64; 2 * LIMIT];
+    let mut flat = [OUTSIDE; 2 * LIMIT];
     let n = spread(sheet, &mut flat);
     answer::judge(store, &flat, n)
 }

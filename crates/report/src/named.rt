@@ -1,38 +1,21 @@
 // Which rows of a sheet no code names, and which more than one does, from their marks.
-ghost use Rattle.std.specs.Prelude.{◌≡◌, ◌<◌, pos, length};
+ghost use Rattle.std.specs.Prelude.{◌≡◌, ◌<◌, length};
 ghost use Rattle.report.specs.Named.{LaidSheet, Markable, Marks, ranked_place, TellsMark};
 
 use super::answer::lower;
 use super::tally::tally;
-use crate::{Ending, LIMIT, NamedRow};
+use crate::{Counted, LIMIT, NamedRow};
 use page::Place;
 use partition::Shape;
-
-fn signed32(x: u64) -> i32
-    requires { x < 2147483648 }
-    ensures { result ≡ pos x }
-{
-    x as i32
-}
-
-fn signed16(x: u64) -> i16
-    requires { x < 32768 }
-    ensures { result ≡ pos x }
-{
-    x as i16
-}
 
 // The place that a rank is of.
 fn place_at(w: u64) -> Place
     ensures { result ≡ ranked_place w }
 {
-    let a = signed32(w / 4294967296 % 2147483648);
-    let b = signed16(w / 65536 % 32768);
-    let c = signed16(w % 32768);
     Place {
-        page: a,
-        slot: b,
-        volume: c,
+        page: (w / 4294967296 % 2147483648) as i32,
+        slot: (w / 65536 % 32768) as i16,
+        volume: (w % 32768) as i16,
     }
 }
 
@@ -55,7 +38,7 @@ pub fn named_row(flat: &[u64], counts: &[u8], i: usize) -> NamedRow
 }
 
 // The marks of the sheet's rows, over the listing of an accepted store.
-pub fn mark_rows(s: &[u8], z: Shape, flat: &[u64], counts: &mut [u8]) -> Ending
+pub fn mark_rows(s: &[u8], z: Shape, flat: &[u64], counts: &mut [u8]) -> Result<Counted, Place>
     requires { Markable z s.now flat.now (length counts.old) }
     ensures { Marks z s.now flat.now counts.old result counts.new }
 {

@@ -3,7 +3,7 @@ ghost use Rattle.std.specs.Prelude.{◌≡◌, ◌+◌, ◌<◌, ◌^◌};
 ghost use Rattle.report.specs.Report.{place_in};
 ghost use Rattle.report.specs.Numbers.{nat_part, ranked, rank, raise_cents, laid};
 
-use crate::{LIMIT, SheetRow};
+use crate::{LIMIT, OUTSIDE, SheetRow};
 use page::Place;
 
 // Three parts as one number, in the places' order; 2^63 for what is no place. A negative part makes the whole negative, so one test finds all three.
@@ -12,7 +12,7 @@ fn rank_parts(a: i32, b: i16, c: i16) -> u64
 {
     let w = (a as i64 * 4294967296) | (b as i64 * 65536) | c as i64;
     if w < 0 {
-        return 9223372036854775808;
+        return OUTSIDE;
     }
     w as u64
 }
@@ -20,10 +20,7 @@ fn rank_parts(a: i32, b: i16, c: i16) -> u64
 pub fn rank_of(p: Place) -> u64
     ensures { result ≡ rank p }
 {
-    let a = p.page;
-    let b = p.slot;
-    let c = p.volume;
-    rank_parts(a, b, c)
+    rank_parts(p.page, p.slot, p.volume)
 }
 
 // The rank of a sheet row's place.
@@ -46,7 +43,7 @@ fn raise_of(c: i64) -> u64
             return (c + 1000000000000) as u64;
         }
     }
-    9223372036854775808
+    OUTSIDE
 }
 
 // Row i as two numbers, and the next i.

@@ -5,12 +5,13 @@ ghost use Rattle.hash.specs.Fnv.{fnv};
 ghost use Rattle.partition.specs.Listing.{listing};
 ghost use Rattle.store.specs.Pages.{rows_held};
 ghost use Rattle.query.specs.Cursors.{At, Steppable};
-ghost use Rattle.report.specs.Numbers.{RisingNumbers, AtMost, Sound, index_of, mark_at, SheetReady, Follows, RoomFor, OneMore, Ends, sum_of};
+ghost use Rattle.report.specs.Numbers.{RisingNumbers, AtMost, Sound, Finds, mark_at, SheetReady, Follows, RoomFor, OneMore, Ends, sum_of};
 
 use super::rows::rank_of;
-use crate::{Counted, Ending, Next};
+use crate::Counted;
+use page::Place;
 use partition::Shape;
-use query::{Cursor, Step};
+use query::Cursor;
 
 // The sheet's rules over its numbers. `last` is the rank before, and the greatest so far, so only the very last is held to the places' bound.
 pub fn sound(ranks: &[u64], raised: &[u64]) -> bool
@@ -42,28 +43,12 @@ pub fn sound(ranks: &[u64], raised: &[u64]) -> bool
     true
 }
 
-// The row with that rank, by halving; the number of rows where there is none.
-fn find(ranks: &[u64], w: u64) -> usize
+// The row with that rank.
+fn find(ranks: &[u64], w: u64) -> Option<usize>
     requires { RisingNumbers ranks.now }
-    ensures { result ≡ index_of w ranks.now }
+    ensures { Finds w ranks.now result }
 {
-    let mut lo = 0;
-    let mut hi = ranks.len();
-    while lo < hi {
-        let mid = lo + (hi - lo) / 2;
-        if ranks[mid] < w {
-            lo = mid + 1;
-        } else {
-            hi = mid;
-        }
-    }
-    if ranks.len() <= lo {
-        return ranks.len();
-    }
-    if ranks[lo] == w {
-        return lo;
-    }
-    ranks.len()
+    ranks.binary_search(&w).ok()
 }
 
 // One code more under row i: none, one, many. The mark before.
@@ -78,61 +63,44 @@ fn mark(counts: &mut [u8], i: usize) -> u8
     c
 }
 
-// One code more, of a row with the amount l and the mark m before: the first code of a row names it, the second doubles it.
-fn count_one(t: Counted, l: u64, m: u8) -> Counted
-    requires { RoomFor t l }
-    ensures { OneMore t l m result }
-{
-    let k = t.codes;
-    let s = t.sum;
-    let n = t.named;
-    let o = t.once;
-    let d = t.doubled;
-    if m == 0 {
-        return Counted {
-            codes: k + 1,
-            sum: s + l,
-            named: n + 1,
-            once: o + l,
-            doubled: d,
-        };
-    }
-    if m == 1 {
-        return Counted {
-            codes: k + 1,
-            sum: s + l,
-            named: n,
-            once: o,
-            doubled: d + 1,
-        };
-    }
-    Counted {
-        codes: k + 1,
-        sum: s + l,
-        named: n,
-        once: o,
-        doubled: d,
+impl Counted {
+    // One code more, of a row with the amount l and the mark m before: the first code of a row names it, the second doubles it.
+    fn count_one(self, l: u64, m: u8) -> Counted
+        requires { RoomFor self l }
+        ensures { OneMore self l m result }
+    {
+        let mut more = self;
+        more.codes += 1;
+        more.sum += l;
+        if m == 0 {
+            more.named += 1;
+            more.once += l;
+        }
+        if m == 1 {
+            more.doubled += 1;
+        }
+        more
     }
 }
 
 // The place of the next row of the listing, from any place before which the cursor stands.
-fn next_place(s: &[u8], z: Shape, c: Cursor) -> Next
+fn next_place(s: &[u8], z: Shape, c: Cursor) -> Option<(Place, Cursor)>
     requires { Steppable z s.now c }
     ensures { (n : ℕ) → At z s.now n c → Follows z s.now n result }
 {
-    match query::next_row(s, z, c) {
-        Step::Handed(p, i, next) => {
-            let size = 8 + z.capacity;
-            let a = p * size;
-            let e = a + size;
-            Next::Placed(page::read_place(&s[a..e], i), next)
-        }
-        Step::Done => Next::End,
-    }
+    let (spot, next) = query::next_row(s, z, c)?;
+    let place = page::read_place(store::page_at(s, z, spot.page), spot.slot);
+    Some((place, next))
 }
 
 // Each row of the listing once: its place found in the sheet, its sheet row marked and counted.
-pub fn tally(s: &[u8], z: Shape, ranks: &[u64], raised: &[u64], counts: &mut [u8]) -> Ending
+pub fn tally(
+    s: &[u8],
+    z: Shape,
+    ranks: &[u64],
+    raised: &[u64],
+    counts: &mut [u8],
+) -> Result<Counted, Place>
     requires { SheetReady z s.now ranks.now raised.now × (length counts.old ≡ length ranks.now) }
     ensures { Ends ranks.now raised.now (listing z fnv (rows_held z s.now)) counts.old result counts.new }
 {
@@ -144,23 +112,15 @@ pub fn tally(s: &[u8], z: Shape, ranks: &[u64], raised: &[u64], counts: &mut [u8
         once: 0,
         doubled: 0,
     };
-    loop {
-        match next_place(s, z, c) {
-            Next::Placed(place, next) => {
-                let i = find(ranks, rank_of(place));
-                if ranks.len() <= i {
-                    return Ending::Missing(place);
-                }
-                let l = raised[i];
-                let m = mark(counts, i);
-                t = count_one(t, l, m);
-                c = next;
-            }
-            Next::End => {
-                return Ending::Whole(t);
-            }
-        }
+    while let Some((place, next)) = next_place(s, z, c) {
+        let Some(i) = find(ranks, rank_of(place)) else {
+            return Err(place);
+        };
+        let m = mark(counts, i);
+        t = t.count_one(raised[i], m);
+        c = next;
     }
+    Ok(t)
 }
 
 // The sum of all amounts.
@@ -168,11 +128,5 @@ pub fn add_up(raised: &[u64]) -> u64
     requires { AtMost 2000000000000 raised.now × (length raised.now ≤ 4000000) }
     ensures { result ≡ sum_of raised.now }
 {
-    let mut i = 0;
-    let mut sum = 0;
-    while i < raised.len() {
-        sum = sum + raised[i];
-        i = i + 1;
-    }
-    sum
+    raised.iter().sum()
 }

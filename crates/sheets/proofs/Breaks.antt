@@ -8,6 +8,7 @@ use lib.IntN.{neg_ℤ}
 use lib.Signed.{◌≤ℤ◌}
 use lib.ListN.{length, get_or, length-append, length-replicate, get_or-append}
 use lib.Seq.{get_or-append_seam}
+use Rattle.std.specs.Prelude.{Option, Some, None, IsSome}
 use Rattle.ground.proofs.Sides.{side}
 use Rattle.commands.specs.declared.SheetLine.{SheetLine}
 use Rattle.report.specs.declared.SheetRow.{SheetRow}
@@ -175,9 +176,13 @@ module _ (qs : List SheetRow) (r : SheetRow) (all : AllKeep qs) where
             subst (λ (x : SheetRow). Precedes (place_in x) (place_in (sheet_row rs n))) (sym (row_before j h)) (subst (λ (x : SheetRow). Precedes (place_in (sheet_row qs j)) (place_in x)) (sym row_is) b);
       }
 
-  module _ (v : ℕ) (says : LowSays fl n (low_after 0 qs) v) where
-    pub low_breaks : v ≡ 0 → RowKeeps rs n → ⊥
-    low_breaks e k = omega (arith, e, says.keeps (keeps_numbers k))
+  module _ (v : Option ℕ) (says : LowSays fl n (low_after 0 qs) v) where
+    pub low_breaks : v ≡ None → RowKeeps rs n → ⊥
+    low_breaks e k = let f = says.keeps (keeps_numbers k) in cc
 
-    pub low_keeps : 1 ≤ v → RowKeeps rs n × (v ≡ suc (rank (place_in r)))
-    low_keeps l = let k = says.kept l in (numbers_keep k, let f = says.keeps k in omega (arith, f, rank_is k.most))
+    pub low_keeps : (w : ℕ) → v ≡ Some w → RowKeeps rs n × (w ≡ suc (rank (place_in r)))
+    low_keeps w e =
+        let k = says.kept (subst (λ (u : Option ℕ). IsSome u) (sym e) refl) in
+        let f = says.keeps k in
+        let g : w ≡ get_or {A = ℕ} fl n 0 + 1 = cc in
+        (numbers_keep k, omega (arith, g, rank_is k.most))

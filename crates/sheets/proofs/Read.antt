@@ -8,6 +8,7 @@ use native.Mathlib.Numerals.{add-one}
 use native.Mathlib.Omega.{arith}
 use lib.ListN.{length, get_or, take, set, length-append}
 use lib.Seq.{length-take-le, take-suc, take-suc-set, take_all}
+use Rattle.std.specs.Prelude.{None}
 use Rattle.ground.proofs.Sides.{side}
 use Rattle.ground.proofs.Tests.{untrue}
 use Rattle.commands.specs.declared.SheetLine.{SheetLine}
@@ -17,8 +18,8 @@ use Rattle.commands.proofs.OneRow.{FitsLine, line_one}
 use Rattle.text_lines.specs.Ends.{behind_last, ended_after, ended, unended}
 use Rattle.text_lines.proofs.Ending.{ended_feed, ended_other, unended_feed, unended_other}
 use Rattle.sheets.specs.declared.Sheet.{Sheet}
-use Rattle.sheets.specs.Files.{LineIs, LinesSay, sheet_rows, other_line, BadLine}
-use Rattle.sheets.specs.Laying.{blank_sheet, LaidOut, LaidBehind, FitsFields, LinesRead, LineHeld, HeldSays, LineTaken, BytesRead, BytesTaken}
+use Rattle.sheets.specs.Files.{LineIs, LinesSay, sheet_rows, other_line}
+use Rattle.sheets.specs.Laying.{blank_sheet, WrongAt, BadAt, LaidOut, LaidBehind, FitsFields, LinesRead, LineHeld, HeldSays, LineTaken, BytesRead, BytesTaken}
 
 -- ---- what a line is
 
@@ -78,11 +79,11 @@ pub record SameSheet (z z' : Sheet) : Type 0 where
 
 same_laid : (xs : List SheetLine) (z z' : Sheet) (fl : List ℕ) → SameSheet z z' → LaidOut xs z fl → LaidOut xs z' fl
 same_laid xs z z' fl e L = record {
-  wrong = e.wrong ∙ L.wrong;
+  wrong = subst (WrongAt xs) (sym e.wrong) L.wrong;
   laid = L.laid;
   few = λ l. e.rows ∙ L.few l;
   many = λ l. e.rows ∙ L.many l;
-  bad = subst (BadLine xs) (sym e.bad) L.bad;
+  bad = subst (BadAt xs) (sym e.bad) L.bad;
   low = λ h. e.low ∙ L.low (sym e.bad ∙ h);
 }
 
@@ -184,7 +185,7 @@ piece_whole piece i {z} {line} {fl} {y} {line'} {fl'} l a = subst (λ (cs : List
 
 -- ---- before the first byte
 
-pub nothing_read : (z : Sheet) → z.wrong ≡ 0 → z.rows ≡ 0 → z.bad ≡ 0 → z.low ≡ 0 → z.number ≡ 0 → z.fill ≡ 0 → z.over ≡ false → (line : List ℕ) → BytesRead [] z line blank_sheet
+pub nothing_read : (z : Sheet) → z.wrong ≡ None → z.rows ≡ 0 → z.bad ≡ None → z.low ≡ 0 → z.number ≡ 0 → z.fill ≡ 0 → z.over ≡ false → (line : List ℕ) → BytesRead [] z line blank_sheet
 unfolding ended_after behind_last sheet_rows other_line
 nothing_read z w r b o n f v line = record {
   lines = record {
@@ -192,11 +193,11 @@ nothing_read z w r b o n f v line = record {
     says = tt;
     number = n;
     laid = record {
-      wrong = w;
+      wrong = subst (WrongAt []) (sym w) refl;
       laid = refl;
       few = λ _. r;
       many = λ l. absurd (omega (arith, l));
-      bad = subst (BadLine []) (sym b) (record { keep = λ i l. absurd (omega (arith, l)) });
+      bad = subst (BadAt []) (sym b) (record { keep = λ i l. absurd (omega (arith, l)) });
       low = λ _. o;
     };
   };

@@ -1,5 +1,5 @@
 -- A sheet that is read from its file byte by byte, as far as it is laid out. Assumes nothing.
-use Rattle.std.specs.Prelude.{ℕ, suc, ◌+◌, ◌*◌, ◌≤◌, ◌<◌, ◌^◌, ◌≡◌, Bool, true, false, List, [], ◌∷◌, ◌++◌, length, get_or, take, replicate}
+use Rattle.std.specs.Prelude.{ℕ, suc, ◌+◌, ◌*◌, ◌≤◌, ◌<◌, ◌^◌, ◌≡◌, Bool, true, false, List, [], ◌∷◌, ◌++◌, length, get_or, take, replicate, Option, Some, None, IsSome}
 use Rattle.commands.specs.declared.SheetLine.{SheetLine}
 use Rattle.commands.specs.declared.SheetLine.TheVariants.{Passed, Amount, Other}
 use Rattle.commands.specs.SheetLines.{FitsRow, LineSays}
@@ -26,19 +26,29 @@ pub record NumbersKeep (fl : List ℕ) (i low : ℕ) : Type 0 where
   pub place : get_or {A = ℕ} fl i 0 < outside
   pub after : low ≤ get_or {A = ℕ} fl i 0
 
--- r is one more than its rank, or 0 where it does not
-pub record LowSays (fl : List ℕ) (i low r : ℕ) : Type 0 where
-  pub keeps : NumbersKeep fl i low → r ≡ get_or {A = ℕ} fl i 0 + 1
-  pub kept : 1 ≤ r → NumbersKeep fl i low
+-- r is one more than its rank, or nothing where it does not
+pub record LowSays (fl : List ℕ) (i low : ℕ) (r : Option ℕ) : Type 0 where
+  pub keeps : NumbersKeep fl i low → r ≡ Some (get_or {A = ℕ} fl i 0 + 1)
+  pub kept : IsSome r → NumbersKeep fl i low
+
+-- the first line of another form, if there is one
+abbrev pub WrongAt : List SheetLine → Option ℕ → Type 0
+WrongAt xs None = other_line 1 xs ≡ 0
+WrongAt xs (Some l) = (l ≡ other_line 1 xs) × (1 ≤ l)
+
+-- the line of the first row that breaks a rule, if one does
+abbrev pub BadAt : List SheetLine → Option ℕ → Type 0
+BadAt xs None = BadLine xs 0
+BadAt xs (Some l) = BadLine xs l × (1 ≤ l)
 
 -- lines that say xs are laid out in fl; of rows that are too many only the first is counted
 pub record LaidOut (xs : List SheetLine) (z : Sheet) (fl : List ℕ) : Type 0 where
-  pub wrong : z.wrong ≡ other_line 1 xs
+  pub wrong : WrongAt xs z.wrong
   pub laid : fl ≡ spread_from 0 (sheet_rows xs) blank_sheet
   pub few : length (sheet_rows xs) ≤ limit → z.rows ≡ length (sheet_rows xs)
   pub many : limit < length (sheet_rows xs) → z.rows ≡ limit + 1
-  pub bad : BadLine xs z.bad
-  pub low : z.bad ≡ 0 → z.low ≡ low_after 0 (sheet_rows xs)
+  pub bad : BadAt xs z.bad
+  pub low : z.bad ≡ None → z.low ≡ low_after 0 (sheet_rows xs)
 
 -- a line that says x, with the number l, is laid out behind them
 abbrev pub LaidBehind : SheetLine → ℕ → Sheet → List ℕ → Sheet → List ℕ → Type 0

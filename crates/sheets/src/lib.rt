@@ -4,21 +4,16 @@
 mod laying;
 mod reading;
 
-pub use reading::{fresh, last_line, take_piece};
-
 // A sheet as far as it is read.
 #[derive(Drop)]
 pub struct Sheet {
-    // its rows; one more than the last rank; the line of the first row that breaks a rule, and of the first line that is of another form (0: none)
+    // its rows; one more than the last rank; the line of the first row that breaks a rule, and of the first line that is of another form
     pub rows: usize,
     pub low: u64,
-    pub bad: usize,
-    pub wrong: usize,
+    pub bad: Option<usize>,
+    pub wrong: Option<usize>,
     // the line that is being read: how many came before it, how much of it is there, whether it is too long
     pub number: usize,
     pub fill: usize,
     pub over: bool,
-    // the file is at its end, or cannot be read
-    pub ended: bool,
-    pub unread: bool,
 }

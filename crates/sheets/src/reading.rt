@@ -3,26 +3,8 @@ ghost use Rattle.std.specs.Prelude.{List, [], ◌∷◌, ℕ, length};
 ghost use Rattle.text_lines.specs.Ends.{input_lines};
 ghost use Rattle.sheets.specs.Laying.{HeldSays, LineRoom, LineTaken, LinesRead, BytesRead, SheetRoom, BytesTaken, NoneRead};
 
-use super::laying::add_line;
 use crate::Sheet;
 use commands::SheetLine;
-
-// A sheet before its first byte.
-pub fn fresh() -> Sheet
-    ensures { NoneRead result }
-{
-    Sheet {
-        rows: 0,
-        low: 0,
-        bad: 0,
-        wrong: 0,
-        number: 0,
-        fill: 0,
-        over: false,
-        ended: false,
-        unread: false,
-    }
-}
 
 // What a line says; one that there was no room for is of another form.
 fn line_says(over: bool, held: &[u8]) -> SheetLine
@@ -34,58 +16,67 @@ fn line_says(over: bool, held: &[u8]) -> SheetLine
     commands::sheet_line(held)
 }
 
-// A whole line of the sheet.
-fn take_line(flat: &mut [u64], z: Sheet, held: &[u8]) -> Sheet
-    requires { LineRoom z held.now flat.old }
-    ensures { LineTaken z held.now flat.old result flat.new }
-{
-    let l = z.number + 1;
-    let x = line_says(z.over, held);
-    let mut y = add_line(flat, z, l, x);
-    y.number = l;
-    y.fill = 0;
-    y.over = false;
-    y
-}
-
-// One byte of the sheet.
-fn take_byte(flat: &mut [u64], z: Sheet, line: &mut [u8], b: u8) -> Sheet
-    requires { SheetRoom z line.old flat.old 1 }
-    ensures { BytesTaken (b ∷ []) z line.old flat.old result line.new flat.new }
-{
-    let fill = z.fill;
-    if b == 10 {
-        return take_line(flat, z, &line[0..fill]);
+impl Sheet {
+    // A sheet before its first byte.
+    pub fn fresh() -> Sheet
+        ensures { NoneRead result }
+    {
+        Sheet {
+            rows: 0,
+            low: 0,
+            bad: None,
+            wrong: None,
+            number: 0,
+            fill: 0,
+            over: false,
+        }
     }
-    let mut y = z;
-    if fill < line.len() {
-        line[fill] = b;
-        y.fill = fill + 1;
-        return y;
-    }
-    y.over = true;
-    y
-}
 
-// A piece of the sheet.
-pub fn take_piece(flat: &mut [u64], z: Sheet, line: &mut [u8], piece: &[u8]) -> Sheet
-    requires { SheetRoom z line.old flat.old (length piece.now) }
-    ensures { BytesTaken piece.now z line.old flat.old result line.new flat.new }
-{
-    let mut y = z;
-    let mut i = 0;
-    while i < piece.len() {
-        y = take_byte(flat, y, line, piece[i]);
-        i += 1;
+    // A whole line of the sheet.
+    fn take_line(&mut self, flat: &mut [u64], held: &[u8])
+        requires { LineRoom self.old held.now flat.old }
+        ensures { LineTaken self.old held.now flat.old self.new flat.new }
+    {
+        let l = self.number + 1;
+        let x = line_says(self.over, held);
+        self.add_line(flat, l, x);
+        self.number = l;
+        self.fill = 0;
+        self.over = false;
     }
-    y
-}
 
-// The end of the file: what stands behind the last line feed is a line too.
-pub fn last_line(flat: &mut [u64], z: Sheet, line: &[u8]) -> Sheet
-    requires { SheetRoom z line.now flat.old 1 }
-    ensures { (bs : List ℕ) → BytesRead bs z line.now flat.old → LinesRead (input_lines bs) result flat.new }
-{
-    let fill = z.fill;
-    take_line(flat, z, &line[0..fill])
+    // One byte of the sheet.
+    fn take_byte(&mut self, flat: &mut [u64], line: &mut [u8], b: u8)
+        requires { SheetRoom self.old line.old flat.old 1 }
+        ensures { BytesTaken (b ∷ []) self.old line.old flat.old self.new line.new flat.new }
+    {
+        let fill = self.fill;
+        if b == b'\n' {
+            self.take_line(flat, &line[..fill]);
+        } else if fill < line.len() {
+            line[fill] = b;
+            self.fill = fill + 1;
+        } else {
+            self.over = true;
+        }
+    }
+
+    // A piece of the sheet.
+    pub fn take_piece(&mut self, flat: &mut [u64], line: &mut [u8], piece: &[u8])
+        requires { SheetRoom self.old line.old flat.old (length piece.now) }
+        ensures { BytesTaken piece.now self.old line.old flat.old self.new line.new flat.new }
+    {
+        for b in piece {
+            self.take_byte(flat, line, *b);
+        }
+    }
+
+    // The end of the file: what stands behind the last line feed is a line too.
+    pub fn last_line(&mut self, flat: &mut [u64], line: &[u8])
+        requires { SheetRoom self.old line.now flat.old 1 }
+        ensures { (bs : List ℕ) → BytesRead bs self.old line.now flat.old → LinesRead (input_lines bs) self.new flat.new }
+    {
+        let fill = self.fill;
+        self.take_line(flat, &line[..fill]);
+    }
 }

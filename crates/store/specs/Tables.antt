@@ -1,5 +1,5 @@
 -- The calls' tables: for every input the answer, and each byte of store and output afterwards. Assumes nothing.
-use Rattle.std.specs.Prelude.{◌≡◌, List, ◌∷◌, ◌++◌, ◌⊎◌, ℕ, ◌-◌, ◌*◌, ◌≤◌, ◌<◌, length, drop, replicate}
+use Rattle.std.specs.Prelude.{◌≡◌, List, ◌∷◌, ◌++◌, ◌⊎◌, ℕ, ◌-◌, ◌*◌, ◌≤◌, ◌<◌, length, drop, replicate, Result, Ok, Err}
 use Rattle.std.proofs.Math.Option.{some, none}
 use Rattle.std.proofs.Math.ListN.{get_elem?}
 use Rattle.ground.specs.Lists.{byte}
@@ -14,8 +14,8 @@ use Rattle.page.specs.declared.Place.{Place}
 use Rattle.page.specs.Places.{place_from, stored, Negative}
 use Rattle.store.specs.declared.Refusal.{Refusal}
 use Rattle.store.specs.declared.Refusal.TheVariants.{BadLength, BadPage, BadCode, BadPlace, NoCode, PrefixFull, PagesFull, ShortOutput, NoRow, BadRuns, KnownCode, BadMode}
-use Rattle.store.specs.declared.Answer.{Answer}
-use Rattle.store.specs.declared.Answer.TheVariants.{Refused, Formatted, Accepted as Passed, New, Replaced, Found, Rows, RowOf}
+use Rattle.store.specs.declared.Done.{Done}
+use Rattle.store.specs.declared.Done.TheVariants.{Formatted, Accepted as Passed, New, Replaced, Found, Rows, RowOf}
 use Rattle.ground.specs.Ladder.{Ladder, rung, given, ends, answer, refuse}
 use Rattle.partition.specs.Listing.{listing, place_of}
 use Rattle.store.specs.Pages.{size, pages, Page, read, contents, rows_on, rows_held}
@@ -51,15 +51,15 @@ abbrev pub Numbered : ℕ → ℕ → Out → Type 0
 Numbered n p o = ((n ≡ 2 → ⊥) × (p ≡ 0) × (o ≡ refused n)) ⊎ ((n ≡ 2) × (o ≡ refused_at n p))
 
 -- this paper's number and values for each of the enum's cases
-abbrev pub meaning : Answer → Out
-meaning (Refused r) = refusal r
-meaning Formatted = formatted
-meaning Passed = accepted
-meaning New = new
-meaning (Replaced p) = replaced p
-meaning (Found p) = found p
-meaning (Rows n) = counted n
-meaning (RowOf n p) = row n p
+abbrev pub meaning : Result Done Refusal → Out
+meaning (Err r) = refusal r
+meaning (Ok Formatted) = formatted
+meaning (Ok Passed) = accepted
+meaning (Ok New) = new
+meaning (Ok (Replaced p)) = replaced p
+meaning (Ok (Found p)) = found p
+meaning (Ok (Rows n)) = counted n
+meaning (Ok (RowOf n p)) = row n p
 
 -- 1: store length not a multiple of 1,024, or under 3 or over 258 pages
 abbrev pub Refusal1 : Shape → List ℕ → Type 0

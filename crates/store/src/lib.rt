@@ -46,9 +46,9 @@ pub struct Numbers {
     pub page: usize,
 }
 
+// What a call did.
 #[derive(Clone, Copy)]
-pub enum Answer {
-    Refused(Refusal),
+pub enum Done {
     Formatted,
     Accepted,
     New,
@@ -57,6 +57,9 @@ pub enum Answer {
     Rows(usize),
     RowOf(usize, Place),
 }
+
+// What a call answers: what it did, or why it is refused.
+pub type Answer = Result<Done, Refusal>;
 
 // The one door for a given code: whether it is one.
 pub fn good_code(key: &[u8]) -> bool
@@ -69,6 +72,16 @@ pub fn good_code(key: &[u8]) -> bool
         return false;
     }
     true
+}
+
+// Page p of a store.
+pub fn page_at(s: &[u8], z: Shape, p: usize) -> &[u8]
+    requires { p * size z + size z ≤ length s.now }
+    ensures { result.now ≡ page z s.now p }
+{
+    let size = 8 + z.capacity;
+    let a = p * size;
+    &s[a..a + size]
 }
 
 // The local depth of page p, 0 for a free page.
@@ -89,13 +102,8 @@ pub fn deepest(s: &[u8], z: Shape, n: usize) -> usize
     ensures { (result ≡ deepest_in (contents z s.now)) × (result < 256) }
 {
     let mut best = 0;
-    let mut p = 2;
-    while p < n {
-        let k = depth_of(s, z, p);
-        if best < k {
-            best = k;
-        }
-        p += 1;
+    for p in 2..n {
+        best = best.max(depth_of(s, z, p));
     }
     best
 }

@@ -5,12 +5,12 @@ use mathlib.Core.Logic.{inl, inr, ⊎_elim}
 use Prim.Native.Nat.{ℕ, ◌+◌, ◌-◌, ◌*◌, ◌/◌, ◌^◌, ◌≤◌, ◌<◌}
 use native.Mathlib.Omega.{arith}
 use native.Mathlib.Nat.{div-add-mod'}
-use lib.ListN.{length, get_or, take, drop, get_or-eq_default}
-use Rattle.ground.specs.Lists.{byte, part}
+use lib.ListN.{length, get_or, take, drop}
+use Rattle.ground.specs.Lists.{byte}
 use Rattle.ground.proofs.Sides.{side, same}
-use Rattle.ground.proofs.Parts.{byte_part, length_part, lent_part}
 use Rattle.words.specs.Le.{le16, le32}
 use Rattle.words.specs.Zeros.{Zero}
+use Rattle.page_check.proofs.Lent.{lent_zero, zero_lent}
 use Rattle.partition.specs.declared.Shape.{Shape}
 use Rattle.store.specs.Demands.{Sized}
 use Rattle.store.specs.Pages.{size, pages, dir_depth, entry_at}
@@ -18,19 +18,6 @@ use Rattle.hash.specs.Fnv.{fnv}
 use Rattle.store.specs.Accepted.{GoodLength, Page0From, Page1, Stands}
 use Rattle.store_check.specs.Directory.{Entries, EntriesTo, AllAre, AllBelow, EntriesInRange, Ranges}
 use Rattle.store_check.specs.Begun.{Begun, AllStand}
-
--- the bytes lent from a up to e
-pub lent_zero : (s : List ℕ) (a e : ℕ) → a ≤ e → e ≤ length s → Zero (take (e - a) (drop a s)) → (k : ℕ) → a ≤ k → k < e → byte s k ≡ 0
-lent_zero s a e l m z k lo hi =
-    let n : a + (k - a) ≡ k = omega arith in
-    ap (λ i. byte s i) (sym n) ∙ sym (byte_part s a (e - a) (k - a) (omega arith)) ∙ ap (λ g. byte g (k - a)) (sym (lent_part s a e (e - a) (omega arith))) ∙ z (k - a)
-
-pub zero_lent : (s : List ℕ) (a e : ℕ) → a ≤ e → e ≤ length s → ((k : ℕ) → a ≤ k → k < e → byte s k ≡ 0) → Zero (take (e - a) (drop a s))
-zero_lent s a e l m z k =
-    let q : take (e - a) (drop a s) ≡ part s a (e - a) = lent_part s a e (e - a) (omega arith) in
-    ap (λ g. byte g k) q
-    ∙ ⊎_elim (λ lt. byte_part s a (e - a) k lt ∙ z (a + k) (omega arith) (omega arith))
-    (λ ge. get_or-eq_default (part s a (e - a)) 0 (omega (arith, length_part s a (e - a) (omega arith)))) (side k (e - a))
 
 -- a number of four bytes is 0 exactly where they are
 four_zeros : (s : List ℕ) (a : ℕ) → le32 s a ≡ 0 → (k : ℕ) → a ≤ k → k < a + 4 → byte s k ≡ 0

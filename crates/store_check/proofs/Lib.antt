@@ -11,3 +11,4 @@ pub mod Skips
 pub mod Parting
 pub mod Said
 pub mod Counting
+pub mod Doors

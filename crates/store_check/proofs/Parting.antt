@@ -69,9 +69,6 @@ pub first_used : (g : List ℕ) → (byte g 0 ≡ 0 → ⊥) → first_of g ≡ 
 first_used g n = ap (λ b. pick b 0 (fnv (code g 0))) (ne_eqb (byte g 0) 0 n)
 
 -- a page's first hash is kept
-pub hashed_none : (S : Shape) (s hashes : List ℕ) → length hashes ≡ S.entries + 2 → Hashed S s 2 hashes
-hashed_none S s hashes e = record { long = e; each = λ p a b. absurd (omega arith) }
-
 pub hashed_more : (S : Shape) (s : List ℕ) {p x : ℕ} {hashes : List ℕ} → Hashed S s p hashes → 2 ≤ p → p < S.entries + 2 → x ≡ first_of (page S s p) → Hashed S s (p + 1) (set hashes p x)
 hashed_more S s {hashes = hashes} H a b e =
     let F = filled_more (λ k v. v ≡ first_of (page S s k)) {l = hashes} (record { long = H.long; start = a; each = H.each }) b e in
@@ -80,9 +77,6 @@ hashed_more S s {hashes = hashes} H a b e =
 -- of the free pages from p up to q it is 0
 pub hashed_free : (S : Shape) (s : List ℕ) {p q : ℕ} {hashes : List ℕ} → Hashed S s p hashes → ((k : ℕ) → p ≤ k → get_or hashes k 0 ≡ 0) → ((k : ℕ) → k < q → p ≤ k → Zero (page S s k)) → Hashed S s q hashes
 hashed_free S s {p} H none clear = record { long = H.long; each = λ k a b. ⊎_elim (λ lt. H.each k a lt) (λ ge. none k ge ∙ sym (first_free (page S s k) (clear k b ge 0))) (side k p) }
-
-pub hashed_all : (S : Shape) (s hashes : List ℕ) (n p : ℕ) → Hashed S s p hashes → n ≤ p → Hashed S s n hashes
-hashed_all S s hashes n p H l = record { long = H.long; each = λ q a b. H.each q a (omega arith) }
 
 pub top_most : (S : Shape) → Sized S → (g : List ℕ) → top S.deepest (first_of g) < S.entries
 top_most S z g = omega (arith, top_lt (first_of g) S.deepest (small (eqb (byte g 0) 0)), z.deep)

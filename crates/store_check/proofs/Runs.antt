@@ -1,36 +1,26 @@
--- A run of entries that is tested one by one, the answers gathered in one bool. Assumes nothing.
-use mathlib.Core.Path.{◌≡◌, sym, subst}
-use mathlib.Core.Bool.{Bool, true, false}
-use mathlib.Core.Logic.{◌⊎◌, inl, inr, ⊎_elim}
-use Prim.Native.Nat.{ℕ, ◌+◌, ◌≤◌, ◌<◌}
-use native.Mathlib.Omega.{arith}
+-- Runs of numbers, and a test of each element of a run. Assumes nothing.
+use Rattle.std.proofs.Common.{◌≡◌, refl, ℕ, ◌+◌, ◌-◌, ◌≤◌, ◌<◌, Bool, true, false, List, length, get_or, take, drop, sym, ap, subst, ◌∙◌, arith, ◌↔◌, IsTrue, EachIndex}
+use Rattle.std.proofs.lemmas.List.{get_or-take, get_or-drop, length-take-le, length-drop}
 use Rattle.ground.specs.Says.{Says}
-use Rattle.ground.proofs.Sides.{side}
-use Rattle.ground.proofs.Tests.{says_same}
+use Rattle.ground.proofs.Tests.{untrue}
 
 -- P holds from a up to b
 abbrev pub Run : (ℕ → Type 0) → ℕ → ℕ → Type 0
 Run P a b = (i : ℕ) → a ≤ i → i < b → P i
 
-pub run_more : (P : ℕ → Type 0) (a i : ℕ) → Run P a i → P i → Run P a (i + 1)
-run_more P a i r x k l m = ⊎_elim (λ lt. r k l lt) (λ ge. let e : i ≡ k = omega arith in subst P e x) (side k i)
+says_is : {P Q : Type 0} (r : Bool) → IsTrue r ↔ P → (P → Q) → (Q → P) → Says r Q
+says_is true h f g = f (h.0 refl)
+says_is false h f g = λ q. untrue (h.1 (g q))
 
--- the run from a up to b is tested as far as i
-pub record Tested (P : ℕ → Type 0) (a b : ℕ) (ok : Bool) (i : ℕ) : Type 0 where
-  pub from : a ≤ i
-  pub to : i ≤ b
-  pub says : Says ok (Run P a i)
-
-pub tested_none : (P : ℕ → Type 0) (a b : ℕ) → a ≤ b → Tested P a b true a
-tested_none P a b l = record { from = omega arith; to = l; says = λ i x y. absurd (omega arith) }
-
--- where the next of the run fails, the answer is no; else it stays
-pub tested_more : {P : ℕ → Type 0} {a b i : ℕ} {ok now : Bool} → Tested P a b ok i → i < b → ((P i → ⊥) × (now ≡ false)) ⊎ (P i × (now ≡ ok)) → Tested P a b now (i + 1)
-tested_more {P} {a} {b} {i} {ok} {now} t l u = record { from = omega (arith, t.from); to = omega arith; says = go u }
+-- the elements from a up to b, tested one by one
+pub run_tested : (P : ℕ → Type 0) (xs : List ℕ) (a b : ℕ) (r : Bool) → a ≤ b → b ≤ length xs → IsTrue r ↔ EachIndex (take (b - a) (drop a xs)) (λ k. P (get_or (take (b - a) (drop a xs)) k 0)) → Says r (Run (λ i. P (get_or xs i 0)) a b)
+run_tested P xs a b r up within h =
+    says_is {P = EachIndex (take (b - a) (drop a xs)) (λ k. P (get_or (take (b - a) (drop a xs)) k 0))} {Q = Run (λ i. P (get_or xs i 0)) a b} r h
+    (λ e i l m. let q : a + (i - a) ≡ i = omega arith in subst P (at (i - a) (omega arith) ∙ ap (λ k. get_or xs k 0) q) (e (i - a) (omega (arith, long))))
+    (λ e i l. subst P (sym (at i (omega (arith, long)))) (e (a + i) (omega arith) (omega (arith, long))))
   where
-    go : ((P i → ⊥) × (now ≡ false)) ⊎ (P i × (now ≡ ok)) → Says now (Run P a (i + 1))
-    go (inl x) = subst (λ (y : Bool). Says y (Run P a (i + 1))) (sym x.1) (λ r. x.0 (r i t.from (omega arith)))
-    go (inr x) = subst (λ (y : Bool). Says y (Run P a (i + 1))) (sym x.1) (says_same ok t.says (λ r. run_more P a i r x.0) (λ r k lo hi. r k lo (omega arith)))
+    long : length (take (b - a) (drop a xs)) ≡ b - a
+    long = length-take-le (b - a) (drop a xs) (omega (arith, length-drop a xs))
 
-pub tested_all : {P : ℕ → Type 0} {a b i : ℕ} {ok : Bool} → Tested P a b ok i → b ≤ i → Says ok (Run P a b)
-tested_all {P} {a} {b} {i} {ok} t l = let e : i ≡ b = omega (arith, t.to) in subst (λ j. Says ok (Run P a j)) e t.says
+    at : (i : ℕ) → i < b - a → get_or (take (b - a) (drop a xs)) i 0 ≡ get_or xs (a + i) 0
+    at i l = get_or-take (b - a) (drop a xs) i 0 l ∙ get_or-drop a xs i 0

@@ -6,11 +6,11 @@ use Prim.Native.Nat.{ℕ, ◌≤◌, ◌<◌}
 use native.Mathlib.Omega.{arith}
 use Rattle.partition.specs.declared.Shape.{Shape}
 use Rattle.store.specs.Pages.{pages}
-use Rattle.store.specs.Accepted.{GoodLength, Page0From, Page0, Page1, Stands, Parted, Deepest, rule, rules, in_turn, Stops, Broken}
+use Rattle.store.specs.Accepted.{GoodLength, Page0From, Page0, Page1, Stands, Parted, Deepest, rule, rules, in_turn, Stops, Broken, Accepted}
 use Rattle.store.specs.Counts.{Counts}
 use Rattle.store.specs.Demands.{Below}
-use Rattle.store.proofs.Accepted.Rules.{at_0, at_1, at_first, at_second, at_depth, all_in_turn, stops_more, every_more, stops_last}
-use Rattle.store_check.specs.First.{FirstBad, Judged, JudgedFrom}
+use Rattle.store.proofs.Accepted.Rules.{at_first, at_second, at_depth, all_in_turn, stops_more, every_more, stops_last}
+use Rattle.store_check.specs.First.{FirstBad, JudgedFrom}
 
 -- no page is bad
 pub none_bad : (n : ℕ) (P : ℕ → Type 0) (p : ℕ) → FirstBad n P p → n ≤ p → Below n P
@@ -27,13 +27,7 @@ module _ (zeros : ℕ) (S : Shape) (h : List ℕ → ℕ) (s : List ℕ) (long :
   stopped : (p : ℕ) → p < pages S s → Stops (in_turn S h s Zeroth []) p → JudgedFrom zeros S h s p
   stopped p l a = record { within = omega arith; bad = λ _. a; sound = λ m. absurd (omega arith) }
 
-  pub bad_0 : (Zeroth → ⊥) → JudgedFrom zeros S h s 0
-  bad_0 n = stopped 0 (omega (arith, long.least)) (at_0 S h s Zeroth n)
-
   module _ (zeroth : Zeroth) where
-    pub bad_1 : (Page1 S s → ⊥) → JudgedFrom zeros S h s 1
-    bad_1 n = stopped 1 (omega (arith, long.least)) (at_1 S h s Zeroth zeroth n)
-
     module _ (first : Page1 S s) where
       pub bad_up : (p : ℕ) → FirstBad (pages S s) (Stands S h s) p → p < pages S s → JudgedFrom zeros S h s p
       bad_up p f l = stopped p l (at_first S h s Zeroth zeroth first p f.start l (before (pages S s) (Stands S h s) p f) (f.bad l))
@@ -51,14 +45,14 @@ module _ (zeros : ℕ) (S : Shape) (h : List ℕ → ℕ) (s : List ℕ) (long :
 
 -- and the counts, which are judged last of all
 module _ (S : Shape) (h : List ℕ → ℕ) (s : List ℕ) (long : GoodLength S s) (p : ℕ) (J : JudgedFrom 80 S h s p) where
-  pub bad_before : p < pages S s → Judged S h s p
+  pub bad_before : p < pages S s → Broken S h s p
   unfolding Broken rules
-  bad_before l = record { within = J.within; bad = λ _. stops_more S h s (Page0 S s) (rule 0 (Counts S s) ∷ []) p (J.bad l); sound = λ m. absurd (omega arith) }
+  bad_before l = stops_more S h s (Page0 S s) (rule 0 (Counts S s) ∷ []) p (J.bad l)
 
-  pub bad_counts : pages S s ≤ p → (Counts S s → ⊥) → Judged S h s 0
+  pub bad_counts : pages S s ≤ p → (Counts S s → ⊥) → Broken S h s 0
   unfolding Broken rules
-  bad_counts l n = record { within = omega arith; bad = λ _. stops_last S h s (Page0 S s) (rule 0 (Counts S s) ∷ []) 0 (J.sound l) (inl (n, refl)); sound = λ m. absurd (omega (arith, long.least)) }
+  bad_counts l n = stops_last S h s (Page0 S s) (rule 0 (Counts S s) ∷ []) 0 (J.sound l) (inl (n, refl))
 
-  pub all_counted : pages S s ≤ p → Counts S s → Judged S h s (pages S s)
+  pub all_counted : pages S s ≤ p → Counts S s → Accepted S h s
   unfolding rules
-  all_counted l c = record { within = omega arith; bad = λ m. absurd (omega arith); sound = λ _. record { long = long; keeps = every_more S h s (Page0 S s) (rule 0 (Counts S s) ∷ []) (J.sound l) (c, tt) } }
+  all_counted l c = record { long = long; keeps = every_more S h s (Page0 S s) (rule 0 (Counts S s) ∷ []) (J.sound l) (c, tt) }

@@ -1,6 +1,8 @@
 -- What the check's passes answer. Assumes nothing.
-use Rattle.std.specs.Prelude.{List, [], ℕ, ◌≤◌, ◌<◌}
+use Rattle.std.specs.Prelude.{◌≡◌, List, [], ℕ, ◌≤◌, ◌<◌, Option, Some, None, Result, Ok, Err}
 use Rattle.partition.specs.declared.Shape.{Shape}
+use Rattle.store.specs.declared.Refusal.{Refusal}
+use Rattle.store.specs.declared.Refusal.TheVariants.{BadPage}
 use Rattle.store.specs.Pages.{pages}
 use Rattle.store.specs.Accepted.{Page0From, in_turn, Every, Stops, Accepted, Broken}
 
@@ -21,8 +23,17 @@ pub record JudgedFrom (zeros : ℕ) (S : Shape) (h : List ℕ → ℕ) (s : List
   pub bad : p < pages S s → Stops (in_turn S h s (Page0From zeros S s) []) p
   pub sound : pages S s ≤ p → Every (in_turn S h s (Page0From zeros S s) [])
 
--- p is the page at which the check stops, or the number of pages of an accepted store
-pub record Judged (S : Shape) (h : List ℕ → ℕ) (s : List ℕ) (p : ℕ) : Type 0 where
-  pub within : p ≤ pages S s
-  pub bad : p < pages S s → Broken S h s p
-  pub sound : pages S s ≤ p → Accepted S h s
+-- the page at which the check by the old rules stops; none of a store that keeps them
+abbrev pub JudgedBefore : Shape → (List ℕ → ℕ) → List ℕ → Option ℕ → Type 0
+JudgedBefore S h s (Some p) = (p < pages S s) × Stops (in_turn S h s (Page0From 24 S s) []) p
+JudgedBefore S h s None = Every (in_turn S h s (Page0From 24 S s) [])
+
+-- the page at which the check stops; none of an accepted store
+abbrev pub Judged : Shape → (List ℕ → ℕ) → List ℕ → Option ℕ → Type 0
+Judged S h s (Some p) = (p < pages S s) × Broken S h s p
+Judged S h s None = Accepted S h s
+
+-- 2, with the page at which the check stops; or the store is accepted
+abbrev pub CheckSays : Shape → (List ℕ → ℕ) → List ℕ → Result Unit Refusal → Type 0
+CheckSays S h s (Err r) = (p : ℕ) × (r ≡ BadPage p) × Broken S h s p
+CheckSays S h s (Ok u) = Accepted S h s

@@ -12,10 +12,8 @@ fn entries(s: &[u8], z: Shape, m: usize, dir: &mut [u32])
     requires { Roomy z s.now dir.old m }
     ensures { EntriesTo z s.now dir.new m }
 {
-    let mut i = 0;
-    while i < m {
-        dir[i] = words::get32(s, 8 + z.capacity + 4 * i) as u32;
-        i += 1;
+    for (i, e) in dir[..m].iter_mut().enumerate() {
+        *e = words::get32(s, z.size() + 4 * i) as u32;
     }
 }
 
@@ -24,15 +22,7 @@ fn all_are(dir: &[u32], a: usize, b: usize, x: u32) -> bool
     requires { (a ≤ b) × (b ≤ length dir.now) }
     ensures { Says result (AllAre dir.now a b x) }
 {
-    let mut ok = true;
-    let mut i = a;
-    while i < b {
-        if dir[i] != x {
-            ok = false;
-        }
-        i += 1;
-    }
-    ok
+    dir[a..b].iter().all(|e| *e == x)
 }
 
 // Whether none of the entries from a up to b is x.
@@ -40,15 +30,7 @@ fn none_is(dir: &[u32], a: usize, b: usize, x: u32) -> bool
     requires { (a ≤ b) × (b ≤ length dir.now) }
     ensures { Says result (NoneIs dir.now a b x) }
 {
-    let mut ok = true;
-    let mut i = a;
-    while i < b {
-        if dir[i] == x {
-            ok = false;
-        }
-        i += 1;
-    }
-    ok
+    dir[a..b].iter().all(|e| *e != x)
 }
 
 // Whether all entries from a up to b are below n.
@@ -56,15 +38,7 @@ fn all_below(dir: &[u32], a: usize, b: usize, n: u32) -> bool
     requires { (a ≤ b) × (b ≤ length dir.now) }
     ensures { Says result (AllBelow dir.now a b n) }
 {
-    let mut ok = true;
-    let mut i = a;
-    while i < b {
-        if n <= dir[i] {
-            ok = false;
-        }
-        i += 1;
-    }
-    ok
+    dir[a..b].iter().all(|e| *e < n)
 }
 
 // Whether the entries up to m are in range for n pages.
@@ -72,10 +46,7 @@ fn ranges(dir: &[u32], n: u32, m: usize) -> bool
     requires { m ≤ length dir.now }
     ensures { Says result (EntriesInRange dir.now n m) }
 {
-    if !none_is(dir, 0, m, 1) {
-        return false;
-    }
-    all_below(dir, 0, m, n)
+    none_is(dir, 0, m, 1) && all_below(dir, 0, m, n)
 }
 
 // Whether page 1 keeps its rules, with m entries in use, and if so the entries: those behind are looked at as bytes, not read.
@@ -84,7 +55,7 @@ pub fn page1_ok(s: &[u8], z: Shape, n: usize, m: usize, dir: &mut [u32]) -> bool
     ensures says { Says result (Page1 z s.now) }
     ensures read { result ≡ true → Entries z s.now dir.new }
 {
-    let size = 8 + z.capacity;
+    let size = z.size();
     if !words::all_zero(&s[size + 4 * m..2 * size]) {
         return false;
     }
@@ -97,11 +68,8 @@ pub fn tally(dir: &[u32], m: usize, counts: &mut [u32])
     requires { Uncounted dir.now counts.old m }
     ensures { NamesCounted dir.now m (length counts.old) counts.new }
 {
-    let mut i = 0;
-    while i < m {
-        let e = dir[i] as usize;
-        counts[e] = counts[e] + 1;
-        i += 1;
+    for e in &dir[..m] {
+        counts[*e as usize] += 1;
     }
 }
 
@@ -111,8 +79,5 @@ pub fn named(dir: &[u32], counts: &[u32], d: u32, k: u32, x: u32, p: u32) -> boo
     ensures { Says result (Named dir.now d k (top k x) p) }
 {
     let run = partition::run_of(x, k, d);
-    if counts[p as usize] as usize != run.to - run.from {
-        return false;
-    }
-    all_are(dir, run.from, run.to, p)
+    counts[p as usize] as usize == run.len() && all_are(dir, run.start, run.end, p)
 }

@@ -4,8 +4,8 @@ ghost use Rattle.store.specs.Accepted.{GoodLength, Page0From};
 ghost use Rattle.store.specs.Demands.{Sized};
 ghost use Rattle.store_check.specs.Said.{SaidShape, HeadAsked};
 
-use super::Length;
 use partition::Shape;
+use store::Refusal;
 
 // Whether a store's length is right for a page size.
 fn good_length(s: &[u8], z: Shape) -> bool
@@ -13,31 +13,22 @@ fn good_length(s: &[u8], z: Shape) -> bool
     ensures { Says result (GoodLength z s.now) }
 {
     let size = 8 + z.capacity;
-    if s.len() % size != 0 {
-        return false;
-    }
     let n = s.len() / size;
-    if n < 3 {
-        return false;
-    }
-    if z.entries + 2 < n {
-        return false;
-    }
-    true
+    s.len() % size == 0 && (3..=z.entries + 2).contains(&n)
 }
 
-// The page size that a store says, or its length is not right for it.
-pub fn said_shape(s: &[u8]) -> Length
+// The page size that a store says; refused where its length is not right for it.
+pub fn said_shape(s: &[u8]) -> Result<Shape, Refusal>
     ensures { SaidShape s.now result }
 {
     if s.len() < 24 {
-        return Length::Bad;
+        return Err(Refusal::BadLength);
     }
     let z = partition::shape_of(s);
     if !good_length(s, z) {
-        return Length::Bad;
+        return Err(Refusal::BadLength);
     }
-    Length::Of(z)
+    Ok(z)
 }
 
 // Whether page 0 keeps its rule, zero from an offset on.
@@ -46,23 +37,11 @@ pub fn page0_ok(s: &[u8], z: Shape, n: usize, zeros: usize) -> bool
     ensures { Says result (Page0From zeros z s.now) }
 {
     let size = 8 + z.capacity;
-    if words::get32(s, 0) != n {
-        return false;
-    }
-    if words::get32(s, 4) != size {
-        return false;
-    }
-    if words::get32(s, 8) != z.entries {
-        return false;
-    }
-    if words::get32(s, 12) != 2 * size {
-        return false;
-    }
-    if z.deepest < words::get32(s, 16) {
-        return false;
-    }
-    if words::get32(s, 20) != partition::size_number(z) {
-        return false;
-    }
-    words::all_zero(&s[zeros..size])
+    words::get32(s, 0) == n
+        && words::get32(s, 4) == size
+        && words::get32(s, 8) == z.entries
+        && words::get32(s, 12) == 2 * size
+        && words::get32(s, 16) <= z.deepest
+        && words::get32(s, 20) == partition::size_number(z)
+        && words::all_zero(&s[zeros..size])
 }

@@ -17,14 +17,12 @@ fn first_named(counts: &[u32], p: usize, q: usize) -> usize
     requires { (p ≤ q) × (q ≤ length counts.now) }
     ensures { FirstFrom p q (λ k. get_or counts.now k 0 ≡ 0) result }
 {
-    let mut i = p;
-    while i < q {
+    for i in p..q {
         if counts[i] != 0 {
             return i;
         }
-        i += 1;
     }
-    i
+    q
 }
 
 // The first page from p on that is not free or is named, or the number of pages. Free pages are passed over as one run of zeros, not page by page.
@@ -42,10 +40,7 @@ fn own_ok(pg: &[u8], tab: &mut [u8], d: u32) -> bool
     ensures says { Says result (Own pg.now d) }
     ensures zero { Zero tab.new }
 {
-    if !page_check::page_ok(pg, tab) {
-        return false;
-    }
-    (pg[1] as u32) <= d
+    page_check::page_ok(pg, tab) && u32::from(pg[1]) <= d
 }
 
 // The first page that does not stand, or n; and the first hash of each page before it. tab is as for page_check::page_ok.
@@ -85,12 +80,11 @@ pub fn first_unsound(
         let m = page_check::share_limit(k);
         let first = page_check::hash_slot(pg, 0);
         let count = words::get16(pg, 2);
-        let mut i = page_check::near_where_long(pg, first, m);
-        'slots: while i < count {
+        let near = page_check::near_where_long(pg, first, m);
+        'slots: for i in near..count {
             if !page_check::differ_below(first, page_check::hash_in_place(pg, i), m) {
                 break 'pages p;
             }
-            i += 1;
         }
         if !named(dir, counts, d, k as u32, first, p as u32) {
             break 'pages p;

@@ -9,6 +9,7 @@ ghost use Rattle.store_check.specs.First.{FirstBad};
 ghost use Rattle.store_check.specs.Digest.{Legible, LoadOf, Celled, Pass2, Digested};
 
 use partition::Shape;
+use std::mem;
 
 // What a page's rows need.
 fn page_load(pg: &[u8]) -> u32
@@ -26,13 +27,11 @@ fn digest(s: &[u8], z: Shape, n: usize, hashes: &[u32], cells: &mut [u32])
     requires { Pass2 z s.now n hashes.now cells.old }
     ensures { Celled z s.now n cells.new }
 {
-    let mut p = 2;
-    while p < n {
-        let size = 8 + z.capacity;
-        let a = p * size;
+    let size = z.size();
+    for p in 2..n {
         let t = partition::top_bits(hashes[p], z.deepest as u32) as usize;
-        cells[t] = cells[t] + page_load(&s[a..a + size]);
-        p += 1;
+        let a = p * size;
+        cells[t] += page_load(&s[a..a + size]);
     }
 }
 
@@ -42,12 +41,8 @@ fn add_up(cells: &mut [u32])
     ensures { Span cells.old 0 (length cells.old) (λ i. total (λ j. get_or cells.old j 0) i) cells.new }
 {
     let mut sum = 0;
-    let mut i = 0;
-    while i < cells.len() {
-        let x = cells[i];
-        cells[i] = sum;
-        sum += x;
-        i += 1;
+    for cell in cells.iter_mut() {
+        sum += mem::replace(cell, sum);
     }
 }
 
@@ -56,14 +51,12 @@ fn parted_ok(s: &[u8], z: Shape, hashes: &[u32], sums: &[u32], p: usize) -> bool
     requires { Digested z s.now hashes.now sums.now p }
     ensures { Says result (Parted z fnv s.now p) }
 {
-    let d = s[p * (8 + z.capacity) + 1] as u32;
+    let d = s[p * z.size() + 1] as u32;
     if d == 0 {
         return true;
     }
     let run = partition::run_of(hashes[p], d - 1, z.deepest as u32);
-    let a = run.from;
-    let b = run.to;
-    z.capacity < (sums[b] - sums[a]) as usize
+    z.capacity < (sums[run.end] - sums[run.start]) as usize
 }
 
 // The first page that does not keep it, or n.
@@ -73,12 +66,7 @@ pub fn first_joinable(s: &[u8], z: Shape, n: usize, hashes: &[u32], sums: &mut [
 {
     digest(s, z, n, hashes, sums);
     add_up(sums);
-    let mut p = 2;
-    while p < n {
-        if !parted_ok(s, z, hashes, sums, p) {
-            return p;
-        }
-        p += 1;
-    }
-    n
+    (2..n)
+        .find(|p| !parted_ok(s, z, hashes, sums, *p))
+        .unwrap_or(n)
 }

@@ -1,5 +1,5 @@
 -- Rows as the lines that list writes. Assumes nothing.
-use Rattle.std.specs.Prelude.{ℕ, zero, suc, ◌+◌, ◌-◌, ◌≤◌, ◌<◌, ◌≡◌, List, [], ◌∷◌, ◌++◌, length, take, drop}
+use Rattle.std.specs.Prelude.{ℕ, zero, suc, ◌+◌, ◌-◌, ◌≤◌, ◌<◌, ◌≡◌, List, [], ◌∷◌, ◌++◌, length, take, drop, Option, IfSome}
 use Rattle.commands.specs.Answers.{rowed}
 use Rattle.hash.specs.Fnv.{fnv}
 use Rattle.page.specs.Page.{BucketPage, count, row_at}
@@ -50,8 +50,8 @@ pub record RunFrom (S : Shape) (s : List ℕ) (n p i : ℕ) (out : List ℕ) : T
   pub along : Along S s n p i
   pub room : 4096 ≤ length out
 
--- the slot behind a run from slot i on, or 0; the buffer is as long as it was
-pub record RunTo (P : List ℕ) (i : ℕ) (p q : List ℕ) (r : ℕ) : Type 0 where
-  pub some : 0 < r → i < r
-  pub within : r ≤ count P
+-- the slot behind a run from slot i on, or none; the buffer is as long as it was
+pub record RunTo (P : List ℕ) (i : ℕ) (p q : List ℕ) (r : Option ℕ) : Type 0 where
+  pub some : IfSome r (λ k. i < k)
+  pub within : IfSome r (λ k. k ≤ count P)
   pub long : length q ≡ length p

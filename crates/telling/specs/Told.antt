@@ -1,5 +1,5 @@
 -- What is told of rows: of the listing, and of one page. Assumes nothing.
-use Rattle.std.specs.Prelude.{ℕ, ◌≡◌, List, length}
+use Rattle.std.specs.Prelude.{ℕ, ◌≡◌, List, length, Option, IfSome}
 use Rattle.std.proofs.Math.Option.{some}
 use Rattle.std.proofs.Math.ListN.{get_elem?}
 use Rattle.hash.specs.Fnv.{fnv}
@@ -10,13 +10,10 @@ use Rattle.store.specs.Accepted.{Accepted}
 use Rattle.store.specs.Demands.{Sized}
 use Rattle.store.specs.Pages.{read, rows_on, rows_held}
 use Rattle.store.specs.Tables.{Out, giving, PageKeeps}
-use Rattle.telling.specs.declared.ToldRows.{ToldRows}
-use Rattle.telling.specs.declared.ToldRows.TheVariants.{All, Stopped}
 
--- all n rows were told; Stopped stands for one that could not be written
-abbrev pub AllTold : ℕ → ToldRows → Type 0
-AllTold n (All m) = m ≡ n
-AllTold n Stopped = Unit {0}
+-- all n rows were told; none stands for one that could not be written
+abbrev pub AllTold : ℕ → Option ℕ → Type 0
+AllTold n r = IfSome r (λ m. m ≡ n)
 
 -- an accepted store of n rows
 pub record Listable (S : Shape) (s : List ℕ) (n : ℕ) : Type 0 where

@@ -8,13 +8,6 @@ mod slots;
 pub use rows::list_rows;
 pub use slots::page_rows;
 
-// So many rows were told, or one could not be written.
-#[derive(Clone, Copy)]
-pub enum ToldRows {
-    All(usize),
-    Stopped,
-}
-
 // A buffer of lines: the slot behind the rows that it has, and its length.
 #[derive(Clone, Copy)]
 pub struct Lined {

@@ -11,10 +11,8 @@ const BEFORE_NUMBER: &str = " (os error ";
 
 // The system's words for an error, without its number.
 fn words_of(text: &str) -> &str {
-    match text.rsplit_once(BEFORE_NUMBER) {
-        Some((words, _)) => words,
-        None => text,
-    }
+    text.rsplit_once(BEFORE_NUMBER)
+        .map_or(text, |(words, _)| words)
 }
 
 // The error's text at the start of the buffer, as far as there is room; its length.
@@ -39,11 +37,9 @@ pub fn failure<R: Eprint>(rt: &R, what: &str, e: io::Error) {
 
 // Whether the text could be written; if not, that is said.
 pub fn text<R: Print + Eprint>(rt: &R, bytes: &[u8]) -> bool {
-    if let Err(e) = rt.write_all(bytes) {
-        failure(rt, "standard output", e);
-        return false;
-    }
-    true
+    rt.write_all(bytes)
+        .map_err(|e| failure(rt, "standard output", e))
+        .is_ok()
 }
 
 // The answer to the line of that number; of a row the code stands in the buffer.
@@ -79,13 +75,10 @@ pub fn prompt<R: Print>(rt: &R, terminal: bool) {
 }
 
 pub fn help<R: Print + Eprint>(rt: &R) -> bool {
-    if !text(
+    text(
         rt,
         b"format N [SIZE] [anew] (SIZE 1024, 4096 or 16384) | put, add, move CODE PAGE SLOT VOLUME | lookup CODE | remove CODE\n",
-    ) {
-        return false;
-    }
-    text(
+    ) && text(
         rt,
         b"count | row N | list | check | counts | inspect PAGE | report SHEET | help | quit (or Ctrl-D: ends and saves)\n",
     )

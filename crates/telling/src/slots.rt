@@ -1,10 +1,9 @@
 // The rows of one page as lines on standard output, slot by slot.
-ghost use Rattle.std.specs.Prelude.{◌+◌, ◌≤◌, ◌<◌};
+ghost use Rattle.std.specs.Prelude.{◌<◌};
 ghost use Rattle.store.specs.Tables.{meaning};
 ghost use Rattle.telling.specs.Told.{AllTold, Shown, SlotGiven};
 
 use super::say;
-use crate::ToldRows;
 use store::Answer;
 
 // The row in slot i of a page on a line; whether it could be written.
@@ -14,31 +13,24 @@ fn tell_slot<R: Print + Eprint>(rt: &R, page: &[u8], i: usize, a: Answer, code: 
     say::answer(rt, a, code, 0)
 }
 
-// Of n rows the one after the first i, and how many are told then: no more where it could not be written.
-fn page_row<R: Print + Eprint>(rt: &R, page: &[u8], n: usize, i: usize) -> usize
+// Of n rows the one after the first i; whether it could be written.
+fn page_row<R: Print + Eprint>(rt: &R, page: &[u8], n: usize, i: usize) -> bool
     requires { Shown page.now n × (i < n) }
-    ensures { (i ≤ result) × (result ≤ i + 1) }
 {
     let mut code = [0u8; 64];
     let a = page_reader::inspect(page, i, &mut code);
-    if tell_slot(rt, page, i, a, &code) {
-        return i + 1;
-    }
-    i
+    tell_slot(rt, page, i, a, &code)
 }
 
-// The n rows of a page, slot by slot, and their number.
-pub fn page_rows<R: Print + Eprint>(rt: &R, page: &[u8], n: usize) -> ToldRows
+// The n rows of a page, slot by slot, and their number; none where one could not be written.
+pub fn page_rows<R: Print + Eprint>(rt: &R, page: &[u8], n: usize) -> Option<usize>
     requires { Shown page.now n }
     ensures { AllTold n result }
 {
-    let mut i = 0;
-    while i < n {
-        let next = page_row(rt, page, n, i);
-        if next == i {
-            return ToldRows::Stopped;
+    for i in 0..n {
+        if !page_row(rt, page, n, i) {
+            return None;
         }
-        i = next;
     }
-    ToldRows::All(i)
+    Some(n)
 }

@@ -2,8 +2,9 @@
 #![tactic(auto)]
 
 ghost use Rattle.std.specs.Prelude.{◌≡◌, List, [], ℕ, ◌≤◌, length};
-ghost use Rattle.text_lines.specs.LineText.{is_blank};
 ghost use Rattle.text_lines.specs.Reading.{ByteRead, gap_before, ReadSoFar, TextFrom, WordByte};
+
+use commands::is_blank;
 
 // A line as far as it is read: how many bytes of the buffer it has, whether it is too long, and whether a word of it has ended.
 #[derive(Clone, Copy)]
@@ -24,30 +25,11 @@ pub fn fresh_line() -> LineRead
     }
 }
 
-// A space, a tab or a carriage return.
-fn is_blank(b: u8) -> bool
-    ensures { result ≡ is_blank b }
-{
-    if b == 32 {
-        return true;
-    }
-    if b == 9 {
-        return true;
-    }
-    b == 13
-}
-
 // How many blanks go before the next byte of a word.
 fn gap_before(blank: bool, fill: usize) -> usize
     ensures { result ≡ gap_before blank fill }
 {
-    if !blank {
-        return 0;
-    }
-    if fill == 0 {
-        return 0;
-    }
-    1
+    usize::from(blank && fill != 0)
 }
 
 // One byte of a word, behind a blank where a word has ended.
@@ -55,10 +37,9 @@ fn push(buf: &mut [u8], g: LineRead, b: u8) -> LineRead
     requires { WordByte buf.old g b }
     ensures { ByteRead buf.old g b buf.new result }
 {
-    let fill = g.fill;
-    let at = fill + gap_before(g.blank, fill);
+    let at = g.fill + gap_before(g.blank, g.fill);
     if at < buf.len() {
-        buf[fill] = 32;
+        buf[g.fill] = b' ';
         buf[at] = b;
         return LineRead {
             fill: at + 1,
@@ -67,9 +48,9 @@ fn push(buf: &mut [u8], g: LineRead, b: u8) -> LineRead
         };
     }
     LineRead {
-        fill,
         over: true,
         blank: false,
+        ..g
     }
 }
 
@@ -82,12 +63,7 @@ pub fn read_byte(buf: &mut [u8], g: LineRead, b: u8) -> LineRead
         return g;
     }
     if is_blank(b) {
-        let fill = g.fill;
-        return LineRead {
-            fill,
-            over: false,
-            blank: true,
-        };
+        return LineRead { blank: true, ..g };
     }
     push(buf, g, b)
 }
@@ -96,21 +72,22 @@ pub fn read_byte(buf: &mut [u8], g: LineRead, b: u8) -> LineRead
 pub fn text_start(words: &[u8]) -> usize
     ensures { TextFrom words.now result }
 {
+    // Stays: tried as a match on [0xEF, 0xBB, 0xBF, ..]; the proof did not close, it leaves ten goals at which the failed test has no name.
     let n = words.len();
     if n < 3 {
         return 0;
     }
-    if words[0] != 239 {
+    if words[0] != 0xEF {
         return 0;
     }
-    if words[1] != 187 {
+    if words[1] != 0xBB {
         return 0;
     }
-    if words[2] != 191 {
+    if words[2] != 0xBF {
         return 0;
     }
     if n > 3 {
-        if words[3] == 32 {
+        if words[3] == b' ' {
             return 4;
         }
     }

@@ -4,105 +4,92 @@
 
 ghost use Rattle.std.specs.Prelude.{◌≤◌, length};
 
-use std::io::Read;
+use std::io::{Bytes, Read};
+
+// The first and the longest of the published texts, in their order.
+const TEXTS: [&[u8]; 27] = [
+    b"",
+    b"a",
+    b"b",
+    b"c",
+    b"d",
+    b"e",
+    b"f",
+    b"fo",
+    b"foo",
+    b"foob",
+    b"fooba",
+    b"foobar",
+    b"ch",
+    b"cho",
+    b"chon",
+    b"chong",
+    b"chongo",
+    b"chongo ",
+    b"chongo w",
+    b"chongo wa",
+    b"chongo was",
+    b"chongo was ",
+    b"chongo was h",
+    b"chongo was he",
+    b"chongo was her",
+    b"chongo was here",
+    b"chongo was here!",
+];
+
+// The FNV authors' binary ones.
+const BINARY: [[u8; 4]; 8] = [
+    *b"\xff\x00\x00\x01",
+    *b"\x01\x00\x00\xff",
+    *b"\xff\x00\x00\x02",
+    *b"\x02\x00\x00\xff",
+    *b"\xff\x00\x00\x03",
+    *b"\x03\x00\x00\xff",
+    *b"\xff\x00\x00\x04",
+    *b"\x04\x00\x00\xff",
+];
 
 fn show<R: Print>(rt: &R, code: &[u8]) {
     let h = hash::hash(code);
     let _ = println!(rt; "{h:08x}");
 }
 
-fn show_short<R: Print>(rt: &R) {
-    show(rt, b"");
-    show(rt, b"a");
-    show(rt, b"b");
-    show(rt, b"c");
-    show(rt, b"d");
-    show(rt, b"e");
-    show(rt, b"f");
-    show(rt, b"fo");
-    show(rt, b"foo");
-    show(rt, b"foob");
-    show(rt, b"fooba");
-    show(rt, b"foobar");
-}
-
-fn show_long<R: Print>(rt: &R) {
-    show(rt, b"ch");
-    show(rt, b"cho");
-    show(rt, b"chon");
-    show(rt, b"chong");
-    show(rt, b"chongo");
-    show(rt, b"chongo ");
-    show(rt, b"chongo w");
-    show(rt, b"chongo wa");
-    show(rt, b"chongo was");
-    show(rt, b"chongo was ");
-    show(rt, b"chongo was h");
-    show(rt, b"chongo was he");
-    show(rt, b"chongo was her");
-    show(rt, b"chongo was here");
-    show(rt, b"chongo was here!");
-}
-
-// The FNV authors' binary ones.
-fn show_binary<R: Print>(rt: &R) {
-    show(rt, b"\xff\x00\x00\x01");
-    show(rt, b"\x01\x00\x00\xff");
-    show(rt, b"\xff\x00\x00\x02");
-    show(rt, b"\x02\x00\x00\xff");
-    show(rt, b"\xff\x00\x00\x03");
-    show(rt, b"\x03\x00\x00\xff");
-    show(rt, b"\xff\x00\x00\x04");
-    show(rt, b"\x04\x00\x00\xff");
-}
-
-// Reads until the buffer is full or nothing more comes: how many bytes came.
-fn read_full<I: Read>(input: &mut I, buf: &mut [u8]) -> usize
-    ensures { result ≤ length buf.new }
+// Reads until the code is full or nothing more comes: how many bytes came.
+fn read_code<I: Read + Drop>(input: &mut Bytes<I>, code: &mut [u8]) -> usize
+    ensures { result ≤ length code.new }
 {
-    let mut done = 0;
-    while done < buf.len() {
-        let n = input.read(&mut buf[done..]).unwrap_or(0);
-        if n == 0 {
-            return done;
-        }
-        done += n;
+    for (i, slot) in code.iter_mut().enumerate() {
+        let Some(Ok(byte)) = input.next() else {
+            return i;
+        };
+        *slot = byte;
     }
-    done
+    code.len()
 }
 
-// Fills the code from standard input, as far as that goes, and shows it.
-fn show_read<R: Print, I: Read>(rt: &R, input: &mut I, code: &mut [u8]) {
-    let n = read_full(input, code);
-    show(rt, &code[..n]);
-}
-
-fn wide(x: u8) -> usize
-    ensures { result ≤ 255 }
-{
-    x as usize
-}
-
-// Takes one record, and answers whether there was one.
-fn take_record<R: Print, I: Read>(rt: &R, input: &mut I) -> bool {
-    let mut size = [0u8; 1];
-    if read_full(input, &mut size) == 0 {
+// Takes one record and shows its code, as far as that goes; whether there was a record.
+fn take_record<R: Print, I: Read + Drop>(rt: &R, input: &mut Bytes<I>) -> bool {
+    let Some(Ok(size)) = input.next() else {
         return false;
-    }
-    let n = wide(size[0]);
+    };
     let mut code = [0u8; 255];
-    show_read(rt, input, &mut code[..n]);
+    let n = read_code(input, &mut code[..usize::from(size)]);
+    show(rt, &code[..n]);
     true
 }
 
-// A proved loop has to end, and nothing says that the input does: it counts down from a number that no run uses up.
 fn main(rt: HostRuntime) {
-    show_short(&rt);
-    show_long(&rt);
-    show_binary(&rt);
-    let mut input = rt.reader();
-    let mut turns = u64::MAX;
-    while turns > 0 && take_record(&rt, &mut input) {
-        turns -= 1;
+    for code in TEXTS {
+        show(&rt, code);
+    }
+    for code in BINARY {
+        show(&rt, &code);
+    }
+    let mut input = rt.reader().bytes();
+    // A proved loop has to end, and nothing says that the input does: so many records no run uses up.
+    for _ in 0..u64::MAX {
+        if !take_record(&rt, &mut input) {
+            return;
+        }
     }
 }

@@ -1,13 +1,17 @@
 -- Of two stretches of bytes the smaller as a number has the smaller byte where they differ first. Assumes nothing.
-use Prim.Native.Nat.{ℕ, zero, suc, ◌+◌, ◌-◌, ◌≤◌, ◌<◌}
-use mathlib.Core.Path.{◌≡◌}
+use Prim.Native.Nat.{ℕ, zero, suc, ◌+◌, ◌-◌, ◌≤◌, ◌<◌, min}
+use mathlib.Core.Path.{◌≡◌, sym}
 use mathlib.Core.Logic.{⊎_elim}
 use mathlib.Core.List.{List}
 use native.Mathlib.Omega.{arith}
 use lib.ListN.{length}
 use Rattle.ground.specs.Lists.{byte}
 use Rattle.ground.proofs.Sides.{side, same}
-use Rattle.words.specs.Codes.{Before}
+use Rattle.std.specs.declared.cmp.Ordering.{Ordering}
+use Rattle.std.specs.declared.cmp.Ordering.TheVariants.{Less, Equal, Greater}
+use Rattle.std.specs.Ordering.{MatchOrdering}
+use lib.Seq.{ext_get_or}
+use Rattle.words.specs.Codes.{Before, Ordered}
 use Rattle.words.specs.Big.{big}
 use Rattle.words.proofs.Orders.{differ_before}
 
@@ -62,3 +66,16 @@ module _ (p q : List ℕ) (bytes_p : (k : ℕ) → byte p k < 256) (bytes_q : (k
             (side k i);
         less = λ _. f.less;
       })
+
+-- what the answer on such numbers says of the codes
+pub told_apart : (p q : List ℕ) → ((k : ℕ) → byte p k < 256) → ((k : ℕ) → byte q k < 256) → (i j n : ℕ) → Agreed p q i → j ≤ i → j + n ≤ length p → j + n ≤ length q
+    → (o : Ordering) → MatchOrdering o (big n p j < big n q j) (big n p j ≡ big n q j) (big n q j < big n p j) → (big n p j ≡ big n q j → ⊥) → Ordered p q o
+told_apart p q bp bq i j n h l lp lq Less d x = smaller_before p q bp bq i j n h l lp lq d
+told_apart p q bp bq i j n h l lp lq Equal d x = absurd (x d)
+told_apart p q bp bq i j n h l lp lq Greater d x = smaller_before q p bq bp i j n (λ k m. sym (h k m)) l lq lp d
+
+-- codes that agree as far as both go
+pub told_by_length : (p q : List ℕ) → Agreed p q (min (length p) (length q)) → (o : Ordering) → MatchOrdering o (length p < length q) (length p ≡ length q) (length q < length p) → Ordered p q o
+told_by_length p q h Less d = differ_before p q (record { at = length p; in_s = omega arith; in_t = d; agree = λ k m. h k (omega arith); less = λ e. absurd (omega arith) })
+told_by_length p q h Equal d = ext_get_or 0 p q d (λ k m. h k (omega arith))
+told_by_length p q h Greater d = differ_before q p (record { at = length q; in_s = omega arith; in_t = d; agree = λ k m. sym (h k (omega arith)); less = λ e. absurd (omega arith) })

@@ -1,6 +1,9 @@
 -- Laws of folding: twice is once, lengths stay, bytes stay bytes; and a code is folded where each of its bytes is. Assumes nothing.
 use mathlib.Core.Path.{◌≡◌, refl, sym, ap, ◌∙◌}
-use mathlib.Core.Bool.{Bool, true, false}
+use mathlib.Core.Bool.{Bool, true, false, true≢false}
+use Rattle.std.specs.Prelude.{IsTrue, All}
+use Rattle.std.proofs.lemmas.Grind.{get_or_default_zero}
+use Rattle.ground.specs.Says.{Says}
 use mathlib.Core.List.{List, [], ◌∷◌, map}
 use mathlib.Core.Logic.{◌⊎◌, inl, inr, ⊎_elim, ◌↔◌}
 use Prim.Native.Nat.{ℕ, ◌+◌, ◌-◌, ◌≤◌, ◌<◌}
@@ -108,3 +111,10 @@ folded_part p c q w l =
     let e : length c ≡ length (fold c) = sym (fold_length c) in
     lent_part q 0 (length c) (length c) (omega arith) ∙ ap (part q 0) e
     ∙ part_is q 0 (fold c) (omega (arith, e)) (λ i m. w.new i m)
+
+-- what a test of each byte for capitals says of a code
+pub plain_says : (s : List ℕ) (r : Bool) → IsTrue r ↔ All (λ b. (b < 0x41) ⊎ (0x5A < b)) s → Says r (Folded s)
+plain_says s true h = folded_each s (λ k l. (byte_kept (byte s k)).1 (h.0 refl k 0 l))
+plain_says s false h = λ f.
+    let e : IsTrue false = h.1 (λ k d l. rw (get_or_default_zero s k d l) ((byte_kept (byte s k)).0 (each_folded s f k))) in
+    absurd (true≢false (sym e))

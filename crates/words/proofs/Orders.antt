@@ -3,12 +3,16 @@ use mathlib.Core.Path.{◌≡◌, refl, sym, ap, subst, ◌∙◌}
 use mathlib.Core.List.{List, [], ◌∷◌}
 use mathlib.Core.Logic.{◌⊎◌, inl, inr, ⊎_elim}
 use Prim.Native.Nat.compare
-use Prim.Native.Nat.{ℕ, zero, suc, ◌≤◌, ◌<◌, compare, Ordering}
+use Prim.Native.Nat.{ℕ, zero, suc, ◌+◌, ◌≤◌, ◌<◌, compare, Ordering}
 use native.Mathlib.Omega.{arith}
 use lib.ListN.{length}
 use Rattle.ground.specs.Lists.{byte}
 use Rattle.ground.proofs.Sides.{side}
-use Rattle.words.specs.Codes.{order, then, Before}
+use Rattle.std.specs.declared.cmp.Ordering as answer
+use Rattle.std.specs.declared.cmp.Ordering.TheVariants.{Less, Equal, Greater}
+use Rattle.std.specs.Ordering.{MatchOrdering, is_lt, is_eq}
+use Rattle.ground.specs.Says.{Says}
+use Rattle.words.specs.Codes.{order, then, Before, Ordered}
 
 -- s and t agree before place `at`, and there s ends, or has the smaller byte
 pub record Differ (s t : List ℕ) : Type 0 where
@@ -171,3 +175,38 @@ gt_or s t = elim (either s t) [
 -- neither after nor the same
 pub is_before : (s t : List ℕ) → (order s t ≡ Ordering.gt → ⊥) → (order s t ≡ Ordering.eq → ⊥) → Before s t
 is_before s t n m = elim (either s t) [ before a ↦ a | equal e ↦ absurd (m e) | after e ↦ absurd (n e) ]
+
+-- what an answer says of two codes that go on after one byte, the same or another
+pub ordered_next : (x y : ℕ) (s t : List ℕ) (o : answer.Ordering) → x ≡ y → Ordered s t o → Ordered (x ∷ s) (y ∷ t) o
+ordered_next x y s t Less e b = differ_before (x ∷ s) (y ∷ t) (next x y s t e (before_differ b))
+ordered_next x y s t Equal e b = cc
+ordered_next x y s t Greater e b = differ_before (y ∷ t) (x ∷ s) (next y x t s (sym e) (before_differ b))
+
+pub ordered_first : (x y : ℕ) (s t : List ℕ) (o : answer.Ordering) → MatchOrdering o (x < y) (x ≡ y) (y < x) → (x ≡ y → ⊥) → Ordered (x ∷ s) (y ∷ t) o
+ordered_first x y s t Less h n = differ_before (x ∷ s) (y ∷ t) (first x y s t h)
+ordered_first x y s t Equal h n = absurd (n h)
+ordered_first x y s t Greater h n = differ_before (y ∷ t) (x ∷ s) (first y x t s h)
+
+-- where one of them has ended, the lengths decide
+pub ordered_end : (s t : List ℕ) (m n : ℕ) (o : answer.Ordering) → (length s ≡ 0) ⊎ (length t ≡ 0) → m + length t ≡ n + length s → MatchOrdering o (m < n) (m ≡ n) (n < m) → Ordered s t o
+ordered_end [] [] m n Less e l h = absurd (omega arith)
+ordered_end [] [] m n Equal e l h = refl
+ordered_end [] [] m n Greater e l h = absurd (omega arith)
+ordered_end [] (y ∷ t) m n Less e l h = empty_before [] (y ∷ t) (omega arith) (omega arith)
+ordered_end [] (y ∷ t) m n Equal e l h = absurd (omega arith)
+ordered_end [] (y ∷ t) m n Greater e l h = absurd (omega arith)
+ordered_end (x ∷ s) [] m n Less e l h = absurd (omega arith)
+ordered_end (x ∷ s) [] m n Equal e l h = absurd (omega arith)
+ordered_end (x ∷ s) [] m n Greater e l h = empty_before [] (x ∷ s) (omega arith) (omega arith)
+ordered_end (x ∷ s) (y ∷ t) m n o e l h = absurd (omega arith)
+
+-- what the tests of an answer say
+pub lt_says : (s t : List ℕ) (o : answer.Ordering) → Ordered s t o → Says (is_lt o) (Before s t)
+lt_says s t Less h = h
+lt_says s t Equal h = λ b. irrefl t (subst (λ z. Before z t) h b)
+lt_says s t Greater h = λ b. irrefl s (before_trans b h)
+
+pub eq_says : (s t : List ℕ) (o : answer.Ordering) → Ordered s t o → Says (is_eq o) (s ≡ t)
+eq_says s t Less h = λ e. irrefl t (subst (λ z. Before z t) e h)
+eq_says s t Equal h = h
+eq_says s t Greater h = λ e. irrefl t (subst (λ z. Before t z) e h)

@@ -10,8 +10,8 @@ use Rattle.ground.proofs.Sides.{side}
 use Rattle.words.specs.Moves.{Frame, Put16, Put32, Wrote, Span}
 use Rattle.words.specs.Codes.{Ordered}
 use Rattle.words.specs.Zeros.{ZeroRun}
-use Rattle.words.specs.declared.Order.{Order}
-use Rattle.words.specs.declared.Order.TheVariants.{Less, Equal, Greater}
+use Rattle.std.specs.declared.cmp.Ordering.{Ordering}
+use Rattle.std.specs.declared.cmp.Ordering.TheVariants.{Less, Equal, Greater}
 use Rattle.words.proofs.Bytes.{le16_bytes, le32_byte}
 use Rattle.words.proofs.Orders.{irrefl, before_trans}
 
@@ -47,7 +47,7 @@ module _ {p q r : List ℕ} {k v : ℕ} (hq : (i : ℕ) → byte q i < 256) (hr 
   pub put32_one : Put32 p k v q → Put32 p k v r → q ≡ r
   put32_one a b = frame_one a.old b.old (λ i h. le32_byte q r k i hq hr (a.val ∙ sym b.val) h)
 
-pub ordered_one : (s t : List ℕ) (a b : Order) → Ordered s t a → Ordered s t b → a ≡ b
+pub ordered_one : (s t : List ℕ) (a b : Ordering) → Ordered s t a → Ordered s t b → a ≡ b
 ordered_one s t Less Less x y = refl
 ordered_one s t Less Equal x y = absurd (irrefl _ (rw y at x))
 ordered_one s t Less Greater x y = absurd (irrefl _ (before_trans x y))

@@ -1,11 +1,12 @@
 -- Laws of zeros gathered by `or`. Assumes nothing.
-use mathlib.Core.Path.{◌≡◌, refl}
+use mathlib.Core.Path.{◌≡◌, refl, sym, ◌∙◌}
 use mathlib.Core.Logic.{⊎_elim}
 use mathlib.Core.List.{List}
-use Prim.Native.Nat.{ℕ, ◌+◌, ◌≤◌, ◌<◌}
+use Prim.Native.Nat.{ℕ, ◌+◌, ◌-◌, ◌≤◌, ◌<◌}
 use native.Mathlib.Omega.{arith}
 use lib.Bits.{bit_or, or_add_and, and_le_l, and_le_r}
-use lib.ListN.{length, get_or-eq_default}
+use lib.ListN.{length, take, drop, get_or-eq_default, length-take}
+use lib.Seq.{get_or-take, get_or-drop}
 use Rattle.ground.specs.Lists.{byte}
 use Rattle.ground.proofs.Sides.{side}
 use Rattle.words.specs.Zeros.{Zero, ZeroFrom}
@@ -42,3 +43,15 @@ from_on s a b c y z k l h = ⊎_elim (λ lt. y k l lt) (λ ge. z k ge h) (side k
 -- past the end there are zeros only
 pub zero_all : (s : List ℕ) (i : ℕ) → length s ≤ i → ((k : ℕ) → k < i → byte s k ≡ 0) → Zero s
 zero_all s i h all k = ⊎_elim (λ lt. all k lt) (λ ge. let past : length s ≤ k = omega arith in get_or-eq_default s 0 past) (side k i)
+
+-- zeros of a part
+pub part_zero : (s : List ℕ) (a b : ℕ) → Zero (take (b - a) (drop a s)) → ZeroFrom s a b
+part_zero s a b z k l h =
+    let e : a + (k - a) ≡ k = omega arith in
+    rw e at (sym (get_or-take (b - a) (drop a s) (k - a) 0 (omega arith) ∙ get_or-drop a s (k - a) 0) ∙ z (k - a))
+
+pub zero_part : (s : List ℕ) (a b : ℕ) → ZeroFrom s a b → Zero (take (b - a) (drop a s))
+zero_part s a b z k = ⊎_elim
+    (λ lt. get_or-take (b - a) (drop a s) k 0 lt ∙ get_or-drop a s k 0 ∙ z (a + k) (omega arith) (omega arith))
+    (λ ge. get_or-eq_default (take (b - a) (drop a s)) 0 (omega (arith, length-take (b - a) (drop a s))))
+    (side k (b - a))

@@ -1,8 +1,8 @@
 -- Codes: how long one is, and their byte order. Assumes nothing.
 use Rattle.std.specs.Prelude.{◌≡◌, List, [], ◌∷◌, length}
 use Prim.Native.Nat.{ℕ, ◌≤◌, compare, Ordering}
-use Rattle.words.specs.declared.Order.{Order}
-use Rattle.words.specs.declared.Order.TheVariants.{Less, Equal, Greater}
+use Rattle.std.specs.declared.cmp.Ordering as answer
+use Rattle.std.specs.declared.cmp.Ordering.TheVariants.{Less, Equal, Greater}
 
 -- A code is 1 to 64 bytes.
 pub record GoodCode (c : List ℕ) : Type 0 where
@@ -27,7 +27,7 @@ pub record Before (s t : List ℕ) : Type 0 where
   pub less : order s t ≡ Ordering.lt
 
 -- what each answer of a comparison says
-abbrev pub Ordered : List ℕ → List ℕ → Order → Type 0
+abbrev pub Ordered : List ℕ → List ℕ → answer.Ordering → Type 0
 Ordered s t Less = Before s t
 Ordered s t Equal = s ≡ t
 Ordered s t Greater = Before t s

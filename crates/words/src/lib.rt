@@ -11,6 +11,8 @@ ghost use Rattle.words.specs.Folds.{fold_byte, fold, Folded};
 ghost use Rattle.words.specs.Moves.{Put16, Put32, Wrote, Copied, MovedDown, Span, Cleared, MovableUp, MovedUp};
 ghost use Rattle.words.specs.Zeros.{Zero, ZeroFrom, ZeroRun};
 
+use std::cmp::Ordering;
+
 // A byte as a number of the width that the others have.
 pub fn wide(x: u8) -> usize
     ensures { (result ≡ x) × (result < 256) }
@@ -69,19 +71,21 @@ pub fn be64(s: &[u8], k: usize) -> usize
 }
 
 // The 16 bits at k.
+#[tactic(auto, unfolding(crate::specs::Le::le16))]
 pub fn get16(s: &[u8], k: usize) -> usize
     requires { k + 2 ≤ length s.now }
     ensures { (result ≡ le16 s.now k) × (result < 65536) }
 {
-    on(wide(s[k + 1]), 8, wide(s[k]))
+    u16::from_le_bytes([s[k], s[k + 1]]) as usize
 }
 
 // The 32 bits at k.
+#[tactic(auto, unfolding(crate::specs::Le::le16, crate::specs::Le::le32))]
 pub fn get32(s: &[u8], k: usize) -> usize
     requires { k + 4 ≤ length s.now }
     ensures { (result ≡ le32 s.now k) × (result < 4294967296) }
 {
-    on(wide(s[k + 3]), 24, on(wide(s[k + 2]), 16, get16(s, k)))
+    u32::from_le_bytes([s[k], s[k + 1], s[k + 2], s[k + 3]]) as usize
 }
 
 // v in the 16 bits at k.
@@ -107,11 +111,7 @@ pub fn copy_at(dst: &mut [u8], at: usize, src: &[u8])
     requires { at + length src.now ≤ length dst.old }
     ensures { Copied dst.old at src.now dst.new }
 {
-    let mut i = 0;
-    while i < src.len() {
-        dst[at + i] = src[i];
-        i += 1;
-    }
+    dst[at..at + src.len()].copy_from_slice(src);
 }
 
 // n bytes move from at + 4 to at.
@@ -119,11 +119,7 @@ pub fn move_down(s: &mut [u8], at: usize, n: usize)
     requires { at + n + 4 ≤ length s.old }
     ensures { MovedDown s.old at n s.new }
 {
-    let mut i = 0;
-    while i < n {
-        s[at + i] = s[at + i + 4];
-        i += 1;
-    }
+    s.copy_within(at + 4..at + 4 + n, at);
 }
 
 // x from a up to b.
@@ -131,11 +127,7 @@ pub fn fill(s: &mut [u8], a: usize, b: usize, x: u8)
     requires { (a ≤ b) × (b ≤ length s.old) }
     ensures { Span s.old a b (λ _. x) s.new }
 {
-    let mut i = a;
-    while i < b {
-        s[i] = x;
-        i += 1;
-    }
+    s[a..b].fill(x);
 }
 
 // Zeros from a up to b.
@@ -151,37 +143,16 @@ pub fn move_up(s: &mut [u8], a: usize, b: usize)
     requires { MovableUp s.old a b }
     ensures { MovedUp s.old a b s.new }
 {
-    let mut i = b;
-    while a < i {
-        i -= 1;
-        s[i] = s[i - 4];
-    }
+    s.copy_within(a - 4..b - 4, a);
 }
 
-// Whether the 1,024 bytes from a on are zero. No way out before the end and a fixed number of turns, so that it vectorises without a rest.
-fn zero_block(s: &[u8], a: usize) -> bool
-    requires { a + 1024 ≤ length s.now }
-    ensures { Says result (ZeroFrom s.now a (a + 1024)) }
+// Whether no byte has a bit. No way out before the end, so that it vectorises; of a block of known length, without a rest.
+fn no_bit(s: &[u8]) -> bool
+    ensures { Says result (Zero s.now) }
 {
-    let mut acc: u8 = 0;
-    let mut i = 0;
-    while i < 1024 {
-        acc = acc | s[a + i];
-        i += 1;
-    }
-    acc == 0
-}
-
-// Whether the bytes from a on are zero.
-fn zero_rest(s: &[u8], a: usize) -> bool
-    requires { a ≤ length s.now }
-    ensures { Says result (ZeroFrom s.now a (length s.now)) }
-{
-    let mut acc: u8 = 0;
-    let mut i = a;
-    while i < s.len() {
-        acc = acc | s[i];
-        i += 1;
+    let mut acc = 0;
+    for &x in s {
+        acc |= x;
     }
     acc == 0
 }
@@ -191,106 +162,63 @@ pub fn zeros_end(s: &[u8], a: usize) -> usize
     requires { a ≤ length s.now }
     ensures { ZeroRun s.now a result }
 {
-    let mut b = a;
-    while 1024 <= s.len() - b {
-        if !zero_block(s, b) {
+    let blocks = (s.len() - a) / 1024;
+    for k in 0..blocks {
+        let b = a + 1024 * k;
+        if !no_bit(&s[b..b + 1024]) {
             return b;
         }
-        b += 1024;
     }
-    b
+    a + 1024 * blocks
 }
 
 // Whether every byte is zero: block by block, then the rest.
 pub fn all_zero(s: &[u8]) -> bool
     ensures { Says result (Zero s.now) }
 {
-    zero_rest(s, zeros_end(s, 0))
-}
-
-#[derive(Clone, Copy)]
-pub enum Order {
-    Less,
-    Equal,
-    Greater,
-}
-
-// The smaller of two lengths.
-fn shorter(m: usize, n: usize) -> usize
-    ensures { result ≡ min m n }
-{
-    if n < m {
-        return n;
-    }
-    m
+    no_bit(&s[zeros_end(s, 0)..])
 }
 
 // Two codes in byte order: unsigned, a shorter code before its extensions.
-pub fn compare(a: &[u8], b: &[u8]) -> Order
+pub fn compare(a: &[u8], b: &[u8]) -> Ordering
     ensures { Ordered a.now b.now result }
 {
-    let n = shorter(a.len(), b.len());
-    let mut i = 0;
-    while i < n {
-        let x = a[i];
-        let y = b[i];
+    // Stays: `a.cmp(b)` is 35 instructions, not 22, where the first bytes differ, as in the check of a page they mostly do.
+    for (x, y) in a.iter().zip(b) {
         if x != y {
-            if x < y {
-                return Order::Less;
-            }
-            return Order::Greater;
+            return x.cmp(y);
         }
-        i += 1;
     }
-    if i < b.len() {
-        return Order::Less;
-    }
-    if i < a.len() {
-        return Order::Greater;
-    }
-    Order::Equal
+    a.len().cmp(&b.len())
 }
 
 // Two codes of eight bytes or more, by eight bytes as one number; the last eight of the shorter may begin among those before.
-fn by_eights(a: &[u8], b: &[u8]) -> Order
+fn by_eights(a: &[u8], b: &[u8]) -> Ordering
     requires { (8 ≤ length a.now) × (8 ≤ length b.now) }
     ensures { Ordered a.now b.now result }
 {
-    let last = shorter(a.len(), b.len()) - 8;
-    let mut i = 0;
-    while i < last {
+    // Stays: `a.cmp(b)` is 73 instructions, not 39, for codes of 14 bytes that differ in the last, 153, not 111, for 64.
+    let last = a.len().min(b.len()) - 8;
+    for i in (0..last).step_by(8) {
         let v = be64(a, i);
         let w = be64(b, i);
         if v != w {
-            if v < w {
-                return Order::Less;
-            }
-            return Order::Greater;
+            return v.cmp(&w);
         }
-        i += 8;
     }
     let v = be64(a, last);
     let w = be64(b, last);
     if v != w {
-        if v < w {
-            return Order::Less;
-        }
-        return Order::Greater;
+        return v.cmp(&w);
     }
-    if a.len() < b.len() {
-        return Order::Less;
-    }
-    if b.len() < a.len() {
-        return Order::Greater;
-    }
-    Order::Equal
+    a.len().cmp(&b.len())
 }
 
 // The same as `compare`, for codes that begin alike: in fewer steps where both are long.
-pub fn compare_alike(a: &[u8], b: &[u8]) -> Order
+pub fn compare_alike(a: &[u8], b: &[u8]) -> Ordering
     ensures { Ordered a.now b.now result }
 {
-    if shorter(a.len(), b.len()) < 8 {
+    if a.len().min(b.len()) < 8 {
         return compare(a, b);
     }
     by_eights(a, b)
@@ -300,26 +228,21 @@ pub fn compare_alike(a: &[u8], b: &[u8]) -> Order
 pub fn letter(x: u8) -> u8
     ensures { (26 ≤ result) ↔ (fold_byte x ≡ x) }
 {
-    if 0x41 <= x {
-        return x - 0x41;
-    }
-    x + 0xBF
+    x.wrapping_sub(0x41)
 }
 
 // The smaller of two bytes.
 pub fn lesser(x: u8, y: u8) -> u8
     ensures { result ≡ min x y }
 {
-    if y < x {
-        return y;
-    }
-    x
+    x.min(y)
 }
 
 // What is added to a byte where it is folded: 0x20 to one from 0x41 to 0x5A.
 fn shift(x: u8) -> u8
     ensures { (x + result ≡ fold_byte x) × (x + result < 256) }
 {
+    // Stays: the must-fail edits at_sign_folded, bracket_folded and capital_z_kept move these bounds, which `to_ascii_lowercase` has within.
     if x < 0x41 {
         return 0;
     }
@@ -342,12 +265,13 @@ fn fold_eight(dst: &mut [u8], src: &[u8], a: usize)
     ensures { Wrote dst.old a 8 (λ j. byte (fold src.now) (a + j)) dst.new }
 {
     let mut e = [0u8; 8];
-    let mut i = 0;
-    while i < 8 {
+    for i in 0..8 {
         e[i] = fold_byte(src[a + i]);
-        i += 1;
     }
-    copy_at(dst, a, &e);
+    // Stays: with `copy_from_slice` here a code of 20 bytes takes 75 instructions, not 65, and one of 64 takes 406, not 130.
+    for i in 0..8 {
+        dst[a + i] = e[i];
+    }
 }
 
 // All bytes folded, one by one.
@@ -355,10 +279,8 @@ fn fold_each(dst: &mut [u8], src: &[u8])
     requires { length src.now ≤ length dst.old }
     ensures { Copied dst.old 0 (fold src.now) dst.new }
 {
-    let mut i = 0;
-    while i < src.len() {
+    for i in 0..src.len() {
         dst[i] = fold_byte(src[i]);
-        i += 1;
     }
 }
 
@@ -373,10 +295,8 @@ pub fn fold_code(dst: &mut [u8], src: &[u8])
     }
     fold_eight(dst, src, 0);
     let last = src.len() - 8;
-    let mut i = 8;
-    while i < last {
+    for i in (8..last).step_by(8) {
         fold_eight(dst, src, i);
-        i += 8;
     }
     fold_eight(dst, src, last);
 }
@@ -385,12 +305,5 @@ pub fn fold_code(dst: &mut [u8], src: &[u8])
 pub fn folded(s: &[u8]) -> bool
     ensures { Says result (Folded s.now) }
 {
-    let mut i = 0;
-    while i < s.len() {
-        if letter(s[i]) < 26 {
-            return false;
-        }
-        i += 1;
-    }
-    true
+    s.iter().all(|&x| !x.is_ascii_uppercase())
 }

@@ -6,7 +6,7 @@ use borrow.Author.Rules.{rules}
 use Rattle.ground.specs.Lists.{part}
 use Rattle.words.specs.Codes.{Before, Ordered}
 use Rattle.words.proofs.Orders.{irrefl, before_trans}
-use Rattle.words.specs.declared.Order.{Order}
+use Rattle.std.specs.declared.cmp.Ordering.{Ordering}
 use Rattle.page_check.specs.Rules.{prior, slot_of, off_of, len_of}
 use Rattle.page_check.proofs.rises.Statement.{statement}
 use Rattle.page_check.proofs.rises.Tie as tie
@@ -65,14 +65,14 @@ returns c =
     let s = c.args in
     let x = prior s.page.now (slot_of s.page.now s.k) in
     let y = part s.page.now s.x (s.y - s.x) in
-    subst (λ (r : Order). Ordered x y r) c.in-Less.is (said c.before)
+    subst (λ (r : Ordering). Ordered x y r) c.in-Less.is (said c.before)
 
 returns-2 : tie.Need-returns-in-Equal
 returns-2 c =
     let s = c.args in
     let x = prior s.page.now (slot_of s.page.now s.k) in
     let y = part s.page.now s.x (s.y - s.x) in
-    let h : x ≡ y = subst (λ (r : Order). Ordered x y r) c.in-Equal.is (said c.before) in
+    let h : x ≡ y = subst (λ (r : Ordering). Ordered x y r) c.in-Equal.is (said c.before) in
     λ b. irrefl y (subst (λ z. Before z y) h b)
 
 returns-3 : tie.Need-returns-in-Greater
@@ -80,7 +80,7 @@ returns-3 c =
     let s = c.args in
     let x = prior s.page.now (slot_of s.page.now s.k) in
     let y = part s.page.now s.x (s.y - s.x) in
-    let h : Before y x = subst (λ (r : Order). Ordered x y r) c.in-Greater.is (said c.before) in
+    let h : Before y x = subst (λ (r : Ordering). Ordered x y r) c.in-Greater.is (said c.before) in
     λ b. irrefl x (before_trans b h)
 
 pub rises_spec : {M : Type 1} → statement M

@@ -6,23 +6,24 @@ use Prim.Native.Nat.{ℕ}
 use lib.ListN.{get_or}
 use Rattle.store.specs.declared.Refusal.{Refusal}
 use Rattle.store.specs.declared.Refusal.TheVariants.{BadLength, BadPage, BadCode, BadPlace, NoCode, PrefixFull, PagesFull, ShortOutput, NoRow, BadRuns, KnownCode, BadMode}
-use Rattle.store.specs.declared.Answer.{Answer}
-use Rattle.store.specs.declared.Answer.TheVariants.{Refused, Formatted, Accepted, New, Replaced, Found, Rows, RowOf}
+use Rattle.std.specs.Prelude.{Result, Ok, Err}
+use Rattle.store.specs.declared.Done.{Done}
+use Rattle.store.specs.declared.Done.TheVariants.{Formatted, Accepted, New, Replaced, Found, Rows, RowOf}
 use Rattle.store.specs.Tables.{Out, refused, refused_at, formatted, accepted, new, replaced, found, counted, row, refusal, meaning}
 
 -- the case of each number and value
-abbrev case : Out → Answer
-case (refused n) = Refused (get_or (BadLength ∷ BadLength ∷ BadLength ∷ BadCode ∷ BadPlace ∷ NoCode ∷ PrefixFull ∷ PagesFull ∷ ShortOutput ∷ NoRow ∷ BadLength ∷ BadLength ∷ BadRuns ∷ KnownCode ∷ BadMode ∷ []) n BadLength)
-case (refused_at n p) = Refused (BadPage p)
-case formatted = Formatted
-case accepted = Accepted
-case new = New
-case (replaced p) = Replaced p
-case (found p) = Found p
-case (counted n) = Rows n
-case (row n p) = RowOf n p
+abbrev case : Out → Result Done Refusal
+case (refused n) = Err (get_or (BadLength ∷ BadLength ∷ BadLength ∷ BadCode ∷ BadPlace ∷ NoCode ∷ PrefixFull ∷ PagesFull ∷ ShortOutput ∷ NoRow ∷ BadLength ∷ BadLength ∷ BadRuns ∷ KnownCode ∷ BadMode ∷ []) n BadLength)
+case (refused_at n p) = Err (BadPage p)
+case formatted = Ok Formatted
+case accepted = Ok Accepted
+case new = Ok New
+case (replaced p) = Ok (Replaced p)
+case (found p) = Ok (Found p)
+case (counted n) = Ok (Rows n)
+case (row n p) = Ok (RowOf n p)
 
-back_refusal : (r : Refusal) → case (refusal r) ≡ Refused r
+back_refusal : (r : Refusal) → case (refusal r) ≡ Err r
 back_refusal BadLength = refl
 back_refusal (BadPage p) = refl
 back_refusal BadCode = refl
@@ -36,17 +37,17 @@ back_refusal BadRuns = refl
 back_refusal KnownCode = refl
 back_refusal BadMode = refl
 
-back : (a : Answer) → case (meaning a) ≡ a
-back (Refused r) = back_refusal r
-back Formatted = refl
-back Accepted = refl
-back New = refl
-back (Replaced p) = refl
-back (Found p) = refl
-back (Rows n) = refl
-back (RowOf n p) = refl
+back : (a : Result Done Refusal) → case (meaning a) ≡ a
+back (Err r) = back_refusal r
+back (Ok Formatted) = refl
+back (Ok Accepted) = refl
+back (Ok New) = refl
+back (Ok (Replaced p)) = refl
+back (Ok (Found p)) = refl
+back (Ok (Rows n)) = refl
+back (Ok (RowOf n p)) = refl
 
-pub meaning_one : (a b : Answer) → meaning a ≡ meaning b → a ≡ b
+pub meaning_one : (a b : Result Done Refusal) → meaning a ≡ meaning b → a ≡ b
 meaning_one a b e = sym (back a) ∙ ap case e ∙ back b
 
 -- what holds of every number, and of every page of a broken rule, holds of a refusal

@@ -1,10 +1,9 @@
 -- The largest depth, page after page. Assumes nothing.
 use mathlib.Core.Path.{◌≡◌, refl, sym, ap, ◌∙◌}
 use mathlib.Core.List.{List}
-use mathlib.Core.Logic.{◌⊎◌, inl, inr}
 use Prim.Native.Nat.{ℕ, zero, suc, ◌+◌, ◌*◌, ◌-◌, ◌/◌, ◌≤◌, ◌<◌, max}
 use native.Mathlib.Omega.{arith}
-use native.Mathlib.Nat.{le_trans, le_antisymm, le-max_left, le-max_right, max-le, max_comm, max-eq_left, max-eq_right, add-zero, mul-div_cancel}
+use native.Mathlib.Nat.{le_trans, le_antisymm, le-max_left, le-max_right, max-le, max_comm, add-zero, mul-div_cancel}
 use lib.ListN.{length}
 use Rattle.ground.specs.Lists.{byte, tab}
 use Rattle.ground.proofs.Parts.{byte_part}
@@ -68,8 +67,3 @@ deepest_next S s p h =
 pub deepest_all : (S : Shape) (s : List ℕ) (n : ℕ) → length s ≡ n * size S → deepest_to S s n ≡ deepest_in (contents S s)
 unfolding deepest_to contents
 deepest_all S s n e = let q : length s / size S ≡ n = ap (λ m. m / size S) e ∙ mul-div_cancel n (omega arith) in ap (λ m. deepest_in (tab (λ i. read (page S s (i + 2))) (m - 2))) (sym q)
-
--- the larger of two, as a test finds it
-pub larger : (a b m : ℕ) → ((a < b) × (m ≡ b)) ⊎ ((b ≤ a) × (m ≡ a)) → m ≡ max a b
-larger a b m (inl w) = w.1 ∙ sym (max-eq_right (omega (arith, w.0)))
-larger a b m (inr w) = w.1 ∙ sym (max-eq_left w.0)

@@ -17,8 +17,8 @@ add-number-requires c κs = search rules
 add-requires : tie.Need-add-c-requires
 add-requires c κs = search rules
 
-add-cents-requires : tie.Need-add_cents-d-requires
-add-cents-requires c κs = search rules
+add-signed-requires : tie.Need-add_signed-d-requires
+add-signed-requires c κs = search rules
 
 add-requires-2 : tie.Need-add-requires
 add-requires-2 c κs = search rules
@@ -33,8 +33,8 @@ returns c =
     let s = d in
     let p = s in
     let b = p in
-    ended (word_then b.args.word.now b.begin-a.ensures.0 (then p.add_number-b.ensures.0 (then s.add-c.ensures (as_text (ap integer (to_z-of_z b.ranges.z)) d.add_cents-d.ensures.0)))) e.add.ensures
-    (omega (arith, e.add.ensures.next, e.add.ensures.long, d.add_cents-d.ensures.1, d.add_cents-d.ensures.0.long, s.add-c.ensures.next, s.add-c.ensures.long, p.add_number-b.ensures.1, p.add_number-b.ensures.0.long, b.begin-a.ensures.1, b.begin-a.ensures.0.long, b.requires))
+    ended (word_then b.args.word.now b.begin-a.ensures.0 (then p.add_number-b.ensures.0 (then s.add-c.ensures (as_text (ap integer (to_z-of_z b.ranges.z)) d.add_signed-d.ensures.0)))) e.add.ensures
+    (omega (arith, e.add.ensures.next, e.add.ensures.long, d.add_signed-d.ensures.1, d.add_signed-d.ensures.0.long, s.add-c.ensures.next, s.add-c.ensures.long, p.add_number-b.ensures.1, p.add_number-b.ensures.0.long, b.begin-a.ensures.1, b.begin-a.ensures.0.long, b.requires))
 
 pub rows_sum_line_spec : {M : Type 1} → statement M
 rows_sum_line_spec =
@@ -43,7 +43,7 @@ rows_sum_line_spec =
     begin-requires
     add-number-requires
     add-requires
-    add-cents-requires
+    add-signed-requires
     add-requires-2
     same_length
     returns)

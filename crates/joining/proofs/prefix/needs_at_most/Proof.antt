@@ -21,10 +21,10 @@ use Rattle.joining.proofs.prefix.needs_at_most.Statement.{statement}
 use Rattle.joining.proofs.prefix.needs_at_most.Tie as tie
 
 abbrev invariant_loop : tie.invariant-loop-i
-invariant_loop s z x j limit d to i₀ sum₀ i sum = Summed z fnv s x j i sum × (sum ≤ limit) × (sum ≤ 16384 * i)
+invariant_loop s z x j limit d end i₀ sum₀ i sum = Summed z fnv s x j i sum × (sum ≤ limit) × (sum ≤ 16384 * i)
 
 abbrev decreases_loop : tie.decreases-loop-i
-decreases_loop s z x j limit d to i₀ sum₀ i sum = to - i
+decreases_loop s z x j limit d end i₀ sum₀ i sum = end - i
 
 -- the run
 module _ (r : tie.After-run_of-run invariant_loop decreases_loop) where
@@ -55,10 +55,10 @@ module _ (r : tie.After-run_of-run invariant_loop decreases_loop) where
   deep : r.get32-d.result ≡ dir_depth s
   deep = r.get32-d.ensures.0
 
-  begins : r.run_of-run.result.from ≡ first (dir_depth s) (pfx j (top j x))
+  begins : r.run_of-run.result.start ≡ first (dir_depth s) (pfx j (top j x))
   begins = r.run_of-run.ensures.0 ∙ ap (λ d. first d (pfx j (top j x))) deep
 
-  ends : r.run_of-run.result.to ≡ after (dir_depth s) (pfx j (top j x))
+  ends : r.run_of-run.result.end ≡ after (dir_depth s) (pfx j (top j x))
   ends = r.run_of-run.ensures.1 ∙ ap (λ d. after d (pfx j (top j x))) deep
 
   most : after (dir_depth s) (pfx j (top j x)) ≤ 2 ^ dir_depth s
@@ -69,10 +69,10 @@ module _ (b : tie.At-loop-i invariant_loop decreases_loop) where
   abbrev r : tie.After-run_of-run invariant_loop decreases_loop
   r = b.before
 
-  below : b.loop-i.i < r.run_of-run.result.to → b.loop-i.i < after (dir_depth (s r)) (pfx (j r) (top (j r) (x r)))
+  below : b.loop-i.i < r.run_of-run.result.end → b.loop-i.i < after (dir_depth (s r)) (pfx (j r) (top (j r) (x r)))
   below l = subst (λ m. b.loop-i.i < m) (ends r) l
 
-  low : b.loop-i.i < r.run_of-run.result.to → b.loop-i.i < (S r).entries
+  low : b.loop-i.i < r.run_of-run.result.end → b.loop-i.i < (S r).entries
   low l = entry_low (S r) (sized r) (s r) (acc r) 0 b.loop-i.i (omega (arith, below l, most r))
 
 -- where the entry names a page

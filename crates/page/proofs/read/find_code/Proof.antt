@@ -10,7 +10,7 @@ use lib.Seq.{ext_get_or}
 use Rattle.ground.specs.Lists.{byte}
 use Rattle.ground.proofs.Sides.{side}
 use Rattle.words.specs.Codes.{Before, Ordered}
-use Rattle.words.specs.declared.Order.{Order}
+use Rattle.std.specs.declared.cmp.Ordering.{Ordering}
 use Rattle.words.proofs.Orders.{before_trans, by_first, empty_before}
 use Rattle.page.specs.Page.{Slotted, count, code}
 use Rattle.page.proofs.Slots.{code_first, belongs}
@@ -72,7 +72,7 @@ one_byte : (s t : List ℕ) → length s ≡ 1 → length t ≡ 1 → byte s 0 �
 one_byte s t a b e = ext_get_or 0 s t (a ∙ sym b) (λ i h. let z : i ≡ 0 = omega (arith, h, a) in rw z e)
 
 -- what a comparison says of the middle's code
-told : (c : tie.After-compare_alike invariant_loop decreases_loop) (r : Order) → c.compare_alike.result ≡ r → let l = (first c.before.before).before.before in Ordered (code (p l) (mid l)) (k l) r
+told : (c : tie.After-compare_alike invariant_loop decreases_loop) (r : Ordering) → c.compare_alike.result ≡ r → let l = (first c.before.before).before.before in Ordered (code (p l) (mid l)) (k l) r
 told c r e = rw (c.code_at-c.ensures, e) at c.compare_alike.ensures
 
 returns : tie.Need-returns-then-key-lt1 invariant_loop decreases_loop

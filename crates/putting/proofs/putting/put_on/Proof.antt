@@ -34,7 +34,7 @@ module _ (z : tie.Start) where
   inside : z.args.p * size z.args.z + size z.args.z ≤ length z.args.s.now
   inside = within z.args.z z.args.s.now z.args.p home.to
 
-module _ (a : tie.After-find_code-found) where
+module _ (a : tie.After-find_code) where
   abbrev z : tie.Start
   z = a.before.before.before.before.before.before
 
@@ -50,8 +50,8 @@ module _ (a : tie.After-find_code-found) where
   abbrev g : List ℕ
   g = page S s z.args.p
 
-  found : FoundIn g key a.find_code-found.result
-  found = subst (λ x. FoundIn x key a.find_code-found.result) (page_lent S s z.args.p) a.find_code-found.ensures
+  found : FoundIn g key a.find_code.result
+  found = subst (λ x. FoundIn x key a.find_code.result) (page_lent S s z.args.p) a.find_code.ensures
 
   abbrev row : Row
   row = new_row key z.args.place.now
@@ -61,30 +61,30 @@ module _ (a : tie.After-find_code-found) where
   on_page = let P = z.requires.row in placed S fnv P.sized fnv_lt s P.accepted key z.args.p (home z)
 
 -- the code stands at a slot
-module _ (b : tie.In-At) where
-  abbrev a1 : tie.After-find_code-found
+module _ (b : tie.In-Ok) where
+  abbrev a1 : tie.After-find_code
   a1 = b.before
 
-  at : (b.in-At.i < count (g a1)) × (code (g a1) b.in-At.i ≡ key a1)
-  at = subst (FoundIn (g a1) (key a1)) b.in-At.is (found a1)
+  at : (b.in-Ok.i < count (g a1)) × (code (g a1) b.in-Ok.i ≡ key a1)
+  at = subst (FoundIn (g a1) (key a1)) b.in-Ok.is (found a1)
 
-  there : place_of (rows_held (S a1) (s a1)) (key a1) ≡ some (place (g a1) b.in-At.i)
-  there = on_page a1 ∙ found_at (g a1) (home (z a1)).bytes.rules.rules (key a1) b.in-At.i at.0 at.1
+  there : place_of (rows_held (S a1) (s a1)) (key a1) ≡ some (place (g a1) b.in-Ok.i)
+  there = on_page a1 ∙ found_at (g a1) (home (z a1)).bytes.rules.rules (key a1) b.in-Ok.i at.0 at.1
 
 -- or it belongs at one
-module _ (b : tie.In-Absent) where
-  abbrev a2 : tie.After-find_code-found
+module _ (b : tie.In-Err) where
+  abbrev a2 : tie.After-find_code
   a2 = b.before
 
-  belongs : Belongs (g a2) b.in-Absent.i (key a2)
-  belongs = subst (FoundIn (g a2) (key a2)) b.in-Absent.is (found a2)
+  belongs : Belongs (g a2) b.in-Err.i (key a2)
+  belongs = subst (FoundIn (g a2) (key a2)) b.in-Err.is (found a2)
 
   absent : place_of (rows_held (S a2) (s a2)) (key a2) ≡ none
-  absent = on_page a2 ∙ found_not (g a2) (home (z a2)).bytes.rules.rules (key a2) b.in-Absent.i belongs
+  absent = on_page a2 ∙ found_not (g a2) (home (z a2)).bytes.rules.rules (key a2) b.in-Err.i belongs
 
 -- and its page's free count is read
 module _ (b : tie.After-get16-room) where
-  abbrev b2 : tie.In-Absent
+  abbrev b2 : tie.In-Err
   b2 = b.before.before.before
 
 add-size : tie.Need-overflow_add-size
@@ -105,10 +105,10 @@ part-find-code-start c = search rules
 part-find-code-end : tie.Need-slice_bounds-find_code-end
 part-find-code-end c = omega (arith, inside c.before.before.before.before)
 
-find-code-requires : tie.Need-find_code-found-requires
+find-code-requires : tie.Need-find_code-requires
 find-code-requires c κs = let z = c in subst Slotted (sym (page_lent z.args.z z.args.s.now z.args.p)) (home z.before.before.before.before.before).bytes.rules.rules
 
-enum-known-found : tie.Need-enum_known-found
+enum-known-found : tie.Need-enum_known-i
 enum-known-found c = search rules
 
 same_length : tie.Need-shape_of-s-then-mode-eq1
@@ -125,7 +125,7 @@ replace-requires c κs =
     let q = z (a1 b.before.before) in
     record { row = subst (λ x. Homed q.args.z fnv (s (a1 b.before.before)) q.args.p x q.args.place.now) (sym (at b.before.before).1) q.requires; slot = (at b.before.before).0 }
 
-enum-known-found-2 : tie.Need-enum_known-found-in-Absent-1
+enum-known-found-2 : tie.Need-enum_known-i-in-Err-1
 enum-known-found-2 c = search rules
 
 same-length-2 : tie.Need-shape_of-s-then-mode-eq2

@@ -5,6 +5,7 @@ use Rattle.putting.proofs.Splits.{bare_wrote, deep_wrote, one_free, one_wrote, h
 use Rattle.putting.proofs.Weighs.{load_any}
 use Rattle.putting.proofs.Puts.{given_back}
 use Rattle.putting.specs.Put.{new_row}
+use Rattle.putting.specs.declared.weigh.Weight.{Weight}
 use Rattle.putting.specs.Split.{keyed, with_new, Bucketed, Spread, BucketsWritten}
 use Rattle.store.proofs.Accepted.Unique.{within, page_long}
 use Rattle.store.proofs.Paging.Views.{page_lent, set_long}
@@ -17,7 +18,7 @@ use Rattle.hash.specs.Fnv.{fnv}
 use Rattle.putting.proofs.split.+write_below.Goals as goal
 
 -- what the rows of the prefix need
-module _ (S : Shape) (d : ℕ) (s from : List ℕ) (i : ℕ) (key place hs ns : List ℕ) (k v at : ℕ) (C : Spread S fnv d s from i key place hs ns k v at) where
+module _ (S : Shape) (d : ℕ) (s from : List ℕ) (i : ℕ) (key place : List ℕ) (ws : List Weight) (k v at : ℕ) (C : Spread S fnv d s from i key place ws k v at) where
   abbrev rs : List Row
   rs = with_new from (new_row key place)
 
@@ -55,21 +56,21 @@ module _ (S : Shape) (d : ℕ) (s from : List ℕ) (i : ℕ) (key place hs ns : 
         shallow : k < S.deepest
         shallow = omega (arith, C.writable.prefix.deep, more)
 
-        left : Spread S fnv d s from i key place hs ns (k + 1) (2 * v) at
+        left : Spread S fnv d s from i key place ws (k + 1) (2 * v) at
         left = record { depth = C.depth; source = C.source; weighed = C.weighed; writable = half_ready S fnv d rs k v s at C.depth C.writable shallow over }
 
         module _ (t : List ℕ) (p : ℕ) (A : BucketsWritten S fnv d rs (k + 1) (2 * v) s at t p) where
-          right : Spread S fnv d t from i key place hs ns (k + 1) (2 * v + 1) p
+          right : Spread S fnv d t from i key place ws (k + 1) (2 * v + 1) p
           right = record { depth = C.depth; source = C.source; weighed = C.weighed; writable = other_ready S fnv d rs k v s at C.depth C.writable shallow over t p A }
 
           whole : (u : List ℕ) (q : ℕ) → BucketsWritten S fnv d rs (k + 1) (2 * v + 1) t p u q → BucketsWritten S fnv d rs k v s at u q
           whole u q B = both_wrote S fnv d rs k v s at C.depth C.writable shallow over t p A u q B
 
 pub load-need-requires : goal.load-need-requires
-load-need-requires t c = (c.requires.weighed, low _ _ _ _ _ _ _ _ _ _ _ _ c.requires)
+load-need-requires t c = (c.requires.weighed, low _ _ _ _ _ _ _ _ _ _ _ c.requires)
 
 pub returns-then-need-eq0 : goal.returns-then-need-eq0
-returns-then-need-eq0 t c = bare _ _ _ _ _ _ _ _ _ _ _ _ c.requires c.load-need.result c.load-need.ensures c.if-need-eq0.true
+returns-then-need-eq0 t c = bare _ _ _ _ _ _ _ _ _ _ _ c.requires c.load-need.result c.load-need.ensures c.if-need-eq0.true
 
 pub next_page-p-requires : goal.next_page-p-requires
 next_page-p-requires t c =
@@ -82,8 +83,8 @@ next_page-p-requires t c =
     record {
       from = W.from;
       to = W.to;
-      free = one_free a.z fnv a.d (with_new a.from.now (new_row a.key.now a.place.now)) a.k a.v a.s.now a.at C.depth W
-          (pos _ _ _ _ _ _ _ _ _ _ _ _ C w.result w.ensures n l) (most _ _ _ _ _ _ _ _ _ _ _ _ C w.result w.ensures n l);
+      free = one_free a.z fnv a.d (with_new a.rows.from.now (new_row a.rows.key.now a.rows.place.now)) a.k a.v a.s.now a.at C.depth W
+          (pos _ _ _ _ _ _ _ _ _ _ _ C w.result w.ensures n l) (most _ _ _ _ _ _ _ _ _ _ _ C w.result w.ensures n l);
     }
 
 -- the page that is taken
@@ -112,11 +113,11 @@ write_bucket-requires t c =
     record {
       source = C.source;
       hashes = C.weighed.hashes;
-      deep = low _ _ _ _ _ _ _ _ _ _ _ _ C;
+      deep = low _ _ _ _ _ _ _ _ _ _ _ C;
       least = omega (arith, long, Z.least);
       most = omega (arith, long, Z.most);
-      some = pos _ _ _ _ _ _ _ _ _ _ _ _ C w.result w.ensures n l;
-      fits = omega (arith, long, most _ _ _ _ _ _ _ _ _ _ _ _ C w.result w.ensures n l);
+      some = pos _ _ _ _ _ _ _ _ _ _ _ C w.result w.ensures n l;
+      fits = omega (arith, long, most _ _ _ _ _ _ _ _ _ _ _ C w.result w.ensures n l);
     }
 
 -- the bucket written
@@ -129,7 +130,7 @@ name_bucket-requires t c =
     let p = c.next_page-p.result in
     let q = c.write_bucket.new.page in
     let to = c.next_page-p.ensures.1 in
-    let B : Bucketed fnv (with_new a.from.now (new_row a.key.now a.place.now)) a.k a.v (page a.z a.s.now p) q = rw (page_lent a.z a.s.now p) at c.write_bucket.ensures in
+    let B : Bucketed fnv (with_new a.rows.from.now (new_row a.rows.key.now a.rows.place.now)) a.k a.v (page a.z a.s.now p) q = rw (page_lent a.z a.s.now p) at c.write_bucket.ensures in
     let whole = set_long a.z a.s.now p q to (B.size ∙ page_long a.z a.s.now p to) in record {
       prefix = W.prefix;
       directory = rw (given_back a.z a.s.now p q)
@@ -146,39 +147,39 @@ returns-then-need-z t c =
     let w = c.load-need in
     let n = c.if-need-eq0.false in
     let l = c.if-need-z.true in
-    let rs = with_new a.from.now (new_row a.key.now a.place.now) in
+    let rs = with_new a.rows.from.now (new_row a.rows.key.now a.rows.place.now) in
     let B : Bucketed fnv rs a.k a.v (page a.z a.s.now p.result) q = rw (page_lent a.z a.s.now p.result) at c.write_bucket.ensures in
     one_wrote a.z fnv a.d rs a.k a.v a.s.now a.at C.depth C.writable
-    (pos _ _ _ _ _ _ _ _ _ _ _ _ C w.result w.ensures n l) (most _ _ _ _ _ _ _ _ _ _ _ _ C w.result w.ensures n l)
+    (pos _ _ _ _ _ _ _ _ _ _ _ C w.result w.ensures n l) (most _ _ _ _ _ _ _ _ _ _ _ C w.result w.ensures n l)
     p.result p.ensures.0 p.ensures.1 q B
     c.name_bucket.new.s (rw (given_back a.z a.s.now p.result q) at c.name_bucket.ensures)
 
 pub returns-then-k-z : goal.returns-then-k-z
-returns-then-k-z t c = deepest _ _ _ _ _ _ _ _ _ _ _ _ c.requires c.load-need.result c.load-need.ensures c.if-need-z.false c.if-k-z.true
+returns-then-k-z t c = deepest _ _ _ _ _ _ _ _ _ _ _ c.requires c.load-need.result c.load-need.ensures c.if-need-z.false c.if-k-z.true
 
 pub overflow_add-k : goal.overflow_add-k
-overflow_add-k t c = omega (arith, low _ _ _ _ _ _ _ _ _ _ _ _ c.requires)
+overflow_add-k t c = omega (arith, low _ _ _ _ _ _ _ _ _ _ _ c.requires)
 
 pub overflow_mul-v : goal.overflow_mul-v
-overflow_mul-v t c = omega (arith, small _ _ _ _ _ _ _ _ _ _ _ _ c.requires)
+overflow_mul-v t c = omega (arith, small _ _ _ _ _ _ _ _ _ _ _ c.requires)
 
 pub write_below-next-requires : goal.write_below-next-requires
 write_below-next-requires t c =
     let w = c.load-need in
     let o = c.if-need-z.false in
     let n = c.if-k-z.false in (
-      omega (arith, c.decreases, shallow _ _ _ _ _ _ _ _ _ _ _ _ c.requires w.result w.ensures o n),
-      left _ _ _ _ _ _ _ _ _ _ _ _ c.requires w.result w.ensures o n,
+      omega (arith, c.decreases, shallow _ _ _ _ _ _ _ _ _ _ _ c.requires w.result w.ensures o n),
+      left _ _ _ _ _ _ _ _ _ _ _ c.requires w.result w.ensures o n,
     )
 
 pub overflow_add-k-2 : goal.overflow_add-k-2
-overflow_add-k-2 t c = omega (arith, low _ _ _ _ _ _ _ _ _ _ _ _ c.requires)
+overflow_add-k-2 t c = omega (arith, low _ _ _ _ _ _ _ _ _ _ _ c.requires)
 
 pub overflow_mul-v-2 : goal.overflow_mul-v-2
-overflow_mul-v-2 t c = omega (arith, small _ _ _ _ _ _ _ _ _ _ _ _ c.requires)
+overflow_mul-v-2 t c = omega (arith, small _ _ _ _ _ _ _ _ _ _ _ c.requires)
 
 pub overflow_add-v : goal.overflow_add-v
-overflow_add-v t c = omega (arith, small _ _ _ _ _ _ _ _ _ _ _ _ c.requires)
+overflow_add-v t c = omega (arith, small _ _ _ _ _ _ _ _ _ _ _ c.requires)
 
 pub write_below-requires : goal.write_below-requires
 write_below-requires t c =
@@ -186,8 +187,8 @@ write_below-requires t c =
     let o = c.if-need-z.false in
     let n = c.if-k-z.false in
     let A = c.write_below-next in (
-      omega (arith, c.decreases, shallow _ _ _ _ _ _ _ _ _ _ _ _ c.requires w.result w.ensures o n),
-      right _ _ _ _ _ _ _ _ _ _ _ _ c.requires w.result w.ensures o n A.new.s A.result A.ensures,
+      omega (arith, c.decreases, shallow _ _ _ _ _ _ _ _ _ _ _ c.requires w.result w.ensures o n),
+      right _ _ _ _ _ _ _ _ _ _ _ c.requires w.result w.ensures o n A.new.s A.result A.ensures,
     )
 
 pub returns : goal.returns
@@ -197,4 +198,4 @@ returns t c =
     let n = c.if-k-z.false in
     let A = c.write_below-next in
     let B = c.write_below in
-    whole _ _ _ _ _ _ _ _ _ _ _ _ c.requires w.result w.ensures o n A.new.s A.result A.ensures B.new.s B.result B.ensures
+    whole _ _ _ _ _ _ _ _ _ _ _ c.requires w.result w.ensures o n A.new.s A.result A.ensures B.new.s B.result B.ensures

@@ -14,7 +14,7 @@ use Rattle.store.specs.Pages.{size, dir_depth, entry_at}
 use Rattle.store.specs.Accepted.{Accepted}
 use Rattle.query.specs.Spots.{Listed}
 use Rattle.query.specs.Cursors.{At, Along}
-use Rattle.query.specs.declared.Spot.TheVariants.{Here}
+use Rattle.std.specs.Prelude.{Some}
 use Rattle.partition.proofs.Sizes.{twelve}
 use Rattle.query.proofs.Finds.{long_enough, shallow, From, at_from, at_next, from_end, from_none, entry_low, page_inside, page_deep, from_here, from_along, from_past}
 use Rattle.query.proofs.spots.next_row.Statement.{statement}
@@ -121,14 +121,14 @@ add-get16 c = omega (arith, (at_page c).0)
 get16-requires : tie.Need-get16-k-requires invariant_loop decreases_loop
 get16-requires c κs = omega (arith, (at_page c).0)
 
-add-next : tie.Need-overflow_add-next invariant_loop decreases_loop
+add-next : tie.Need-overflow_add-behind invariant_loop decreases_loop
 add-next c = omega (arith, c.if-left-k.true, c.get16-k.ensures.1)
 
 returns : tie.Need-returns-then-left-k invariant_loop decreases_loop
 returns c = λ n a. let e = c in
     let b = e in
-    let f : b.loop-i.left < le16 (s b.before.before.before.before.before.before) (e.get32-p.result * size (S b.before.before.before.before.before.before) + 2) → Listed (S b.before.before.before.before.before.before) (s b.before.before.before.before.before.before) n (Here e.get32-p.result b.loop-i.left) =
-    subst (λ p. b.loop-i.left < le16 (s b.before.before.before.before.before.before) (p * size (S b.before.before.before.before.before.before) + 2) → Listed (S b.before.before.before.before.before.before) (s b.before.before.before.before.before.before) n (Here p b.loop-i.left)) (sym (its e.before.before))
+    let f : b.loop-i.left < le16 (s b.before.before.before.before.before.before) (e.get32-p.result * size (S b.before.before.before.before.before.before) + 2) → Listed (S b.before.before.before.before.before.before) (s b.before.before.before.before.before.before) n (Some (record { page = e.get32-p.result; slot = b.loop-i.left })) =
+    subst (λ p. b.loop-i.left < le16 (s b.before.before.before.before.before.before) (p * size (S b.before.before.before.before.before.before) + 2) → Listed (S b.before.before.before.before.before.before) (s b.before.before.before.before.before.before) n (Some (record { page = p; slot = b.loop-i.left }))) (sym (its e.before.before))
     (from_here (S b.before.before.before.before.before.before) (sz b.before.before.before.before.before.before) (s b.before.before.before.before.before.before) (acc b.before.before.before.before.before.before) n b.loop-i.i b.loop-i.left (below b.before.before.before.before.before.before e.loop-i-test.true) (not_zero e.before.before) (b.loop-i.invariant n a)) in
     let g : Along (S b.before.before.before.before.before.before) (s b.before.before.before.before.before.before) n e.get32-p.result b.loop-i.left =
     subst (λ p. Along (S b.before.before.before.before.before.before) (s b.before.before.before.before.before.before) n p b.loop-i.left) (sym (its e.before.before))

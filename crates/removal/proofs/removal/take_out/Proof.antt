@@ -5,7 +5,7 @@ use mathlib.Core.Path.{◌≡◌, refl, sym, ap, subst, subst₂, ◌∙◌}
 use Prim.Native.Nat.{ℕ, suc, ◌+◌, ◌-◌, ◌*◌, ◌≤◌, ◌<◌}
 use native.Mathlib.Omega.{arith}
 use native.Mathlib.Nat.{mul-le-mul_right}
-use lib.ListN.{take, drop, length, replicate, length-replicate}
+use lib.ListN.{take, drop, length, replicate}
 use Rattle.ground.specs.Lists.{byte}
 use Rattle.hash.specs.Fnv.{fnv, fnv_lt}
 use Rattle.page.proofs.Sums.{len_of_code}
@@ -177,30 +177,27 @@ get32-requires c κs = let z = z₁ c in omega (arith, inside z, mul-le-mul_righ
 rows-counted-requires : tie.Need-rows_counted-rows-requires
 rows-counted-requires c κs = let z = z₁ c.before.before in omega (arith, inside z, mul-le-mul_right (size (S z)) (L z).from, (sized z).least)
 
-slice-aggregate-read-counts : tie.Need-slice_bounds-read_counts-end
-slice-aggregate-read-counts c = search rules
-
-read-counts-requires : tie.Need-read_counts-requires
-read-counts-requires c κs = let z = z₁ c.before.before.before.before in (omega (arith, inside z, mul-le-mul_right (size (S z)) (L z).from, (sized z).least), length-replicate {A = ℕ} 14 0)
+read-counts-requires : tie.Need-read_counts-tallies-requires
+read-counts-requires c κs = let z = z₁ c.before.before.before in omega (arith, inside z, mul-le-mul_right (size (S z)) (L z).from, (sized z).least)
 
 slice-aggregate-join-lent : tie.Need-slice_bounds-join_lent-end
 slice-aggregate-join-lent c = search rules
 
 join-lent-requires : tie.Need-join_lent-low-requires
 join-lent-requires c κs =
-    let b = b₃ c.before.before.before.before.before.before.before in
+    let b = b₃ c.before.before.before.before.before in
     let z = z₁ b in
-    let r = c.read_counts in
+    let r = c.read_counts-tallies in
     record {
       joinable = subst (λ x. Joinable (S z) fnv (s z) (n z) x (j b) (key z)) (sym z.requires.1)
           (joinable (S z) (sized z) fnv fnv_lt (s z) (p z) z.args.i (key z) (L z) (j b) (fits b) (less b c.if-j-k.true));
-      counted = buckets_read (S z) (s z) r.new.tallies (opened (S z) fnv (s z) (L z).accepted).counts r.ensures.0 r.ensures.1;
+      counted = buckets_read (S z) (s z) r.result (opened (S z) fnv (s z) (L z).accepted).counts r.ensures.0 r.ensures.1;
     }
 
 -- the rows joined
 module _ (e : tie.After-join_lent-low) where
   abbrev d₄ : tie.After-get32-d
-  d₄ = e.before.before.before.before.before.before.before.before
+  d₄ = e.before.before.before.before.before.before
 
   abbrev b₄ : tie.After-climb-j
   b₄ = b₃ d₄
@@ -266,9 +263,6 @@ name-prefix-requires c κs =
       },
     )
 
-slice-aggregate-write-counted : tie.Need-slice_bounds-write_counted-end
-slice-aggregate-write-counted c = search rules
-
 -- a row less
 module _ (y : tie.After-name_prefix) where
   abbrev r₅ : tie.After-join_lent-low
@@ -281,23 +275,22 @@ module _ (y : tie.After-name_prefix) where
   some = some_rows (S (z₅ y)) (sized (z₅ y)) fnv fnv_lt (s (z₅ y)) (p (z₅ y)) (z₅ y).args.i (key (z₅ y)) (L (z₅ y)) (j (b₅ y)) (fits (b₅ y))
 
 sub-write-counted : tie.Need-overflow_sub-rows
-sub-write-counted c = let y = c in omega (arith, rows_read y.before.before.before.before, some y.before.before.before.before)
+sub-write-counted c = let y = c in omega (arith, rows_read y.before.before.before, some y.before.before.before)
 
 write-counted-requires : tie.Need-write_counted-requires
 write-counted-requires c κs =
     let y = c in
-    let z = z₅ y.before.before.before.before in
+    let z = z₅ y.before.before.before in
     let A = (L z).accepted in
     record {
-      room = omega (arith, (kept y.before.before.before.before).long, inside z, mul-le-mul_right (size (S z)) (L z).from, (sized z).least);
-      fourteen = (e₅ y.before.before.before.before).join_lent-low.ensures.1.long;
-      few = omega (arith, rows_read y.before.before.before.before, (opened (S z) fnv (s z) A).counts.rows, rows_few (S z) fnv (sized z) fnv_lt (s z) A, pages_held (S z) (s z), A.long.most, (sized z).whole, (sized z).most);
+      room = omega (arith, (kept y.before.before.before).long, inside z, mul-le-mul_right (size (S z)) (L z).from, (sized z).least);
+      few = omega (arith, rows_read y.before.before.before, (opened (S z) fnv (s z) A).counts.rows, rows_few (S z) fnv (sized z) fnv_lt (s z) A, pages_held (S z) (s z), A.long.most, (sized z).whole, (sized z).most);
     }
 
 -- the counts then
 module _ (r : tie.After-write_counted) where
   abbrev y₈ : tie.After-name_prefix
-  y₈ = r.before.before.before.before.before
+  y₈ = r.before.before.before.before
 
   abbrev t₈ : List ℕ
   t₈ = r.write_counted.new.s
@@ -311,22 +304,22 @@ module _ (r : tie.After-write_counted) where
 settle-depth-requires : tie.Need-settle_depth-requires
 settle-depth-requires c κs =
     let r = c in
-    let t = t₈ r.before.before.before.before in
-    let y = y₈ r.before.before.before.before in
+    let t = t₈ r.before.before.before in
+    let y = y₈ r.before.before.before in
     let z = z₅ y in
     let b = b₅ y in
     let q = deep_read (d₄ (e₅ y)) in
     record {
-      store = can_settle (S z) (sized z) fnv fnv_lt (s z) (p z) z.args.i (key z) (L z) (j b) (fits b) (kept y) (recounted r.before.before.before.before);
+      store = can_settle (S z) (sized z) fnv fnv_lt (s z) (p z) z.args.i (key z) (L z) (j b) (fits b) (kept y) (recounted r.before.before.before);
       limit = omega (arith, deep_low (d₄ (e₅ y)), twelve (S z) (sized z));
       low = omega (
         arith,
         q,
-        low_then (S z) (sized z) fnv fnv_lt (s z) (p z) z.args.i (key z) (L z) (j b) (fits b) (kept y) (recounted r.before.before.before.before)
+        low_then (S z) (sized z) fnv fnv_lt (s z) (p z) z.args.i (key z) (L z) (j b) (fits b) (kept y) (recounted r.before.before.before)
             (join_none (S z) (sized z) fnv fnv_lt (s z) (p z) z.args.i (key z) (L z) (j b) (fits b) (fewer (e₅ y)) (rejoined (e₅ y)) (named y)),
       );
       named = λ _. subst (λ d. Directed (S z) fnv t d (pages (S z) (s z)) t) (sym q)
-          (directed_still (S z) (sized z) fnv fnv_lt (s z) (p z) z.args.i (key z) (L z) (j b) (fits b) (kept y) (recounted r.before.before.before.before)
+          (directed_still (S z) (sized z) fnv fnv_lt (s z) (p z) z.args.i (key z) (L z) (j b) (fits b) (kept y) (recounted r.before.before.before)
           (join_directed (S z) (sized z) fnv fnv_lt (s z) (p z) z.args.i (key z) (L z) (j b) (fits b) (fewer (e₅ y)) (rejoined (e₅ y)) (named y)));
     }
 
@@ -336,10 +329,10 @@ same_length c = search rules
 returns : tie.Need-returns-then-j-k
 returns c =
     let r = c in
-    let y = y₈ r.before.before.before.before.before.before.before in
+    let y = y₈ r.before.before.before.before.before.before in
     let z = z₅ y in
     let b = b₅ y in
-    settles (S z) (sized z) fnv fnv_lt (s z) (p z) z.args.i (key z) (L z) (j b) (fits b) (kept y) (recounted r.before.before.before.before.before.before.before)
+    settles (S z) (sized z) fnv fnv_lt (s z) (p z) z.args.i (key z) (L z) (j b) (fits b) (kept y) (recounted r.before.before.before.before.before.before)
     (join_then (S z) (sized z) fnv fnv_lt (s z) (p z) z.args.i (key z) (L z) (j b) (fits b) (fewer (e₅ y)) (rejoined (e₅ y)) (named y))
     c.settle_depth.ensures (λ m. (c.slice_known-then-j-k-4-1.given m).fits)
 
@@ -577,13 +570,11 @@ take_out_spec =
     climb-requires
     get32-requires
     rows-counted-requires
-    slice-aggregate-read-counts
     read-counts-requires
     slice-aggregate-join-lent
     join-lent-requires
     cast-name-prefix
     name-prefix-requires
-    slice-aggregate-write-counted
     sub-write-counted
     write-counted-requires
     settle-depth-requires

@@ -45,7 +45,7 @@ judge-sized-requires : tie.Need-judge_sized-bad-requires
 judge-sized-requires c κs = search rules
 
 returns : tie.Need-returns-then-bad-n
-returns c = let j = c in bad_before (S j.before) fnv (s j.before) (start j.before).requires.1 j.judge_sized-bad.result (judged j.before) c.if-bad-n.true
+returns c = let j = c in (c.if-bad-n.true, bad_before (S j.before) fnv (s j.before) (start j.before).requires.1 j.judge_sized-bad.result (judged j.before) c.if-bad-n.true)
 
 counts-ok-requires : tie.Need-counts_ok-requires
 counts-ok-requires c κs =
@@ -57,7 +57,7 @@ returns-2 : tie.Need-returns-then-not-counts_ok
 returns-2 c =
     let e = c in
     let j = e in
-    bad_counts (S j.before.before.before) fnv (s j.before.before.before) (start j.before.before.before).requires.1 j.judge_sized-bad.result (judged j.before.before.before) e.if-bad-n.false (says_false {P = Counts (S j.before.before.before) (s j.before.before.before)} c.counts_ok.result (not-true _ c.if-not-counts_ok.true-raw) c.counts_ok.ensures)
+    (omega (arith, (start j.before.before.before).requires.1.least), bad_counts (S j.before.before.before) fnv (s j.before.before.before) (start j.before.before.before).requires.1 j.judge_sized-bad.result (judged j.before.before.before) e.if-bad-n.false (says_false {P = Counts (S j.before.before.before) (s j.before.before.before)} c.counts_ok.result (not-true _ c.if-not-counts_ok.true-raw) c.counts_ok.ensures))
 
 returns-3 : tie.Need-returns
 returns-3 c =

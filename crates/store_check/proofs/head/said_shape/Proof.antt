@@ -1,7 +1,7 @@
 -- `store_check::said_shape` meets its contract. Assumes nothing.
 use borrow.Author.Tests.{not-true, not-false}
 use borrow.Author.Rules.{rules}
-use mathlib.Core.Path.{sym, subst}
+use mathlib.Core.Path.{refl, sym, subst}
 use Rattle.ground.proofs.Tests.{says_true, says_false}
 use Rattle.store.specs.Accepted.{GoodLength}
 use Rattle.store.proofs.Accepted.OwnSize.{short}
@@ -9,7 +9,7 @@ use Rattle.store_check.proofs.head.said_shape.Statement.{statement}
 use Rattle.store_check.proofs.head.said_shape.Tie as tie
 
 returns : tie.Need-returns-then-s-lt24
-returns c = short c.args.s.now c.if-s-lt24.true
+returns c = (refl, short c.args.s.now c.if-s-lt24.true)
 
 shape-of-requires : tie.Need-shape_of-z-requires
 shape-of-requires c κs = search rules
@@ -22,7 +22,7 @@ returns-2 c =
     let g = c in
     let z = g.shape_of-z in
     let s = g.args.s.now in
-    λ l. says_false {P = GoodLength z.result s} g.good_length.result (not-true _ c.if-not-good_length.true-raw) g.good_length.ensures (subst (λ S. GoodLength S s) (sym z.ensures.0) l)
+    (refl, λ l. says_false {P = GoodLength z.result s} g.good_length.result (not-true _ c.if-not-good_length.true-raw) g.good_length.ensures (subst (λ S. GoodLength S s) (sym z.ensures.0) l))
 
 returns-3 : tie.Need-returns
 returns-3 c =

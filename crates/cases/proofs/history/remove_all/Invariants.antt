@@ -1,8 +1,0 @@
-use Rattle.std.proofs.Common.{◌-◌, ◌≤◌}
-use Rattle.cases.proofs.history.remove_all.Given as goal
-
-abbrev pub invariant-loop-n : goal.invariant-loop-n
-invariant-loop-n l = l.n ≤ l.many
-
-abbrev pub decreases-loop-n : goal.decreases-loop-n
-decreases-loop-n l = l.many - l.n
