@@ -18,6 +18,7 @@ fn add_up(lengths: &[u32], n: usize) -> bool
     left == 0
 }
 
+// Stays: the C header's lots_put_all has these runs side by side.
 // Whether the runs are of one length, and the lengths add up to the code bytes.
 pub fn good_runs(codes: &[u8], lengths: &[u32], places: &[u64], answers: &[u32]) -> bool
     ensures { Says result (GoodRuns (runs codes.now lengths.now places.now answers.now)) }

@@ -12,6 +12,7 @@ use super::parts::{answer_number, word_place};
 use super::runs::good_runs;
 use partition::Shape;
 
+// Stays: the C header has the modes as numbers, and specs/Batch:batch_table refuses those that are none.
 // One put, at the place of a word, and the number of its answer.
 fn put_word(s: &mut [u8], z: Shape, key: &[u8], w: u64, mode: u64) -> u32
     requires { Ready z fnv s.old mode }
@@ -20,6 +21,7 @@ fn put_word(s: &mut [u8], z: Shape, key: &[u8], w: u64, mode: u64) -> u32
     answer_number(putting::put_checked(s, z, key, word_place(w), mode))
 }
 
+// Stays: the C header's lots_put_all has the runs side by side.
 // Each put in turn, with the number of its answer.
 fn put_each(
     s: &mut [u8],
@@ -41,6 +43,7 @@ fn put_each(
     }
 }
 
+// Stays: the C header's lots_put_all has the runs side by side and the mode as a number.
 // Each code gets its place, if it is what the mode expects; the store is checked once.
 pub fn put_all(
     s: &mut [u8],

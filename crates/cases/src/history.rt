@@ -51,11 +51,13 @@ fn code_of(i: u32) -> [u8; 64] {
 }
 
 // Puts the row of the kind's code number i by a mode.
+// Stays: the mode is the number that the C header has.
 fn put_code(store: &mut [u8], kind: Kind, i: u32, mode: u64) -> u64 {
     lots_c::lots_put(store, &code_of(i)[..kind.len], 1, 2, 3, mode)
 }
 
 // Puts the kind's row n by a mode.
+// Stays: the mode is the number that the C header has; a history puts several kinds into one store, so that these two are no one value.
 fn put_as(store: &mut [u8], kind: Kind, n: usize, mode: u64) -> u64 {
     put_code(store, kind, kind.number(n), mode)
 }
@@ -134,6 +136,7 @@ fn by_mode<R: Print>(rt: &R, store: &mut [u8], kind: Kind) {
 }
 
 // Case 11 in 3 pages: 13 rows of one kind, and what is refused then.
+// Stays: named by the case of document 01, another one than case_10 in main.rt.
 fn case_11<R: Print>(rt: &R, store: &mut [u8], kind: Kind) {
     say_number(rt, "format:", lots_c::lots_format(store, 1024));
     say_number(rt, "rows put:", put_all(store, kind, 13));

@@ -19,8 +19,7 @@ fn main(rt: HostRuntime) {
     refusals::of_writes(&rt, &mut store, &mut damaged);
     reads::row_by_row(&rt);
     histories(&rt, &mut store);
-    sizes::of_4096(&rt);
-    sizes::of_16384(&rt);
+    sizes::larger(&rt);
 }
 
 // On what the other cases left, and on larger stores.
@@ -38,6 +37,7 @@ fn histories<R: Print>(rt: &R, store: &mut [u8]) {
 }
 
 // In 3 pages, "a" with place (7, 2, 0), whatever they held.
+// Stays: named by the case of document 01, another one than case_11 in history.rt.
 fn case_10<R: Print>(rt: &R, store: &mut [u8]) {
     say_number(rt, "format:", lots_c::lots_format(store, 1024));
     say_place(rt, "put a:", lots_c::lots_put(store, b"a", 7, 2, 0, 0));

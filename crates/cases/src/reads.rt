@@ -21,6 +21,7 @@ fn add(bucket: &mut [u8], key: &[u8], page: u8)
 }
 
 // Row n on a line, the page of its place and its code; whether there is one.
+// Stays: it prints in the one arm, which no matches! does.
 fn row<R: Print>(rt: &R, bucket: &[u8], n: usize) -> bool {
     let mut out = [0u8; 64];
     match page_reader::inspect(bucket, n, &mut out) {

@@ -75,50 +75,61 @@ const ON_SOUND: [Put; 3] = [
     ("put, known code, negative page:", b"a", (-1, 2, 0), 0),
 ];
 
-fn checks<R: Print>(rt: &R, sound: &[u8], damaged: &[u8], short: &[u8]) {
+// The store of case 10, the same with a fault in page 1, and that without its last byte.
+#[derive(Clone, Copy)]
+struct Stores<'a> {
+    sound: &'a [u8],
+    damaged: &'a [u8],
+    short: &'a [u8],
+}
+
+fn checks<R: Print>(rt: &R, on: Stores<'_>) {
     for (asked, word) in [
-        ("check, 3071 bytes:", lots_c::lots_check(short)),
-        ("check, damaged store:", lots_c::lots_check(damaged)),
-        ("check:", lots_c::lots_check(sound)),
-        ("count, 3071 bytes:", lots_c::lots_count(short)),
-        ("count, damaged store:", lots_c::lots_count(damaged)),
-        ("count:", lots_c::lots_count(sound)),
+        ("check, 3071 bytes:", lots_c::lots_check(on.short)),
+        ("check, damaged store:", lots_c::lots_check(on.damaged)),
+        ("check:", lots_c::lots_check(on.sound)),
+        ("count, 3071 bytes:", lots_c::lots_count(on.short)),
+        ("count, damaged store:", lots_c::lots_count(on.damaged)),
+        ("count:", lots_c::lots_count(on.sound)),
     ] {
         say_number(rt, asked, word);
     }
 }
 
-fn lookups<R: Print>(rt: &R, sound: &[u8], damaged: &[u8], short: &[u8]) {
+fn lookups<R: Print>(rt: &R, on: Stores<'_>) {
     for (asked, word) in [
         (
             "lookup, 3071 bytes, no code:",
-            lots_c::lots_lookup(short, b""),
+            lots_c::lots_lookup(on.short, b""),
         ),
         (
             "lookup, no code, damaged store:",
-            lots_c::lots_lookup(damaged, b""),
+            lots_c::lots_lookup(on.damaged, b""),
         ),
         (
             "lookup, 65 bytes of code, damaged store:",
-            lots_c::lots_lookup(damaged, &LONG),
+            lots_c::lots_lookup(on.damaged, &LONG),
         ),
-        ("lookup, damaged store:", lots_c::lots_lookup(damaged, b"b")),
-        ("lookup, not there:", lots_c::lots_lookup(sound, b"b")),
-        ("lookup:", lots_c::lots_lookup(sound, b"a")),
+        (
+            "lookup, damaged store:",
+            lots_c::lots_lookup(on.damaged, b"b"),
+        ),
+        ("lookup, not there:", lots_c::lots_lookup(on.sound, b"b")),
+        ("lookup:", lots_c::lots_lookup(on.sound, b"a")),
     ] {
         say_place(rt, asked, word);
     }
 }
 
-fn rows<R: Print>(rt: &R, sound: &[u8], damaged: &[u8], short: &[u8]) {
+fn rows<R: Print>(rt: &R, on: Stores<'_>) {
     let mut out = [0u8; 64];
     let mut len = 0;
     for (asked, store, n, room) in [
-        ("row, 3071 bytes, output of 63:", short, 1, 63),
-        ("row, output of 63, damaged store:", damaged, 1, 63),
-        ("row 1, damaged store:", damaged, 1, 64),
-        ("row 1:", sound, 1, 64),
-        ("row 0:", sound, 0, 64),
+        ("row, 3071 bytes, output of 63:", on.short, 1, 63),
+        ("row, output of 63, damaged store:", on.damaged, 1, 63),
+        ("row 1, damaged store:", on.damaged, 1, 64),
+        ("row 1:", on.sound, 1, 64),
+        ("row 0:", on.sound, 0, 64),
     ] {
         let word = lots_c::lots_row(store, n, part_mut(&mut out, room), &mut len);
         say_place(rt, asked, word);
@@ -133,10 +144,14 @@ fn part_mut(bytes: &mut [u8; 64], room: usize) -> &mut [u8] {
 
 // The store of case 10, and the same with a fault in page 1.
 pub fn all<R: Print>(rt: &R, sound: &[u8], damaged: &[u8]) {
-    let short = part(damaged, 0, 3071);
-    checks(rt, sound, damaged, short);
-    lookups(rt, sound, damaged, short);
-    rows(rt, sound, damaged, short);
+    let on = Stores {
+        sound,
+        damaged,
+        short: part(damaged, 0, 3071),
+    };
+    checks(rt, on);
+    lookups(rt, on);
+    rows(rt, on);
     let free = [0u8; 1024];
     inspections(
         rt,

@@ -1,5 +1,5 @@
 // Pages of 4,096 and of 16,384 bytes: case 10 in them, what page 0 says of the size, and a split down to the deepest depth, where one row more is refused.
-ghost use Rattle.std.specs.Prelude.{◌≤◌};
+ghost use Rattle.std.specs.Prelude.{◌≤◌, ◌<◌};
 
 use super::answers::{say_number, say_place};
 use super::history;
@@ -86,38 +86,39 @@ fn untouched<const N: usize>() -> [u8; N] {
     [0xAA; N]
 }
 
-// In three pages, then in as many as the deepest split takes.
-fn of<R: Print>(rt: &R, size: &Size, three: &mut [u8], store: &mut [u8]) {
+// In three pages, then in as many as the deepest split takes: so many bytes.
+fn of<R: Print, const THREE: usize, const STORE: usize>(rt: &R, size: &Size)
+    requires { (THREE < 9223372036854775808) × (STORE < 9223372036854775808) }
+{
+    let mut three = untouched::<THREE>();
+    let mut store = untouched::<STORE>();
     let bytes = size.bytes;
     let _ = println!(rt; "pages of {bytes} bytes");
-    one_row(rt, three, size.bytes);
+    one_row(rt, &mut three, size.bytes);
     for (asked, second) in size.others {
-        numbered(rt, asked, three, second);
+        numbered(rt, asked, &mut three, second);
     }
-    split(rt, store, size);
-    fill(rt, store, size);
+    split(rt, &mut store, size);
+    fill(rt, &mut store, size);
 }
 
-pub fn of_4096<R: Print>(rt: &R) {
-    let size = Size {
-        bytes: 4096,
-        deepest: 10,
-        rows: 53,
-        others: [("check, 1024 at 20:", 4), ("check, 16384 at 20:", 64)],
-    };
-    let mut three = untouched::<12288>();
-    let mut store = untouched::<53248>();
-    of(rt, &size, &mut three, &mut store);
-}
-
-pub fn of_16384<R: Print>(rt: &R) {
-    let size = Size {
-        bytes: 16384,
-        deepest: 12,
-        rows: 215,
-        others: [("check, 1024 at 20:", 4), ("check, 4096 at 20:", 16)],
-    };
-    let mut three = untouched::<49152>();
-    let mut store = untouched::<245760>();
-    of(rt, &size, &mut three, &mut store);
+pub fn larger<R: Print>(rt: &R) {
+    of::<R, 12288, 53248>(
+        rt,
+        &Size {
+            bytes: 4096,
+            deepest: 10,
+            rows: 53,
+            others: [("check, 1024 at 20:", 4), ("check, 16384 at 20:", 64)],
+        },
+    );
+    of::<R, 49152, 245760>(
+        rt,
+        &Size {
+            bytes: 16384,
+            deepest: 12,
+            rows: 215,
+            others: [("check, 1024 at 20:", 4), ("check, 4096 at 20:", 16)],
+        },
+    );
 }

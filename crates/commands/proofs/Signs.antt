@@ -12,29 +12,18 @@ use mir.Facts.{to_z-of_z, sfits_widen}
 use borrow.Author.Tests.{ltb-true}
 use Rattle.commands.specs.Numbers.{integer}
 
--- a number of 64 bits that fewer hold
-module _ (w : Width) (z : ℤ) (f : SFits w64 z) (h : mag z < 2 ^ hbits w) where
-  pub narrow_fits : SFits w (to_z w64 (of_z w64 z))
-  narrow_fits = rw (to_z-of_z f) (record { sfits = h })
-
-  pub narrow_is : to_z w (of_z w (to_z w64 (of_z w64 z))) ≡ z
-  narrow_is = to_z-of_z narrow_fits ∙ to_z-of_z f
-
 -- ---- a number that is shown
 
-pub wide_fits : (w : Width) (z : ℤ) → SFits w z → T (leb (hbits w) 63) → SFits w64 (to_z w (of_z w z))
+wide_fits : (w : Width) (z : ℤ) → SFits w z → T (leb (hbits w) 63) → SFits w64 (to_z w (of_z w z))
 wide_fits w z f t = rw (to_z-of_z f) (sfits_widen t f)
 
-pub wide_is : (w : Width) (z : ℤ) → SFits w z → T (leb (hbits w) 63) → to_z w64 (of_z w64 (to_z w (of_z w z))) ≡ z
+wide_is : (w : Width) (z : ℤ) → SFits w z → T (leb (hbits w) 63) → to_z w64 (of_z w64 (to_z w (of_z w z))) ≡ z
 wide_is w z f t = to_z-of_z (wide_fits w z f t) ∙ to_z-of_z f
 
 pub below_zero : (z : ℤ) → lt_z z (pos 0) ≡ true → z ≡ negsuc (mag z)
 below_zero (pos n) e = absurd (let l : n < 0 = ltb-true n 0 e in omega arith)
 below_zero (negsuc n) e = refl
 
-whole : (z : ℤ) → mag z < 2147483648 → to_z w64 (of_z w64 z) ≡ z
-whole z h = to_z-of_z {w = w64} (record { sfits = omega arith })
-
 -- a part of a place that is shown
-pub part_text : (w : Width) (x r : ℤ) → SFits w x → mag r < 2147483648 → r ≡ to_z w (of_z w x) → integer (to_z w64 (of_z w64 r)) ≡ integer x
-part_text w x r f h e = ap integer (whole r h ∙ e ∙ to_z-of_z f)
+pub part_text : (w : Width) (x r : ℤ) → SFits w x → T (leb (hbits w) 63) → r ≡ to_z w (of_z w x) → integer (to_z w64 (of_z w64 r)) ≡ integer x
+part_text w x r f t e = ap integer (ap (λ (q : ℤ). to_z w64 (of_z w64 q)) e ∙ wide_is w x f t)

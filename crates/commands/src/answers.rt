@@ -1,6 +1,5 @@
 // Answers as lines of text, put together in a buffer.
 ghost use Rattle.std.specs.Prelude.{◌≡◌, true, [], ◌∷◌, ◌++◌, ◌+◌, ◌*◌, ◌≤◌, ◌<◌, length, take, drop, pos};
-ghost use Rattle.std.specs.Int.Signed.{mag};
 ghost use Rattle.io.specs.Digits.{last_digits};
 ghost use Rattle.store.specs.Tables.{meaning, refusal};
 ghost use Rattle.commands.specs.Answers.{Adds, Lines, because, faulty, numbered, placed, rowed, shows, why};
@@ -15,6 +14,7 @@ use page::Place;
 use store::{Answer, Done, Refusal};
 
 // A text goes to out at an index.
+// Stays: no heap; the caller lends the line, and the next index is all there is to hand on.
 pub fn add(out: &mut [u8], at: usize, text: &[u8]) -> usize
     requires { at + length text.now ≤ length out.old }
     ensures { Adds text.now out.old at out.new result }
@@ -34,6 +34,7 @@ fn width(n: u64) -> usize
 }
 
 // The last k digits of a number go to out at an index.
+// Stays: no heap, so the digits go into the line that the caller lends, from the last one on.
 fn spell(out: &mut [u8], at: usize, k: usize, n: u64)
     requires { at + k ≤ length out.old }
     ensures { Adds (last_digits 10 k n) out.old at out.new (at + k) }
@@ -45,6 +46,7 @@ fn spell(out: &mut [u8], at: usize, k: usize, n: u64)
     }
 }
 
+// Stays: no heap; the caller lends the line, and the next index is all there is to hand on.
 pub fn add_number(out: &mut [u8], at: usize, n: u64) -> usize
     requires { at + 20 ≤ length out.old }
     ensures adds { Adds (decimal n) out.old at out.new result }
@@ -68,6 +70,7 @@ fn four_digits(n: u64) -> u64
 }
 
 // The four bytes of a word go to out at an index.
+// Stays: no heap; the caller lends the line, and the next index is all there is to hand on.
 fn add_word(out: &mut [u8], at: usize, d: u64) -> usize
     requires { at + 4 ≤ length out.old }
     ensures { Adds (bytes 4 d) out.old at out.new result }
@@ -84,6 +87,7 @@ fn add_word(out: &mut [u8], at: usize, d: u64) -> usize
 }
 
 // A number below 10,000. Up to two bytes after its digits are written too.
+// Stays: no heap; the caller lends the line, and the next index is all there is to hand on.
 fn add_small(out: &mut [u8], at: usize, n: u64) -> usize
     requires { (at + 4 ≤ length out.old) × (n < 10000) }
     ensures adds { Adds (decimal n) out.old at out.new result }
@@ -105,19 +109,8 @@ fn add_small(out: &mut [u8], at: usize, n: u64) -> usize
     at + 2
 }
 
-fn wide32(z: i32) -> i64
-    ensures { (result ≡ z) × (mag result < 2147483648) }
-{
-    z as i64
-}
-
-fn wide16(z: i16) -> i64
-    ensures { (result ≡ z) × (mag result < 2147483648) }
-{
-    z as i64
-}
-
 // A number of any size, its sign before it.
+// Stays: no heap; the caller lends the line, and the next index is all there is to hand on.
 pub fn add_signed(out: &mut [u8], at: usize, z: i64) -> usize
     requires { at + 21 ≤ length out.old }
     ensures adds { Adds (integer z) out.old at out.new result }
@@ -134,16 +127,17 @@ pub fn add_signed(out: &mut [u8], at: usize, z: i64) -> usize
     add_number(out, at, n)
 }
 
+// Stays: no heap; the caller lends the line, and the next index is all there is to hand on.
 pub fn add_place(out: &mut [u8], at: usize, p: Place) -> usize
     requires { at + 65 ≤ length out.old }
     ensures adds { Adds (placed p) out.old at out.new result }
     ensures upper_bound { result ≤ at + 65 }
 {
-    let a = add_signed(out, at, wide32(p.page));
+    let a = add_signed(out, at, i64::from(p.page));
     let b = add(out, a, b" ");
-    let c = add_signed(out, b, wide16(p.slot));
+    let c = add_signed(out, b, i64::from(p.slot));
     let d = add(out, c, b" ");
-    add_signed(out, d, wide16(p.volume))
+    add_signed(out, d, i64::from(p.volume))
 }
 
 fn upper_digit(d: u8) -> u8
@@ -153,6 +147,7 @@ fn upper_digit(d: u8) -> u8
     if d < 10 { b'0' + d } else { 55 + d }
 }
 
+// Stays: no heap; the caller lends the line, and the next index is all there is to hand on.
 fn add_escaped(out: &mut [u8], at: usize, b: u8) -> usize
     requires { at + 3 ≤ length out.old }
     ensures { Adds (escape b) out.old at out.new result }
@@ -161,6 +156,7 @@ fn add_escaped(out: &mut [u8], at: usize, b: u8) -> usize
     add(out, at, &text)
 }
 
+// Stays: no heap; the caller lends the line, and the next index is all there is to hand on.
 fn add_byte(out: &mut [u8], at: usize, b: u8) -> usize
     requires { at + 3 ≤ length out.old }
     ensures { Adds (glyphs b) out.old at out.new result }
@@ -172,6 +168,7 @@ fn add_byte(out: &mut [u8], at: usize, b: u8) -> usize
 }
 
 // A code byte by byte.
+// Stays: no heap; the caller lends the line, and the next index is all there is to hand on.
 fn add_bytes(out: &mut [u8], at: usize, code: &[u8]) -> usize
     requires { at + 3 * length code.now ≤ length out.old }
     ensures adds { Adds (shown code.now) out.old at out.new result }
@@ -188,16 +185,7 @@ fn add_bytes(out: &mut [u8], at: usize, code: &[u8]) -> usize
 fn odd(x: u8) -> u8
     ensures { result ≡ 0 → Plain x }
 {
-    if x < 33 {
-        return 1;
-    }
-    if x > 126 {
-        return 1;
-    }
-    if x == 37 {
-        return 1;
-    }
-    0
+    u8::from(!matches!(x, b'!'..=b'~') || x == b'%')
 }
 
 // Whether the eight bytes from a on are shown as themselves. A fixed number of turns and no way out before the end, so that it vectorises.
@@ -206,15 +194,14 @@ fn eight_plain(code: &[u8], a: usize) -> bool
     ensures { result ≡ true → PlainFrom code.now a (a + 8) }
 {
     let mut acc: u8 = 0;
-    let mut i = 0;
-    while i < 8 {
-        acc = acc | odd(code[a + i]);
-        i += 1;
+    for b in &code[a..a + 8] {
+        acc |= odd(*b);
     }
     acc == 0
 }
 
 // The eight bytes from i on go to out at an index: all read before one is written, so that it is one move.
+// Stays: no heap; the caller lends the line, and the next index is all there is to hand on.
 fn copy_eight(out: &mut [u8], at: usize, code: &[u8], i: usize) -> usize
     requires { (at + 8 ≤ length out.old) × (i + 8 ≤ length code.now) }
     ensures { Adds (take 8 (drop i code.now)) out.old at out.new result }
@@ -233,6 +220,7 @@ fn copy_eight(out: &mut [u8], at: usize, code: &[u8], i: usize) -> usize
 }
 
 // A code, eight bytes at a time while they are shown as themselves; the last eight may begin among those before.
+// Stays: no heap; the caller lends the line, and the next index is all there is to hand on.
 fn add_code(out: &mut [u8], at: usize, code: &[u8]) -> usize
     requires { at + 3 * length code.now ≤ length out.old }
     ensures adds { Adds (shown code.now) out.old at out.new result }
@@ -243,21 +231,20 @@ fn add_code(out: &mut [u8], at: usize, code: &[u8]) -> usize
         return add_bytes(out, at, code);
     }
     let last = n - 8;
-    let mut i = 0;
-    while i < last {
+    for i in (0..last).step_by(8) {
         if !eight_plain(code, i) {
-            return add_bytes(out, at + i, &code[i..n]);
+            return add_bytes(out, at + i, &code[i..]);
         }
         copy_eight(out, at + i, code, i);
-        i += 8;
     }
     if !eight_plain(code, last) {
-        return add_bytes(out, at + i, &code[i..n]);
+        return add_bytes(out, at + last, &code[last..]);
     }
     copy_eight(out, at + last, code, last)
 }
 
 // The number of a line, and why it is not obeyed.
+// Stays: no heap; the caller lends the line, and the next index is all there is to hand on.
 pub fn add_because(out: &mut [u8], at: usize, number: usize, text: &[u8]) -> usize
     requires { at + 28 + length text.now ≤ length out.old }
     ensures adds { Adds (because number text.now) out.old at out.new result }
@@ -286,6 +273,7 @@ fn add_refusal(out: &mut [u8], f: Refusal) -> usize
 }
 
 // The number of a line that is refused, and why.
+// Stays: no heap; the caller lends the line, and the next index is all there is to hand on.
 fn add_reason(out: &mut [u8], at: usize, number: usize, f: Refusal) -> usize
     requires { at + 68 ≤ length out.old }
     ensures adds { Adds (because number (why (refusal f))) out.old at out.new result }
@@ -312,6 +300,7 @@ fn add_reason(out: &mut [u8], at: usize, number: usize, f: Refusal) -> usize
     }
 }
 
+// Stays: a length and no array type, since the caller lends a line of any length from answer_line's on.
 fn refusal_text(out: &mut [u8], number: usize, f: Refusal) -> usize
     requires { 127 ≤ length out.old }
     ensures adds { Adds (shows [] number (refusal f)) out.old 0 out.new result }
@@ -330,6 +319,7 @@ fn replaced_text(out: &mut [u8], p: Place) -> usize
     add_place(out, n, p)
 }
 
+// Stays: no heap; the caller lends the line, and the next index is all there is to hand on.
 fn row_text(out: &mut [u8], at: usize, code: &[u8], p: Place) -> usize
     requires { at + 127 + 3 * length code.now ≤ length out.old }
     ensures adds { Adds (rowed code.now p) out.old at out.new result }
@@ -341,6 +331,7 @@ fn row_text(out: &mut [u8], at: usize, code: &[u8], p: Place) -> usize
 }
 
 // The row's code is the first n bytes of the buffer, or all of it.
+// Stays: the store's answer has the length alone (Tables:row), and the buffer is the caller's.
 fn row_part(out: &mut [u8], code: &[u8], n: usize, p: Place) -> usize
     requires { 127 + 3 * length code.now ≤ length out.old }
     ensures adds { Adds (rowed (take n code.now) p) out.old 0 out.new result }
@@ -379,6 +370,7 @@ pub fn answer_line(a: Answer, code: &[u8], number: usize, out: &mut [u8]) -> usi
 }
 
 // A row as a line at an index of out.
+// Stays: no heap; the caller lends the line, and the next index is all there is to hand on.
 pub fn row_line(out: &mut [u8], at: usize, code: &[u8], p: Place) -> usize
     requires { at + 128 + 3 * length code.now ≤ length out.old }
     ensures adds { Adds (rowed code.now p ++ (10 ∷ [])) out.old at out.new result }

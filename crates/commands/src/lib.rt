@@ -40,6 +40,7 @@ pub enum Command {
 }
 
 // What a line of a sheet is: nothing, a row's place and cents, or of another form.
+// Stays: an Option<Option<(Place, i64)>> would not say which none is a passed line and which a wrong one.
 #[derive(Clone, Copy)]
 pub enum SheetLine {
     Passed,

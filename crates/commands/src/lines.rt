@@ -1,6 +1,5 @@
 // Lines as commands: words with one space between each two.
 ghost use Rattle.std.specs.Prelude.{◌≡◌, List, ◌∷◌, ◌++◌, ℕ, ◌≤◌, MatchOption};
-ghost use Rattle.std.specs.Int.Signed.{mag};
 ghost use Rattle.std.specs.Option.{unwrap_or};
 ghost use Rattle.commands.specs.Lines.{Parted, Places, Means, Spaceless, Spoken, PutBy, Begins, format_word};
 ghost use Rattle.commands.specs.declared.Command.TheVariants.{Unknown};
@@ -18,20 +17,6 @@ fn parted(w: &[u8]) -> Option<(&[u8], &[u8])>
     Some((&w[..e], &w[e + 1..]))
 }
 
-pub fn narrow32(z: i64) -> i32
-    requires { mag z ≤ 2147483647 }
-    ensures { result ≡ z }
-{
-    z as i32
-}
-
-pub fn narrow16(z: i64) -> i16
-    requires { mag z ≤ 32767 }
-    ensures { result ≡ z }
-{
-    z as i16
-}
-
 // The place that a line's end writes.
 pub fn read_place(w: &[u8]) -> Option<Place>
     ensures { Places w.now result }
@@ -42,9 +27,9 @@ pub fn read_place(w: &[u8]) -> Option<Place>
     let s = read_signed(slot, 32767)?;
     let v = read_signed(volume, 32767)?;
     Some(Place {
-        page: narrow32(p),
-        slot: narrow16(s),
-        volume: narrow16(v),
+        page: p as i32,
+        slot: s as i16,
+        volume: v as i16,
     })
 }
 
@@ -73,6 +58,7 @@ fn format(rest: &[u8]) -> Option<Command>
 }
 
 // What stands after the word of a put: a code and a place.
+// Stays: the C header has the mode as this number, and Lines:PutBy says which word stands for which.
 fn put(rest: &[u8], code: &mut [u8], mode: u64) -> Option<Command>
     ensures { (w : List ℕ) → PutBy w mode → Means (w ++ (32 ∷ rest.now)) code.new (unwrap_or result Unknown) }
 {

@@ -27,19 +27,12 @@ pub fn read_number(w: &[u8]) -> Option<usize>
     Some(n)
 }
 
-fn plus(n: usize) -> i64
-    requires { n < 2 ^ 63 }
-    ensures { result ≡ pos n }
-{
-    n as i64
-}
-
 fn minus(n: usize) -> i64
     requires { n ≤ 2 ^ 63 }
     ensures { result ≡ neg_ℤ (pos n) }
 {
     // Stays: the size of the least number is none of i64, so that there is nothing to negate.
-    if n == 0 { 0 } else { -1 - plus(n - 1) }
+    if n == 0 { 0 } else { -1 - (n - 1) as i64 }
 }
 
 // The number from -most - 1 to most that a word writes.
@@ -52,5 +45,5 @@ pub fn read_signed(w: &[u8], most: usize) -> Option<i64>
         return if n > most + 1 { None } else { Some(minus(n)) };
     }
     let n = read_number(w)?;
-    if n > most { None } else { Some(plus(n)) }
+    if n > most { None } else { Some(n as i64) }
 }

@@ -4,7 +4,6 @@ ghost use Rattle.std.specs.Option.{unwrap_or};
 ghost use Rattle.commands.specs.SheetLines.{blank_kind, KindRun, FourSay, LineSays};
 ghost use Rattle.commands.specs.declared.SheetLine.TheVariants.{Other};
 
-use super::lines::{narrow16, narrow32};
 use super::numbers::read_signed;
 use crate::SheetLine;
 use page::Place;
@@ -39,9 +38,9 @@ fn four_words(page: &[u8], slot: &[u8], volume: &[u8], cents: &[u8]) -> Option<S
     let v = read_signed(volume, 32767)?;
     let z = read_signed(cents, 9223372036854775807)?;
     let place = Place {
-        page: narrow32(p),
-        slot: narrow16(s),
-        volume: narrow16(v),
+        page: p as i32,
+        slot: s as i16,
+        volume: v as i16,
     };
     Some(SheetLine::Amount(place, z))
 }

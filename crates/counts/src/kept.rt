@@ -12,6 +12,7 @@ pub fn rows_counted(s: &[u8]) -> usize
 }
 
 // The largest depth, at most that many bits, of which there is a bucket, by the counts; 0 for none.
+// Stays: DeepestCounted (specs/Tallies) has this 0, the directory's depth where there are no rows, as document 01 has it.
 pub fn deepest_counted(s: &[u8], most: usize) -> usize
     requires { (80 ≤ length s.now) × (most ≤ 12) }
     ensures { DeepestCounted s.now most result }

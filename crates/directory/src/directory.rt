@@ -9,6 +9,7 @@ use partition::Shape;
 use std::ops::Range;
 
 // The entries of a run name page p.
+// Stays: Sized, here and below; a Shape is public, of any three numbers, and what asks less of it (free_pages, lowest_free) would then ask more.
 fn set_run(s: &mut [u8], z: Shape, run: Range<usize>, p: usize)
     requires { Sized z × Runnable z s.old run.start run.end p }
     ensures { RunSet z s.old run.start run.end p s.new }
@@ -31,16 +32,16 @@ fn name_page(s: &mut [u8], z: Shape, p: usize, d: u32)
     requires { Sized z × PageOf z s.old d p }
     ensures { PageNamed z fnv s.old d p s.new }
 {
-    let size = z.size();
-    let a = p * size;
-    if s[a] == 1 {
-        let k = s[a + 1] as u32;
-        let x = page_check::hash_slot(&s[a..a + size], 0);
+    let bucket = store::page_at(s, z, p);
+    if bucket[0] == 1 {
+        let k = bucket[1] as u32;
+        let x = page_check::hash_slot(bucket, 0);
         name_prefix(s, z, x, k, d, p);
     }
 }
 
 // Depth d, and the directory of the n pages.
+// Stays: s, z and n, here and below; the store is lent anew to each step, and docs/PROMISES.md names settle_depth.
 fn write_directory(s: &mut [u8], z: Shape, n: usize, d: u32)
     requires { Sized z × Directable z s.old n d }
     ensures { Directed z fnv s.old d n s.new }

@@ -19,7 +19,7 @@ fn format_pages(s: &mut [u8], z: Shape) -> store::Answer
     requires { Sized z }
     ensures { Answers (format_table z s.old) (meaning result, s.new) }
 {
-    let size = 8 + z.capacity;
+    let size = z.size();
     if s.len() % size != 0 {
         return Err(store::Refusal::BadLength);
     }

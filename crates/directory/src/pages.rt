@@ -12,7 +12,7 @@ pub fn lowest_free(s: &[u8], z: Shape) -> usize
 {
     // Stays: a free page is there (the requires), so the search needs no end; a range's find would hand out an Option that is never None.
     let mut p = 2;
-    while s[p * (8 + z.capacity)] != 0 {
+    while s[p * z.size()] != 0 {
         p += 1;
     }
     p
@@ -28,7 +28,7 @@ pub fn free_pages(s: &[u8], z: Shape, n: usize, most: usize) -> usize
         if many == most {
             return many;
         }
-        if s[p * (8 + z.capacity)] == 0 {
+        if s[p * z.size()] == 0 {
             many += 1;
         }
     }

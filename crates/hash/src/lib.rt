@@ -40,27 +40,56 @@ fn block<const N: usize>(h: u32, s: &[u8], i: usize) -> u32
     x
 }
 
-// The N bytes from i on, where n has them past a multiple of 2 N, taken in; and where the next begin.
-fn odd<const N: usize>(h: u32, s: &[u8], i: usize, n: usize) -> (u32, usize)
-    requires { (1 ≤ N) × (i + n / N % 2 * N ≤ length s.now) }
-    ensures { (result.0 ≡ each h (take (n / N % 2 * N) (drop i s.now))) × (result.1 ≡ i + n / N % 2 * N) }
+// What is left of n bytes once a multiple of two is taken in: none or one, from i on. This and the next three are parts of each hash: as calls they cost the check 3 %.
+#[inline(always)]
+fn last_one(h: u32, s: &[u8], i: usize, n: usize) -> u32
+    requires { i + n % 2 ≤ length s.now }
+    ensures { result ≡ each h (take (n % 2) (drop i s.now)) }
 {
-    if n / N % 2 == 0 {
-        return (h, i);
+    if n % 2 == 0 {
+        return h;
     }
-    (block::<N>(h, s, i), i + N)
+    step(h, s[i])
+}
+
+// The bytes from i on that n has over a multiple of four, taken in: fewer than four.
+// Stays: this and the next two as one function over the number; it hands on where the next bytes begin, which made a check of short codes 2 % slower.
+#[inline(always)]
+fn last_three(h: u32, s: &[u8], i: usize, n: usize) -> u32
+    requires { i + n % 4 ≤ length s.now }
+    ensures { result ≡ each h (take (n % 4) (drop i s.now)) }
+{
+    if n % 4 < 2 {
+        return last_one(h, s, i, n);
+    }
+    let x = block::<2>(h, s, i);
+    last_one(x, s, i + 2, n)
+}
+
+// The bytes from i on that n has over a multiple of eight, taken in: fewer than eight.
+#[inline(always)]
+fn last_seven(h: u32, s: &[u8], i: usize, n: usize) -> u32
+    requires { i + n % 8 ≤ length s.now }
+    ensures { result ≡ each h (take (n % 8) (drop i s.now)) }
+{
+    if n % 8 < 4 {
+        return last_three(h, s, i, n);
+    }
+    let x = block::<4>(h, s, i);
+    last_three(x, s, i + 4, n)
 }
 
 // The bytes from i on that n has over a multiple of sixteen, taken in: fewer than sixteen.
+#[inline(always)]
 fn rest(h: u32, s: &[u8], i: usize, n: usize) -> u32
     requires { i + n % 16 ≤ length s.now }
     ensures { result ≡ each h (take (n % 16) (drop i s.now)) }
 {
-    let (w, j) = odd::<8>(h, s, i, n);
-    let (x, k) = odd::<4>(w, s, j, n);
-    let (y, l) = odd::<2>(x, s, k, n);
-    let (z, _) = odd::<1>(y, s, l, n);
-    z
+    if n % 16 < 8 {
+        return last_seven(h, s, i, n);
+    }
+    let x = block::<8>(h, s, i);
+    last_seven(x, s, i + 8, n)
 }
 
 // The bytes from `from` up to `to`, taken in: sixteen at a time, since a turn of a loop costs as much as a byte, then the odd ones.

@@ -13,25 +13,23 @@ fn needs_at_most(s: &[u8], z: Shape, x: u32, j: u32, limit: usize) -> bool
     requires { Sized z × Above z fnv s.now x j }
     ensures { Says result (needs_of fnv (rows_held z s.now) x j ≤ limit) }
 {
+    let size = z.size();
     let d = words::get32(s, 16) as u32;
     let run = partition::run_of(x, j, d);
-    let end = run.end;
     // Stays: each turn goes on by the entries of the page it has read, which no iterator of the library does.
     let mut i = run.start;
     let mut sum = 0;
-    while i < end {
-        let size = 8 + z.capacity;
+    while i < run.end {
         let p = words::get32(s, size + 4 * i);
         if p == 0 {
             i += 1;
         } else {
             let a = p * size;
-            let width = query::entries_of(s, a, d);
             sum += z.capacity - words::get16(s, a + 6);
             if limit < sum {
                 return false;
             }
-            i += width;
+            i += query::entries_of(s, a, d);
         }
     }
     true

@@ -30,26 +30,6 @@ to_end l k = take_all (length l - k) (drop k l) (simp length-drop (omega arith))
 pub anew_cut : (l : List ℕ) → 5 ≤ length l → take (length l - (length l - 5)) (drop (length l - 5) l) ≡ text " anew" → l ≡ take (length l - 5) l ++ text " anew"
 anew_cut l h e = sym (take-append-drop (length l - 5) l) ∙ ap (λ v. take (length l - 5) l ++ v) (sym (to_end l (length l - 5)) ∙ e)
 
-module _ {l w : List ℕ} (x : Anew l w) where
-  word_long : 7 ≤ length w
-  word_long = let e : length (take 7 w) ≡ 7 = ap length x.word in omega (arith, length-take 7 w)
-
-  all_long : length l ≡ length w + 5
-  all_long = ap length x.ends ∙ length-append w (text " anew")
-
-  -- a format that says it is long enough, and begins and ends so
-  pub anew_long : 12 ≤ length l
-  anew_long = omega (arith, word_long, all_long)
-
-  pub anew_begins : take (7 - 0) (drop 0 l) ≡ text "format "
-  anew_begins = ap (λ v. take 7 v) x.ends ∙ take-append-le 7 w (text " anew") word_long ∙ x.word
-
-  pub anew_ends : take (length l - (length l - 5)) (drop (length l - 5) l) ≡ text " anew"
-  anew_ends =
-      let k : length l - 5 ≡ length w = omega (arith, all_long) in
-      let f : length l - (length l - 5) ≡ 5 = omega (arith, all_long) in
-      ap (λ n. take n (drop (length l - 5) l)) f ∙ ap (λ n. take 5 (drop n l)) k ∙ ap (λ v. take 5 (drop (length w) v)) x.ends ∙ ap (λ v. take 5 v) (drop_at w (text " anew") (length w) refl)
-
 without_by : (l : List ℕ) (r : ℕ) → BeforeAnew l r → (b : Bool) → Says b (r < length l) → Without l (take r l) b
 without_by l r x true p = x.cut p
 without_by l r x false n =

@@ -1,13 +1,13 @@
 // The words that the program was started with, its own name the first.
-ghost use Rattle.std.specs.Prelude.{◌≤◌, length};
+ghost use Rattle.std.specs.Prelude.{◌≤◌, length, IfSome};
 
 use std::env::{Env, FillError};
 
-// Word i at the start of the buffer, and its length; 0 where there is none, or no room for it.
-pub fn word<R: Env>(rt: &R, i: usize, out: &mut [u8]) -> usize
-    ensures { result ≤ length out.new }
+// Word i at the start of the buffer, and its length; none where there is none, or it is empty, or there is no room for it.
+pub fn word<R: Env>(rt: &R, i: usize, out: &mut [u8]) -> Option<usize>
+    ensures { IfSome result (λ n. n ≤ length out.new) }
 {
-    rt.arg(i, out).unwrap_or(0)
+    rt.arg(i, out).ok().filter(|n| *n > 0)
 }
 
 fn is_there<R: Env>(rt: &R, i: usize) -> bool {

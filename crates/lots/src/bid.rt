@@ -16,6 +16,7 @@ use std::fs::Files;
 use store::{Answer, Done};
 use telling::say;
 
+// Stays: eight functions of one shape. One function with a closure, as `line(rt, |out| commands::sum_line(word, z, out))`, is no plainer: it would have to ask of each closure what the line asks of its room and promise how far it writes.
 // A word, a place and its amount on a line; whether it could be written.
 fn tell_amount<R: Print + Eprint>(rt: &R, word: &[u8], p: Place, z: i64) -> bool
     requires { length word.now ≤ 10 }
@@ -33,6 +34,7 @@ fn tell_sum<R: Print + Eprint>(rt: &R, word: &[u8], z: i64) -> bool
     say::text(rt, &text[0..n])
 }
 
+// Stays: n is a number of rows, not the length of the buffer.
 fn tell_many_sum<R: Print + Eprint>(rt: &R, word: &[u8], n: usize, z: i64) -> bool
     requires { length word.now ≤ 10 }
 {
@@ -41,6 +43,7 @@ fn tell_many_sum<R: Print + Eprint>(rt: &R, word: &[u8], n: usize, z: i64) -> bo
     say::text(rt, &text[0..k])
 }
 
+// Stays: n is a number of rows, not the length of the buffer.
 fn tell_many<R: Print + Eprint>(rt: &R, word: &[u8], n: usize) -> bool
     requires { length word.now ≤ 10 }
 {
@@ -49,6 +52,7 @@ fn tell_many<R: Print + Eprint>(rt: &R, word: &[u8], n: usize) -> bool
     say::text(rt, &text[0..k])
 }
 
+// Stays: s and flat, and in those below z and n, are there for the clauses, which docs/PROMISES.md names of these functions; a struct would be made in tell_fresh and tell and taken apart by each clause.
 fn tell_bad_row<R: Print + Eprint>(rt: &R, s: &[u8], flat: &[u64], l: usize) -> bool
     requires { RowRefused s.now flat.now l }
 {
@@ -86,6 +90,7 @@ fn tell_no_row<R: Print + Eprint>(rt: &R, flat: &[u64], number: usize, l: usize)
     say::text(rt, &text[0..k])
 }
 
+// Stays: the match tells a row, it converts nothing; s, z, flat and n are as above.
 // Row i of n, if no code names it or more than one does; of any other nothing is told.
 fn tell_row<R: Print + Eprint>(
     rt: &R,

@@ -48,6 +48,7 @@ fn is_number(word: &[u8]) -> bool {
 }
 
 // Whether a number is all that stands behind the word, or behind format two.
+// Stays: the arms test what they bind, which is no plainer as one condition.
 fn is_count(word: &[u8], rest: &[u8]) -> bool {
     let mut words = rest.split(|b| *b == b' ');
     match (words.next(), words.next(), words.next()) {
@@ -60,6 +61,7 @@ fn is_count(word: &[u8], rest: &[u8]) -> bool {
 }
 
 // Whether a code and a place are all that stands behind the word: a word and three numbers.
+// Stays: the arm tests what it binds, which is no plainer as one condition.
 fn is_place(rest: &[u8]) -> bool {
     let mut words = rest.split(|b| *b == b' ').skip(1);
     match (words.next(), words.next(), words.next(), words.next()) {

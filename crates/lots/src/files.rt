@@ -7,6 +7,7 @@ use std::{fs, io};
 use telling::say;
 
 // Why the store's file cannot be read or written anew.
+// Stays: an error enum for `?`; an Option of the second case would not say what none is.
 enum Failure<'a> {
     // its name is not UTF-8
     Unnamed,

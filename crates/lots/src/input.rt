@@ -6,12 +6,12 @@ ghost use Rattle.lots.specs.Sessions.{After, Alike, AsRead, SessionBegins, Forma
 
 use super::{known, obey};
 use crate::{Outcome, Session};
-use check::same;
 use commands::Fault;
 use std::env::Env;
 use std::fs::Files;
 use std::io::Read;
 use telling::say;
+use text_lines::LineRead;
 
 // How many bytes are lent for a store of n pages of a size; none where that is no store, or there is no room.
 fn length_of(n: usize, size: usize, most: usize) -> usize
@@ -128,21 +128,14 @@ fn ask_format<R: Print + Eprint>(
 }
 
 // Where ` anew` stands at the end of a format, or the end.
+// Stays: an index and no Option, of which Running:without says what stands before it, and whether anew is said.
 fn before_anew(line: &[u8]) -> usize
     ensures { BeforeAnew line.now result }
 {
-    let n = line.len();
-    if n < 12 {
-        return n;
+    match line.strip_suffix(b" anew") {
+        Some(words) if words.starts_with(b"format ") => words.len(),
+        _ => line.len(),
     }
-    if !same(&line[0..7], b"format ") {
-        return n;
-    }
-    let e = n - 5;
-    if !same(&line[e..], b" anew") {
-        return n;
-    }
-    e
 }
 
 // What a line makes known: a store that a call has changed is accepted.
@@ -185,15 +178,11 @@ fn turn<R: Env + Files + Print + Eprint>(
     requires { SessionHolds z store.old }
     ensures { Turned line.now z store.old result store.new }
 {
-    if same(line, b"quit") {
-        let mut y = z;
-        y.quit = true;
-        return y;
+    match line {
+        b"quit" => Session { quit: true, ..z },
+        b"help" => after(z, obey::help(rt)),
+        _ => command(rt, store, z, line),
     }
-    if same(line, b"help") {
-        return after(z, obey::help(rt));
-    }
-    command(rt, store, z, line)
 }
 
 // The session at the start of the next line.
@@ -202,7 +191,7 @@ fn next_line(z: Session) -> Session
 {
     let mut y = z;
     y.number = std::num::wrapping_add_usize(y.number, 1);
-    y.line = text_lines::fresh_line();
+    y.line = LineRead::fresh();
     y
 }
 
@@ -253,7 +242,7 @@ fn take<R: Env + Files + Print + Eprint>(
         return end_line(rt, store, z, line);
     }
     let mut y = z;
-    y.line = text_lines::read_byte(line, z.line, b);
+    y.line = z.line.read_byte(line, b);
     y
 }
 
@@ -361,7 +350,7 @@ fn read_all<R: Env + Files + Print + Eprint, I: Read>(
 fn begin(len: usize, known: bool, terminal: bool) -> Session
     ensures { SessionBegins len known result }
 {
-    let line = text_lines::fresh_line();
+    let line = LineRead::fresh();
     Session {
         len,
         changed: false,
@@ -377,6 +366,7 @@ fn begin(len: usize, known: bool, terminal: bool) -> Session
 }
 
 // Every line of the input, on a store that is the first len bytes of the buffer. It is checked once, here.
+// Stays: no heap; a format makes the store longer within the buffer, so that both are lent.
 pub fn run<R: Env + Files + Input + Print + Eprint>(
     rt: &R,
     store: &mut [u8],

@@ -62,6 +62,7 @@ pub fn row_known(s: &[u8], n: usize, out: &mut [u8], known: bool) -> Answer
     query::give_row(s, partition::shape_of(s), n, out)
 }
 
+// Stays: the C header has the mode as this number, and a call with another one is refused (Tables:put_table).
 pub fn put_known(s: &mut [u8], key: &[u8], place: Place, mode: u64, known: bool) -> Answer
     requires { Known known s.old }
     ensures { Answers (put_table (shape_of s.old) fnv s.old key.now place mode) (meaning result, s.new) }

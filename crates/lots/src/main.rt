@@ -1,7 +1,7 @@
 // The lot index from a shell: commands from standard input, one a line, on the store in the file that the argument names.
 #![tactic(auto)]
 
-ghost use Rattle.std.specs.Prelude.{◌≤◌, length};
+ghost use Rattle.std.specs.Prelude.{◌<◌, ◌≤◌, length};
 
 mod arguments;
 mod bid;
@@ -12,7 +12,6 @@ mod known;
 mod obey;
 mod sheet_file;
 
-use check::same;
 use std::env::Env;
 use std::fs::Files;
 use store::{Answer, Done};
@@ -51,13 +50,11 @@ pub struct Session {
 
 fn main(rt: HostRuntime) {
     let mut path = io::buffer();
-    let n = arguments::word(&rt, 1, &mut path);
     let words = arguments::count(&rt);
-    if words < 2 || words > 5 || n == 0 {
-        usage(&rt);
-        return;
+    match arguments::word(&rt, 1, &mut path) {
+        Some(n) if words < 6 => in_room(&rt, &path[..n], words),
+        _ => usage(&rt),
     }
-    in_room(&rt, &path[0..n], words);
 }
 
 fn usage<R: Eprint>(rt: &R) {
@@ -67,31 +64,24 @@ fn usage<R: Eprint>(rt: &R) {
 // Whether the second word says that lines are typed at a terminal.
 fn is_typed<R: Env>(rt: &R) -> bool {
     let mut word = [0u8; 16];
-    let n = arguments::word(rt, 2, &mut word);
-    same(&word[0..n], b"terminal")
+    let Some(n) = arguments::word(rt, 2, &mut word) else {
+        return false;
+    };
+    matches!(&word[..n], b"terminal")
 }
 
-// The fourth word asks for the larger room.
+// Room for 258 pages of 1,024 bytes and one byte more, so that a longer file shows refusal 1; the fourth word asks for that of 4,098 pages of 16,384 bytes and one
+// byte more, for a stack of over 64 MiB.
 fn in_room<R: Env + Files + Input + Print + Eprint>(rt: &R, path: &[u8], words: usize)
     requires { length path.now ≤ 4096 }
 {
+    let terminal = is_typed(rt);
+    let turns = turns_left(rt, words);
     if words == 5 {
-        in_large_room(rt, path, is_typed(rt), turns_left(rt, words));
-        return;
+        work_in::<R, 67141633>(rt, path, terminal, turns);
+    } else {
+        work_in::<R, 264193>(rt, path, terminal, turns);
     }
-    in_small_room(rt, path, is_typed(rt));
-}
-
-fn room<const N: usize>() -> [u8; N] {
-    [0; N]
-}
-
-// 258 pages of 1,024 bytes and one byte more, so that a longer file shows refusal 1.
-fn in_small_room<R: Env + Files + Input + Print + Eprint>(rt: &R, path: &[u8], terminal: bool)
-    requires { length path.now ≤ 4096 }
-{
-    let mut store = room::<264193>();
-    work(rt, path, &mut store, terminal);
 }
 
 // None is left: the words of a run do not change. The compiler cannot tell, so that it keeps a function that may call itself apart from `main`, in
@@ -100,20 +90,19 @@ fn turns_left<R: Env>(rt: &R, words: usize) -> usize {
     if arguments::count(rt) == words { 0 } else { 1 }
 }
 
-// 4,098 pages of 16,384 bytes and one byte more: for a stack of over 64 MiB.
-// Stays: tried as one function with in_small_room, over the room's size; that any such room is below 2^63 bytes did not close.
-fn in_large_room<R: Env + Files + Input + Print + Eprint>(
+// The run, in a room of that many bytes.
+fn work_in<R: Env + Files + Input + Print + Eprint, const ROOM: usize>(
     rt: &R,
     path: &[u8],
     terminal: bool,
     turns: usize,
 )
-    requires { length path.now ≤ 4096 }
+    requires { (length path.now ≤ 4096) × (ROOM < 9223372036854775808) }
 {
-    let mut store = room::<67141633>();
+    let mut store = [0u8; ROOM];
     work(rt, path, &mut store, terminal);
     if turns > 0 {
-        in_large_room(rt, path, terminal, turns - 1);
+        work_in::<R, ROOM>(rt, path, terminal, turns - 1);
     }
 }
 

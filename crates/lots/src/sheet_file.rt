@@ -60,8 +60,8 @@ fn read_open<F: Read>(file: &mut F, flat: &mut [u64]) -> std::io::Result<Sheet>
 fn join<R: Env>(rt: &R, name: &[u8], out: &mut [u8]) -> Option<usize>
     ensures { IfSome result (λ n. n ≤ length out.new) }
 {
-    let n = arguments::word(rt, 3, out);
-    if n == 0 || n >= out.len() || name.len() >= out.len() - n {
+    let n = arguments::word(rt, 3, out)?;
+    if n >= out.len() || name.len() >= out.len() - n {
         return None;
     }
     words::copy_at(out, n, b"/");

@@ -166,6 +166,7 @@ pub fn lots_remove(store: &mut [u8], code: &[u8]) -> u64
     found_word(removal::remove(store, code))
 }
 
+// Stays: the C header has the mode as a number.
 pub fn lots_put(store: &mut [u8], code: &[u8], page: i32, slot: i16, volume: i16, mode: u64) -> u64
     ensures { TellsAnd (put_table (shape_of store.old) fnv store.old code.now
         (record { page = page; slot = slot; volume = volume }) mode) store.new result }
@@ -174,6 +175,7 @@ pub fn lots_put(store: &mut [u8], code: &[u8], page: i32, slot: i16, volume: i16
     new_word(putting::put(store, code, place, mode))
 }
 
+// Stays: the C header has the runs side by side and the mode as a number.
 pub fn lots_put_all(
     store: &mut [u8],
     codes: &[u8],

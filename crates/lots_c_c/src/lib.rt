@@ -64,6 +64,7 @@ pub extern "C" fn lots_remove(store: &mut [u8], code: &[u8]) -> u64
     lots_c::lots_remove(store, code)
 }
 
+// Stays: the C header has the mode as a number.
 #[unsafe(no_mangle)]
 pub extern "C" fn lots_put(
     store: &mut [u8],
@@ -79,6 +80,7 @@ pub extern "C" fn lots_put(
     lots_c::lots_put(store, code, page, slot, volume, mode)
 }
 
+// Stays: the C header has the runs side by side and the mode as a number.
 #[unsafe(no_mangle)]
 pub extern "C" fn lots_put_all(
     store: &mut [u8],

@@ -9,6 +9,7 @@ use crate::Extent;
 use std::cmp::Ordering;
 
 // Where slot i says that its record lies.
+// Stays: `remove_slot` calls it of a page that it has half changed, so only the length can be asked, and `Short { page }.extent_of(i)` is no plainer.
 #[tactic(auto, unfolding(crate::specs::Page::off, crate::specs::Page::len, crate::specs::Page::word))]
 pub fn extent_of(page: &[u8], i: usize) -> Extent
     requires { (4 * (i + 1) ≤ length page.now) × (length page.now ≤ 16384) }
@@ -22,6 +23,7 @@ pub fn extent_of(page: &[u8], i: usize) -> Extent
 }
 
 // Slot i's code, as a part of the page.
+// Stays: `page_reader::Reader` is the struct over a page. Callers here have a part of a store or of a spare page for a call or two, and `Bucket { page: &s[a..e] }.code_at(i)` is no plainer.
 pub fn code_at(page: &[u8], i: usize) -> &[u8]
     requires { Slotted page.now × (i < count page.now) }
     ensures { result.now ≡ code page.now i }

@@ -18,7 +18,6 @@ ghost use Rattle.page_check.specs.Shared.{PageOk, FirstHash, LentTable, AllShare
 
 use hash::Hashes;
 use page::Extent;
-use std::cmp::Ordering;
 
 // A slot's word above its 14 bits of offset: a record's length, with the 1 that stands above that.
 // The lengths of the shortest record, of the shortest with eight bytes of code and of the longest are so:
@@ -57,17 +56,16 @@ fn le64(s: &[u8], k: usize) -> usize
     ensures signs { NoSign result ↔ NaturalAt s.now k }
     ensures zero { (result ≡ 0) ↔ ZeroFrom s.now k (k + 8) }
 {
-    // Stays: nested so that it becomes one load (words::on).
-    words::join8(
-        words::wide(s[k + 7]),
-        words::wide(s[k + 6]),
-        words::wide(s[k + 5]),
-        words::wide(s[k + 4]),
-        words::wide(s[k + 3]),
-        words::wide(s[k + 2]),
-        words::wide(s[k + 1]),
-        words::wide(s[k]),
-    )
+    usize::from_le_bytes([
+        s[k],
+        s[k + 1],
+        s[k + 2],
+        s[k + 3],
+        s[k + 4],
+        s[k + 5],
+        s[k + 6],
+        s[k + 7],
+    ])
 }
 
 // The word of the slot before the one at k; before the first, that of an empty code.
@@ -89,11 +87,7 @@ fn rises(page: &[u8], k: usize, x: usize, y: usize) -> bool
     let v = word_before(page, k);
     let a = v % 16384 + 8;
     let b = v % 16384 + v / 16384 % 16384;
-    match words::compare(&page[a..b], &page[x..y]) {
-        Ordering::Less => true,
-        Ordering::Equal => false,
-        Ordering::Greater => false,
-    }
+    words::compare(&page[a..b], &page[x..y]).is_lt()
 }
 
 // What tells of the code from x up to y: its first eight bytes as one number, or the greatest number, which tells nothing.
@@ -108,6 +102,8 @@ fn lead_of(page: &[u8], x: usize, y: usize) -> usize
 }
 
 // The slot at k by comparing its code with the one before: what tells of it, if its word w breaks no rule.
+// Not made a part of the loop over slots, which seldom comes here and has no register to spare.
+#[inline(never)]
 fn compared(page: &[u8], k: usize, w: usize) -> Option<usize>
     requires { Preceded page.now k × (off_of w + w / 16384 ≤ length page.now + 16384) }
     ensures { NextTold page.now (length page.now) (slot_of page.now k) w result }
@@ -214,14 +210,7 @@ fn walk(page: &[u8], tab: &mut [u8], n: usize, f: usize) -> bool
         pos += l;
         met += 1;
     }
-    // Stays: tried as one expression with &&; the proof did not close, since its goals speak of the joined tests by no name.
-    if acc != 0 {
-        return false;
-    }
-    if met != n {
-        return false;
-    }
-    if f <= gap {
+    if acc != 0 || met != n || f <= gap {
         return false;
     }
     no_sign(signs)

@@ -27,10 +27,6 @@ use Rattle.store.proofs.Accepted.OwnSize.{is_size}
 use Rattle.store.proofs.Accepted.Reading.{row_slot, row_past, row_free}
 use Rattle.page_reader.specs.Read.{SoundBucket, Reads, whole, nothing, Readable, nth_table}
 
-pub empty : (q : List ℕ) → length q ≡ 0 → q ≡ []
-empty [] e = refl
-empty (x ∷ q) e = absurd (omega arith)
-
 pub count_none : count [] ≡ 0
 unfolding le16
 count_none = refl
@@ -52,6 +48,9 @@ at_row (x ∷ q) k r h = r.sound (omega arith)
 pub slotted : (q : List ℕ) → SoundBucket q → Slotted q
 slotted q s = s.keeps.rules.rules
 
+pub row_slotted : {q : List ℕ} {k : ℕ} → Readable q → k < count q → Slotted q
+row_slotted {q} {k} r h = slotted q (at_row q k r h)
+
 pub few : (q : List ℕ) → Readable q → count q ≤ 4096
 few [] r = omega (arith, count_none)
 few (x ∷ q) r = let b = slotted (x ∷ q) (r.sound (omega arith)) in omega (arith, b.room, b.most)
@@ -72,21 +71,12 @@ module _ (g : List ℕ) (n : ℕ) (out : List ℕ) where
   unfolding nth_table
   nth_past s h = inr ((λ _ f. f s), (s, inr ((λ r e. none_some (row_past g s.keeps.rules n h) e), refl)))
 
-  pub nth_row : SoundBucket g → n < count g → (c : List ℕ) → c ≡ Page.code g n → (p : Place) → p ≡ place_from (Page.place g n) → (out' : List ℕ) → out' ≡ c ++ drop (length c) out
-      → Answers (nth_table g n out) (row (length c) p, out')
+  pub nth_row : SoundBucket g → n < count g → (m : ℕ) → m ≡ length (Page.code g n) → (p : Place) → p ≡ place_from (Page.place g n) → (out' : List ℕ) → out' ≡ Page.code g n ++ drop (length (Page.code g n)) out
+      → Answers (nth_table g n out) (row m p, out')
   unfolding nth_table
-  nth_row s h c ec p ep out' eo = inr (
+  nth_row s h m em p ep out' eo = inr (
     (λ _ f. f s),
-    (
-      s,
-      inl (
-        as_row (row_at g n),
-        (
-          row_slot g s.keeps.rules n h,
-          (λ i. (row (length (ec i)) (ep i), (eo ∙ ap (λ x. x ++ drop (length x) out) ec) i)),
-        ),
-      ),
-    ),
+    (s, inl (as_row (row_at g n), (row_slot g s.keeps.rules n h, (λ i. (row (em i) (ep i), eo i))))),
   )
 
   -- past the rows it is as at their end: k is n, or the end where n is past it

@@ -1,5 +1,4 @@
 // A page reader: it borrows one bucket page and hands out row after row. Inspection is built on it.
-// A thin layer: each function over the struct takes it apart, and the work is in slots.
 #![tactic(auto)]
 
 ghost use Rattle.std.specs.Prelude.{◌≡◌, ◌+◌, ◌-◌, ◌≤◌, ◌<◌, min, length};
@@ -9,92 +8,102 @@ ghost use Rattle.page.specs.Page as Page;
 ghost use Rattle.page.specs.Places as Places;
 ghost use Rattle.partition.specs.Sizes.{shape_for};
 ghost use Rattle.store.specs.Tables.{meaning, inspect_table};
-ghost use Rattle.page_reader.specs.Read.{Reads, Readable, nth_table};
+ghost use Rattle.page_reader.specs.Read.{Reads, Readable, Readable-prop, nth_table};
 
 use page::Place;
 use store::{Answer, Done, Refusal};
 
-mod slots;
+mod sound;
 
 // A page as it is read, and the slot of the next row.
 #[derive(Clone, Copy)]
 pub struct Reader<'a> {
     pub page: &'a [u8],
     pub slot: usize,
+    pub ghost readable: { Readable page.now } by { Readable-prop page.now },
 }
 
-// A reader of a page, at its first row; of a page that is free or breaks a rule it reads nothing.
-pub fn open<'a>(page: &'a [u8]) -> Reader<'a>
-    ensures { Reads page.now result.page.now × (result.slot ≡ 0) }
-{
-    Reader {
-        page: slots::sound_part(page),
-        slot: 0,
+impl<'a> Reader<'a> {
+    // A reader of a page, at its first row; of a page that is free or breaks a rule it reads nothing.
+    pub fn open(page: &'a [u8]) -> Self
+        ensures { Reads page.now result.page.now × (result.slot ≡ 0) }
+    {
+        Reader {
+            page: sound::sound_part(page),
+            slot: 0,
+        }
+    }
+
+    // How many rows are left.
+    pub fn left(self) -> usize
+        ensures { result ≡ Page.count self.entry.page.now - self.entry.slot }
+    {
+        if self.page.is_empty() {
+            return 0;
+        }
+        words::get16(self.page, 2).saturating_sub(self.slot)
+    }
+
+    // The row's code, as a part of the page.
+    // Stays: a reader may stand at the page's end, where no row is, so who asks for one shows that it is there.
+    pub fn code(self) -> &'a [u8]
+        requires { self.slot < Page.count self.page.now }
+        ensures { result.now ≡ Page.code self.entry.page.now self.entry.slot }
+    {
+        page::code_at(self.page, self.slot)
+    }
+
+    // The row's place.
+    pub fn place(self) -> Place
+        requires { self.slot < Page.count self.page.now }
+        ensures { result ≡ Places.place_from (Page.place self.entry.page.now self.entry.slot) }
+    {
+        page::read_place(self.page, self.slot)
+    }
+
+    // The reader at the next row.
+    pub fn next(self) -> Self
+        requires { self.slot < Page.count self.page.now }
+        ensures { (result.page ≡ self.entry.page) × (result.slot ≡ self.entry.slot + 1) }
+    {
+        Reader {
+            page: self.page,
+            slot: self.slot + 1,
+        }
+    }
+
+    // The reader n rows on, or at the end where fewer are left.
+    pub fn skip(self, n: usize) -> Self
+        ensures { (result.page ≡ self.entry.page) × (result.slot ≡ self.entry.slot + min (Page.count self.entry.page.now - self.entry.slot) n) }
+    {
+        Reader {
+            page: self.page,
+            slot: self.slot + self.left().min(n),
+        }
+    }
+
+    // The row, its code to the start of out.
+    pub fn give(self, out: &mut [u8]) -> Answer
+        requires { 64 ≤ length out.old }
+        ensures { Answers (nth_table self.entry.page.now self.entry.slot out.old) (meaning result, out.new) }
+    {
+        if self.page.is_empty() {
+            return Err(Refusal::BadPage(0));
+        }
+        if self.left() == 0 {
+            return Err(Refusal::NoRow);
+        }
+        let len = page::read_code(self.page, self.slot, out);
+        Ok(Done::RowOf(len, self.place()))
     }
 }
 
-// How many rows are left.
-pub fn left<'a>(r: Reader<'a>) -> usize
-    requires { Readable r.page.now }
-    ensures { result ≡ Page.count r.entry.page.now - r.entry.slot }
-{
-    slots::left_at(r.page, r.slot)
-}
-
-// The row's code, as a part of the page.
-pub fn code<'a>(r: Reader<'a>) -> &'a [u8]
-    requires { Readable r.page.now × (r.slot < Page.count r.page.now) }
-    ensures { result.now ≡ Page.code r.entry.page.now r.entry.slot }
-{
-    slots::code_at(r.page, r.slot)
-}
-
-// The row's place.
-pub fn place<'a>(r: Reader<'a>) -> Place
-    requires { Readable r.page.now × (r.slot < Page.count r.page.now) }
-    ensures { result ≡ Places.place_from (Page.place r.entry.page.now r.entry.slot) }
-{
-    slots::read_place(r.page, r.slot)
-}
-
-// The reader at the next row.
-pub fn next<'a>(r: Reader<'a>) -> Reader<'a>
-    requires { Readable r.page.now × (r.slot < Page.count r.page.now) }
-    ensures { (result.page ≡ r.entry.page) × (result.slot ≡ r.entry.slot + 1) }
-{
-    Reader {
-        page: r.page,
-        slot: slots::next_at(r.page, r.slot),
-    }
-}
-
-// The reader n rows on, or at the end where fewer are left.
-pub fn skip<'a>(r: Reader<'a>, n: usize) -> Reader<'a>
-    requires { Readable r.page.now }
-    ensures { (result.page ≡ r.entry.page) × (result.slot ≡ r.entry.slot + min (Page.count r.entry.page.now - r.entry.slot) n) }
-{
-    let end = slots::row_after(r.page, r.slot, n);
-    let mut q = r;
-    while q.slot < end {
-        q = next(q);
-    }
-    q
-}
-
-// The row, its code to the start of out.
-pub fn give<'a, 'o>(r: Reader<'a>, out: &'o mut [u8]) -> Answer
-    requires { Readable r.page.now × (64 ≤ length out.old) }
-    ensures { Answers (nth_table r.entry.page.now r.entry.slot out.old) (meaning result, out.new) }
-{
-    slots::give_at(r.page, r.slot, out)
-}
-
-// Row n of a page, with plain parameters: the reader goes there row after row.
+// Row n of a page, with plain parameters.
 pub fn nth(page: &[u8], n: usize, out: &mut [u8]) -> Answer
     requires { 64 ≤ length out.old }
     ensures { Answers (nth_table page.now n out.old) (meaning result, out.new) }
 {
-    give(skip(open(page), n), out)
+    Reader::open(page).skip(n).give(out)
 }
 
 // Inspection of one page, of any of the three lengths, with its depth.
@@ -102,7 +111,7 @@ pub fn inspect(page: &[u8], n: usize, out: &mut [u8]) -> Answer
     ensures { Answers (inspect_table (shape_for (length page.now)) fnv page.now n out.old) (meaning result, out.new) }
 {
     let z = partition::shape_for(page.len());
-    if page.len() != 8 + z.capacity {
+    if page.len() != z.size() {
         return Err(Refusal::BadLength);
     }
     if out.len() < 64 {

@@ -57,6 +57,7 @@ pub fn shape_at(i: usize) -> Shape
 }
 
 // What a size number stands for.
+// Stays: the number is the one in page 0 at 20, as document 01 has it, and no number of a step.
 pub fn shape_for(number: usize) -> Shape
     ensures { result ≡ shape_for number }
 {

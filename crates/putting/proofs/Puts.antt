@@ -7,7 +7,6 @@ use Prim.Native.Nat.{ℕ, ◌+◌, ◌-◌, ◌*◌, ◌≤◌, ◌<◌}
 use native.Mathlib.Omega.{arith}
 use native.Mathlib.Nat.{mul-le-mul_right}
 use lib.ListN.{length, get_or, take, drop, set, length-set}
-use lib.Seq.{length-take-le}
 use Rattle.ground.proofs.Tests.{none_some}
 use Rattle.ground.specs.Lists.{byte}
 use Rattle.ground.specs.Ladder.{Answers}
@@ -53,23 +52,34 @@ use Rattle.store.proofs.Accepted.Accepting.{Laid, accepted_laid, laid_becomes, r
 use Rattle.store.proofs.Counts.Counted.{over_count, over_rows, same_depth_count}
 use Rattle.counts.specs.Tallies.{CountRaised}
 use Rattle.counts.proofs.Raises.{inside_counts, counts_same, counts_more, word_kept}
-use Rattle.store.proofs.Paging.Views.{page_back, set_below, set_long}
+use Rattle.store.proofs.Paging.Views.{page_lent, page_back, set_below, set_long}
 use Rattle.directory.proofs.OnePage.{laid_set}
 use Rattle.putting.specs.Put.{new_row, Homed}
-
--- the first n of the bytes that are lent are n
-pub lent_long : (l : List ℕ) (n : ℕ) → n ≤ length l → length (take (n - 0) (drop 0 l)) ≡ n
-lent_long l n b = let e : n - 0 ≡ n = omega arith in length-take-le (n - 0) l (omega arith) ∙ e
 
 -- the store as it comes back with page p
 pub given_back : (S : Shape) (s : List ℕ) (p : ℕ) (q : List ℕ) → take (p * size S) s ++ (q ++ drop (p * size S + size S - p * size S) (drop (p * size S) s)) ≡ set_page S s p q
 given_back S s p q = page_back S s q p (p * size S) (p * size S + size S) refl refl
+
+-- page p as it is lent, and the store as it comes back with it, by the size n that was worked out
+module _ (S : Shape) (s : List ℕ) (p n : ℕ) (e : n ≡ size S) where
+  pub lent_by : take (p * n + n - p * n) (drop (p * n) s) ≡ page S s p
+  lent_by = subst (λ m. take (p * m + m - p * m) (drop (p * m) s) ≡ page S s p) (sym e) (page_lent S s p)
+
+  pub back_by : (q : List ℕ) → take (p * n) s ++ (q ++ drop (p * n + n - p * n) (drop (p * n) s)) ≡ set_page S s p q
+  back_by q = page_back S s q p (p * n) (p * n + n) (ap (λ m. p * m) e) (ap (λ m. p * n + m) e)
+
+  pub inside_by : p * size S + size S ≤ length s → p * n + n ≤ length s
+  inside_by l = subst (λ m. p * m + m ≤ length s) (sym e) l
 
 -- the page that the row's hash leads to
 pub home_page : (S : Shape) (h : List ℕ → ℕ) → Hash h → (s : List ℕ) (p : ℕ) (c pl : List ℕ) → Homed S h s p c pl → Naming S h s (top (dir_depth s) (h c)) p
 home_page S h hash s p c pl H =
     let e = H.home.names in
     subst (Naming S h s (top (dir_depth s) (h c))) e (lookup_page S h H.row.sized hash s H.row.accepted c (λ n. omega (arith, n, e, H.home.some))).0
+
+-- is there
+pub home_there : (S : Shape) (h : List ℕ → ℕ) → Hash h → (s : List ℕ) (p : ℕ) (c pl : List ℕ) → Homed S h s p c pl → p * size S + size S ≤ length s
+home_there S h hash s p c pl H = within S s p (home_page S h hash s p c pl H).to
 
 module _ (S : Shape) (h : List ℕ → ℕ) (sized : Sized S) (hash : Hash h) (s : List ℕ) (A : Accepted S h s) (c : List ℕ) (p : ℕ) (U : Naming S h s (top (dir_depth s) (h c)) p) where
   abbrev g : List ℕ

@@ -9,22 +9,29 @@ ghost use Rattle.putting.specs.Split.{slots, with_new, Appendable, AppendableIf,
 
 use super::weigh::Weight;
 
+// A row to put, as it is stored.
+#[derive(Clone, Copy)]
+pub struct NewRow<'a> {
+    pub code: &'a [u8],
+    pub place: &'a [u8],
+}
+
 // The row goes behind those of a packed page.
-fn append(page: &mut [u8], key: &[u8], place: &[u8])
-    requires { Appendable page.old key.now place.now }
-    ensures { Appended page.old (new_row key.now place.now ∷ []) page.new }
+fn append<'a, 'p>(page: &'p mut [u8], row: NewRow<'a>)
+    requires { Appendable page.old row.code.now row.place.now }
+    ensures { Appended page.old (new_row row.entry.code.now row.entry.place.now ∷ []) page.new }
 {
     let n = words::get16(page, 2);
-    page::insert_at_frontier(page, n, key, place);
+    page::insert_at_frontier(page, n, row.code, row.place);
 }
 
 // The row goes behind those of a packed page, if its hash x begins with the k bits of v.
-fn append_if(page: &mut [u8], key: &[u8], place: &[u8], x: u32, k: u32, v: u64)
-    requires { AppendableIf fnv page.old key.now place.now x k v }
-    ensures { Appended page.old (rows_of fnv (new_row key.now place.now ∷ []) k v) page.new }
+fn append_if<'a, 'p>(page: &'p mut [u8], row: NewRow<'a>, x: u32, k: u32, v: u64)
+    requires { AppendableIf fnv page.old row.code.now row.place.now x k v }
+    ensures { Appended page.old (rows_of fnv (new_row row.entry.code.now row.entry.place.now ∷ []) k v) page.new }
 {
     if partition::top_bits(x, k) == v {
-        append(page, key, place);
+        append(page, row);
     }
 }
 
@@ -34,7 +41,9 @@ fn append_slot(page: &mut [u8], from: &[u8], i: usize, x: u32, k: u32, v: u64)
     ensures { Appended page.old (rows_of fnv (as_row (row_at from.now i) ∷ []) k v) page.new }
 {
     if partition::top_bits(x, k) == v {
-        append(page, page::code_at(from, i), page::place_at(from, i));
+        let code = page::code_at(from, i);
+        let place = page::place_at(from, i);
+        append(page, NewRow { code, place });
     }
 }
 
@@ -53,19 +62,18 @@ fn append_slots(page: &mut [u8], from: &[u8], ws: &[Weight], a: usize, b: usize,
 pub struct Rows<'a> {
     pub from: &'a [u8],
     pub i: usize,
-    pub key: &'a [u8],
-    pub place: &'a [u8],
+    pub row: NewRow<'a>,
     pub ws: &'a [Weight],
 }
 
 // Those of the rows whose hashes begin with the k bits of v.
 pub fn write_bucket<'a, 'p>(page: &'p mut [u8], rows: Rows<'a>, k: u32, v: u64)
-    requires { Bucketable fnv rows.from.now rows.i rows.key.now rows.place.now rows.ws.now k v page.old }
-    ensures { Bucketed fnv (with_new rows.entry.from.now (new_row rows.entry.key.now rows.entry.place.now)) k v page.old page.new }
+    requires { Bucketable fnv rows.from.now rows.i rows.row.code.now rows.row.place.now rows.ws.now k v page.old }
+    ensures { Bucketed fnv (with_new rows.entry.from.now (new_row rows.entry.row.code.now rows.entry.row.place.now)) k v page.old page.new }
 {
     let n = words::get16(rows.from, 2);
     page::new_page(page, k as u8);
     append_slots(page, rows.from, rows.ws, 0, rows.i, k, v);
-    append_if(page, rows.key, rows.place, rows.ws[n].hash, k, v);
+    append_if(page, rows.row, rows.ws[n].hash, k, v);
     append_slots(page, rows.from, rows.ws, rows.i, n, k, v);
 }

@@ -11,6 +11,7 @@ use super::putting::put_given;
 use partition::Shape;
 
 // A code that is one gets a place with no negative part.
+// Stays: the mode is a number, handed on from put to put_row.
 pub fn put_allowed(
     s: &mut [u8],
     z: Shape,
@@ -27,6 +28,7 @@ pub fn put_allowed(
 }
 
 // A code gets a place, if it is what the mode expects.
+// Stays: the mode is a number, as in put: the batch has it from C, and put_row takes it, so that an enum would be made here and unmade below.
 pub fn put_checked(
     s: &mut [u8],
     z: Shape,

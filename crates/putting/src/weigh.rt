@@ -41,6 +41,7 @@ pub fn gather(page: &[u8], key: &[u8], ws: &mut [Weight])
 }
 
 // The need of a row, 0 where its hash does not begin with the k bits of v.
+// Stays: the 0 is a need, which is summed: no caller asks whether there is one. And k ≤ 12, here, in load and in hash_under, is top_bits' own demand of a plain number.
 fn need_of(w: Weight, k: u32, v: u64) -> u32
     requires { k ≤ 12 }
     ensures { (result ≡ pick (eqb (top k w.hash) v) w.need 0) × (result ≤ w.need) }

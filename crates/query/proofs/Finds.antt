@@ -10,7 +10,6 @@ use lib.ListN.{length, get_elem?}
 use lib.Pow.{pow_mono}
 use Rattle.ground.specs.Lists.{byte}
 use Rattle.ground.proofs.Sides.{side}
-use Rattle.words.specs.Le.{le16}
 use Rattle.hash.specs.Fnv.{fnv, fnv_lt}
 use Rattle.page.specs.Page.{BucketPage, Belongs, count, rows, code}
 use Rattle.partition.specs.Bits.{top}
@@ -23,7 +22,7 @@ use Rattle.store.specs.Pages.{size, page, as_row, rows_on, rows_held, dir_depth,
 use Rattle.store.specs.Accepted.{Accepted}
 use Rattle.store.specs.Demands.{Sized}
 use Rattle.store.proofs.Accepted.Rules.{Opened, opened}
-use Rattle.store.proofs.Accepted.Unique.{read_used, within}
+use Rattle.store.proofs.Accepted.Unique.{read_used, within, page_long}
 use Rattle.store.proofs.Paging.Depths.{page_byte}
 use Rattle.store.proofs.Accepted.Reading.{entry_of, Naming, naming, lookup_none, lookup_page}
 use Rattle.store.proofs.Paging.PageTies.{found_at, found_not}
@@ -144,41 +143,38 @@ module _ (S : Shape) (sz : Sized S) (s : List ℕ) (a : Accepted S fnv s) (n : �
   pub entry_low : (i : ℕ) → i < 2 ^ d → i < S.entries
   entry_low i l = let m : 2 ^ d ≤ 2 ^ S.deepest = pow_mono (shallow S sz s a) in omega (arith, sz.deep)
 
-  module _ (i left : ℕ) (l : i < 2 ^ d) (z : entry_at S s i ≡ 0 → ⊥) (f : From S s n i left) where
+  -- p is the page that entry i names
+  module _ (i p : ℕ) (l : i < 2 ^ d) (e : p ≡ entry_at S s i) (z : p ≡ 0 → ⊥) where
     abbrev q : ℕ
     q = entry_at S s i
 
     named : Naming S fnv s i q
-    named = naming S fnv sz fnv_lt s a i (entry_low i l) z
+    named = naming S fnv sz fnv_lt s a i (entry_low i l) (λ o. z (e ∙ o))
 
-    pub page_inside : q * size S + size S ≤ length s
-    page_inside = within S s q named.to
+    pub page_inside : p * size S + size S ≤ length s
+    page_inside = subst (λ p. p * size S + size S ≤ length s) (sym e) (within S s q named.to)
 
-    pub page_deep : byte s (q * size S + 1) ≤ d
-    page_deep = subst (λ m. m ≤ d) (page_byte S s q 1 (omega arith)) named.low
+    pub page_head : 4 ≤ length (page S s p)
+    page_head = subst (λ p. 4 ≤ length (page S s p)) (sym e) (omega (arith, page_long S s q named.to, sz.least))
 
-    rows_many : le16 s (q * size S + 2) ≡ count (page S s q)
-    unfolding le16
-    rows_many =
-        let e₃ : byte s (q * size S + 2 + 1) ≡ byte s (q * size S + 3) = ap (byte s) (omega arith) in
-        omega (arith, page_byte S s q 2 (omega arith), page_byte S s q 3 (omega arith))
+    pub page_deep : byte s (p * size S + 1) ≤ d
+    page_deep = subst (λ p. byte s (p * size S + 1) ≤ d) (sym e) (subst (λ m. m ≤ d) (page_byte S s q 1 (omega arith)) named.low)
 
-    pub from_here : left < le16 s (q * size S + 2) → Listed S s n (Some (record { page = q; slot = left }))
-    from_here m =
-        let b : left < count (page S s q) = omega (arith, rows_many) in
-        (record { from = named.from; within = page_inside; rules = named.bytes.rules; slot = b }, first_of i left f ∙ walk_here S fnv sz fnv_lt s a i left l z f.starts b)
+    module _ (left : ℕ) (f : From S s n i left) where
+      pub from_here : left < count (page S s p) → Listed S s n (Some (record { page = p; slot = left }))
+      from_here = subst (λ p. left < count (page S s p) → Listed S s n (Some (record { page = p; slot = left }))) (sym e)
+          (λ b. (record { from = named.from; within = within S s q named.to; rules = named.bytes.rules; slot = b }, first_of i left f ∙ walk_here S fnv sz fnv_lt s a i left l (λ o. z (e ∙ o)) f.starts b))
 
-    pub from_along : Along S s n q left
-    from_along j b = f.here j ∙ walk_here S fnv sz fnv_lt s a i (left + j) l z f.starts b
+      pub from_along : Along S s n p left
+      from_along = subst (λ p. Along S s n p left) (sym e) (λ j b. f.here j ∙ walk_here S fnv sz fnv_lt s a i (left + j) l (λ o. z (e ∙ o)) f.starts b)
 
-    pub from_past : (w : ℕ) → w ≡ 2 ^ (d - byte s (q * size S + 1)) → le16 s (q * size S + 2) ≤ left → From S s n (i + w) (left - le16 s (q * size S + 2))
-    from_past w e m =
-        let b : count (page S s q) ≤ left = omega (arith, rows_many) in
-        let v = walk_page S fnv sz fnv_lt s a i l z f.starts in
-        let y : behind S s i ≡ i + w = ap (λ m. i + 2 ^ (d - m)) (page_byte S s q 1 (omega arith)) ∙ ap (λ m. i + m) (sym e) in
-        subst (λ j. From S s n j (left - le16 s (q * size S + 2))) y (record {
-          here = λ j. let e : left + j - count (page S s q) ≡ left - le16 s (q * size S + 2) + j = omega (arith, rows_many) in
-              f.here j ∙ walk_past S fnv sz fnv_lt s a i (left + j) l z f.starts (omega arith) ∙ ap (get_elem? (walk_from S fnv s (behind S s i))) e;
-          starts = v.2;
-          most = v.3;
-        })
+      pub from_past : (w : ℕ) → w ≡ 2 ^ (d - byte s (p * size S + 1)) → count (page S s p) ≤ left → From S s n (i + w) (left - count (page S s p))
+      from_past = subst (λ p. (w : ℕ) → w ≡ 2 ^ (d - byte s (p * size S + 1)) → count (page S s p) ≤ left → From S s n (i + w) (left - count (page S s p))) (sym e) (λ w u m.
+          let v = walk_page S fnv sz fnv_lt s a i l (λ o. z (e ∙ o)) f.starts in
+          let y : behind S s i ≡ i + w = ap (λ m. i + 2 ^ (d - m)) (page_byte S s q 1 (omega arith)) ∙ ap (λ m. i + m) (sym u) in
+          subst (λ j. From S s n j (left - count (page S s q))) y (record {
+            here = λ j. let k : left + j - count (page S s q) ≡ left - count (page S s q) + j = omega (arith, m) in
+                f.here j ∙ walk_past S fnv sz fnv_lt s a i (left + j) l (λ o. z (e ∙ o)) f.starts (omega (arith, m)) ∙ ap (get_elem? (walk_from S fnv s (behind S s i))) k;
+            starts = v.2;
+            most = v.3;
+          }))

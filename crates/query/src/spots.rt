@@ -20,7 +20,7 @@ pub fn entry_of(s: &[u8], z: Shape, x: u32) -> usize
 {
     let d = words::get32(s, 16) as u32;
     let i = partition::top_bits(x, d) as usize;
-    words::get32(s, 8 + z.capacity + 4 * i)
+    words::get32(s, z.size() + 4 * i)
 }
 
 // Where the row of a code of the hash x stands.
@@ -63,27 +63,22 @@ pub fn next_row(s: &[u8], z: Shape, c: Cursor) -> Option<(Spot, Cursor)>
     let end = partition::two_to(d);
     let mut left = c.slot;
     let mut i = c.entry;
+    // Stays: it goes on by as many entries as a page has, which no range does.
     while i < end {
-        let size = 8 + z.capacity;
-        let p = words::get32(s, size + 4 * i);
-        if p == 0 {
+        let page = words::get32(s, z.size() + 4 * i);
+        if page == 0 {
             i += 1;
         } else {
-            let a = p * size;
-            let k = words::get16(s, a + 2);
+            let k = words::get16(store::page_at(s, z, page), 2);
             if left < k {
-                let spot = Spot {
-                    page: p,
-                    slot: left,
-                };
                 let behind = Cursor {
                     entry: i,
                     slot: left + 1,
                 };
-                return Some((spot, behind));
+                return Some((Spot { page, slot: left }, behind));
             }
             left -= k;
-            i += entries_of(s, a, d);
+            i += entries_of(s, page * z.size(), d);
         }
     }
     None

@@ -15,17 +15,18 @@ ghost use Rattle.removal.specs.Remove.{Leaving};
 use directory::{name_prefix, settle_depth};
 use joining::{climb, join_lent};
 use partition::Shape;
+use query::Spot;
 
-// The row of the code of the hash x, which is that of slot i of page p, goes: its page loses the record, is cleared, or is joined with others.
-fn take_out(s: &mut [u8], z: Shape, p: usize, i: usize, key: &[u8], x: u32)
-    requires { Leaving z fnv s.old p i key.now × (x ≡ fnv key.now) }
+// The row of the code of the hash x, which is that at a spot, goes: its page loses the record, is cleared, or is joined with others.
+fn take_out(s: &mut [u8], z: Shape, at: Spot, key: &[u8], x: u32)
+    requires { Leaving z fnv s.old at.page at.slot key.now × (x ≡ fnv key.now) }
     ensures { Becomes z fnv s.old (removed z fnv (contents z s.old) key.now) s.new }
 {
-    let size = 8 + z.capacity;
+    let size = z.size();
     let n = s.len() / size;
-    let a = p * size;
-    let e = a + size;
-    let k = s[a + 1] as u32;
+    let start = at.page * size;
+    let end = start + size;
+    let k = s[start + 1] as u32;
     let j = climb(s, z, x, k, 12 + key.len());
     let d = words::get32(s, 16);
     if j < k {
@@ -35,18 +36,16 @@ fn take_out(s: &mut [u8], z: Shape, p: usize, i: usize, key: &[u8], x: u32)
         name_prefix(s, z, x, j, d as u32, low);
         counts::write_counted(s, tallies, rows - 1);
         settle_depth(s, z, n, d, d);
-        return;
-    }
-    if words::get16(&s[a..e], 2) == 1 {
-        page::clear_page(&mut s[a..e]);
+    } else if words::get16(store::page_at(s, z, at.page), 2) == 1 {
+        page::clear_page(&mut s[start..end]);
         name_prefix(s, z, x, k, d as u32, 0);
         counts::lower(s, 0);
         counts::lower(s, 1 + k as usize);
         settle_depth(s, z, n, d, d);
-        return;
+    } else {
+        page::remove_slot(&mut s[start..end], at.slot);
+        counts::lower(s, 0);
     }
-    page::remove_slot(&mut s[a..e], i);
-    counts::lower(s, 0);
 }
 
 // Remove of a code as it is stored, on an accepted store.
@@ -57,7 +56,7 @@ pub fn remove_row(s: &mut [u8], z: Shape, key: &[u8]) -> store::Answer
     let x = hash::hash(key);
     let spot = query::find_row(s, z, key, x).ok_or(store::Refusal::NoCode)?;
     let old = page::read_place(store::page_at(s, z, spot.page), spot.slot);
-    take_out(s, z, spot.page, spot.slot, key, x);
+    take_out(s, z, spot, key, x);
     Ok(store::Done::Found(old))
 }
 

@@ -1,15 +1,15 @@
 -- The three parts of a place joined in one signed word, as the code joins them: a negative part makes the word negative, and without one the word is the rank. Assumes nothing.
 use Prim.Native.Nat.{ℕ, zero, suc, ◌+◌, ◌*◌, ◌-◌, ◌<◌, ◌≤◌, ◌^◌}
-use mathlib.Core.Path.{◌≡◌, refl, sym, subst, ap, ◌∙◌}
+use mathlib.Core.Path.{◌≡◌, refl, sym, ap, ◌∙◌}
 use mathlib.Core.Bool.{Bool, true, false}
 use native.Mathlib.Omega.{arith}
 use lib.Bits.{bit_or, or_add_and, and_le_l, and_le_r, or_shifted}
 use lib.Dec.{T, leb, ltb, ltb→lt, nltb→le}
-use lib.IntN.{ℤ, pos, negsuc, neg_ℤ, nat_abs, ◌*ℤ◌}
-use lib.Signed.{mag, lt_z, non_neg}
+use lib.IntN.{ℤ, pos, negsuc, neg_ℤ, ◌*ℤ◌}
+use lib.Signed.{mag, lt_z}
 use mir.Syntax.{Width, w16, w32, w64}
-use mir.Val.{Fits, SFits, to_z, of_z, hbits, sel}
-use mir.Facts.{to_z-of_z, to_z_pos, sfits_widen}
+use mir.Val.{SFits, to_z, of_z, hbits, sel}
+use mir.Facts.{to_z-of_z, sfits_widen}
 use Rattle.report.specs.Numbers.{outside, nat_part, ranked}
 use Rattle.report.proofs.Ranks.{holds, fails, nat_part_neg, nat_part_low, pack_a, pack_b, pack_c, pack_in}
 
@@ -22,9 +22,6 @@ times x m = of_z w64 (to_z w64 x *ℤ to_z w64 m)
 
 abbrev pub joined : ℤ → ℤ → ℤ → ℕ
 joined a b c = bit_or (bit_or (times (wide w32 a) 4294967296) (times (wide w16 b) 65536)) (wide w16 c)
-
-pub wide_fits : (w : Width) (z : ℤ) → T (leb (hbits w) 63) → SFits w z → SFits w64 (to_z w (of_z w z))
-wide_fits w z t f = subst (SFits w64) (sym (to_z-of_z f)) (sfits_widen t f)
 
 wide_is : (w : Width) (z : ℤ) → SFits w z → wide w z ≡ of_z w64 z
 wide_is w z f = ap (of_z w64) (to_z-of_z f)
@@ -53,12 +50,6 @@ page_part a f = let l : mag a < 2147483648 = f.sfits in product a 4294967296 (om
 
 slot_part : (b : ℤ) → SFits w16 b → Product b 65536
 slot_part b f = let l : mag b < 32768 = f.sfits in product b 65536 (omega (arith, l)) (omega arith) (omega (arith, l))
-
-pub page_fits : (a : ℤ) → SFits w32 a → SFits w64 (to_z w64 (wide w32 a) *ℤ to_z w64 4294967296)
-page_fits a f = subst (λ (z : ℤ). SFits w64 (z *ℤ pos 4294967296)) (sym (read_back w32 a tt f)) (page_part a f).fits
-
-pub slot_fits : (b : ℤ) → SFits w16 b → SFits w64 (to_z w64 (wide w16 b) *ℤ to_z w64 65536)
-slot_fits b f = subst (λ (z : ℤ). SFits w64 (z *ℤ pos 65536)) (sym (read_back w16 b tt f)) (slot_part b f).fits
 
 -- a part as it is
 minus_one : (c : ℤ) → SFits w16 c → lt_z c (pos 0) ≡ true → 9223372036854775808 ≤ of_z w64 c
@@ -90,9 +81,6 @@ low x f = low_when x (ltb x 9223372036854775808) (negsuc (2 ^ 64 - suc x)) refl 
 
 pub high : (x : ℕ) → lt_z (to_z w64 x) (pos 0) ≡ true → 9223372036854775808 ≤ x
 high x f = high_when x (ltb x 9223372036854775808) (negsuc (2 ^ 64 - suc x)) refl f
-
-pub natural : (x : ℕ) → x < 9223372036854775808 → T (non_neg (to_z w64 x)) × Fits w64 (nat_abs (to_z w64 x))
-natural x l = subst (λ (z : ℤ). T (non_neg z) × Fits w64 (nat_abs z)) (sym (to_z_pos w64 l)) (tt, record { fits = omega (arith, l) })
 
 -- ---- the word is the rank
 

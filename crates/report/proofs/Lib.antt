@@ -1,5 +1,4 @@
 pub mod Upto
-pub mod Room
 pub mod Ranks
 pub mod Searched
 pub mod Runs

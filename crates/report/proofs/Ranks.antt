@@ -4,7 +4,7 @@ use mathlib.Core.Path.{◌≡◌, refl, sym, subst, ap, ◌∙◌}
 use mathlib.Core.Bool.{Bool, true, false, cond, not, ◌&&◌}
 use mathlib.Core.List.{List}
 use native.Mathlib.Omega.{arith}
-use lib.Dec.{T, leb, ltb, eqb, ltb→lt, nleb→lt, leb→le, le→leb, lt→ltb, eqb_refl, eqb→eq, not_T}
+use lib.Dec.{T, leb, ltb, eqb, ltb→lt, leb→le, le→leb, lt→ltb, eqb_refl, eqb→eq, not_T}
 use lib.Arith.{lt→nleb, le→nltb}
 use lib.ListN.{length, set}
 use lib.IntN.{ℤ, pos, negsuc, nat_abs, ◌+ℤ◌}
@@ -70,14 +70,6 @@ pack_c a b c h l k = sym (pack_when a b c false h l (lt_no c 32768 k))
 pub pack_in : (a b c : ℕ) → a < 2147483648 → b < 32768 → c < 32768 → a * 4294967296 + b * 65536 + c ≡ ranked a b c
 pack_in a b c h l k = sym (pack_when a b c true h l (lt_yes c 32768 k))
 
-pub raise_low : (c : ℤ) → le_z (negsuc 999999999999) c ≡ false → outside ≡ raise_cents c
-raise_low (pos n) e = absurd (fails e)
-raise_low (negsuc n) e = let l : 999999999999 < n = nleb→lt n 999999999999 (fails e) in sym (ap (λ (t : Bool). cond t (1000000000000 - suc n) outside) (lt_no n 1000000000000 (omega arith)))
-
-pub raise_high : (c : ℤ) → le_z c (pos 1000000000000) ≡ false → outside ≡ raise_cents c
-raise_high (pos n) e = sym (ap (λ (t : Bool). cond t (n + 1000000000000) outside) e)
-raise_high (negsuc n) e = absurd (fails e)
-
 -- an amount in range, and 10^12 more
 pub record Raised (c : ℤ) : Type 0 where
   pub ok : T (non_neg (c +ℤ pos 1000000000000))
@@ -110,12 +102,6 @@ and_no false = refl
 module _ (fl : List ℕ) (i : ℕ) (r : SheetRow) where
   abbrev by_test : Bool → List ℕ
   by_test t = cond t (set (set fl i (rank (place_in r))) (limit + i) (raise_cents r.cents)) fl
-
-  pub laid_far : limit ≤ i → fl ≡ laid fl i r
-  laid_far l = sym (ap (λ (t : Bool). by_test (t && eqb (length fl) (2 * limit))) (lt_no i limit l))
-
-  pub laid_odd : eqb (length fl) (2 * limit) ≡ false → fl ≡ laid fl i r
-  laid_odd e = sym (ap (λ (t : Bool). by_test (ltb i limit && t)) e ∙ ap by_test (and_no (ltb i limit)))
 
   pub laid_in : i < limit → eqb (length fl) (2 * limit) ≡ true → set (set fl i (rank (place_in r))) (limit + i) (raise_cents r.cents) ≡ laid fl i r
   laid_in l e = sym (ap (λ (t : Bool). by_test (t && eqb (length fl) (2 * limit))) (lt_yes i limit l) ∙ ap by_test e)

@@ -27,6 +27,9 @@ pub const LIMIT: usize = 200000;
 // What no rank and no raised amount is.
 pub const OUTSIDE: u64 = 1 << 63;
 
+// The highest amount, by which each is raised.
+const HIGHEST: i64 = 1_000_000_000_000;
+
 // The most that a raised amount is: two times what it is raised by.
 pub const MOST_RAISED: u64 = 2_000_000_000_000;
 

@@ -3,7 +3,7 @@ ghost use Rattle.std.specs.Prelude.{◌≡◌, ◌<◌, length};
 ghost use Rattle.report.specs.Named.{LaidSheet, Markable, Marks, ranked_place, TellsMark};
 
 use super::answer::lower;
-use super::tally::tally;
+use super::tally::{Numbers, tally};
 use crate::{Counted, LIMIT, NamedRow};
 use page::Place;
 use partition::Shape;
@@ -44,5 +44,9 @@ pub fn mark_rows(s: &[u8], z: Shape, flat: &[u64], counts: &mut [u8]) -> Result<
 {
     let n = counts.len();
     let e = LIMIT + n;
-    tally(s, z, &flat[..n], &flat[LIMIT..e], counts)
+    let sheet = Numbers {
+        ranks: &flat[..n],
+        raised: &flat[LIMIT..e],
+    };
+    tally(s, z, sheet, counts)
 }

@@ -15,5 +15,6 @@ pub struct Sheet {
     // the line that is being read: how many came before it, how much of it is there, whether it is too long
     pub number: usize,
     pub fill: usize,
+    // Stays: specs/Laying:BytesRead and SheetRoom speak of the fill of a line that is too long, too.
     pub over: bool,
 }

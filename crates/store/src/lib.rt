@@ -40,6 +40,7 @@ pub enum Refusal {
 }
 
 // A refusal in numbers: its own, and the page number that it carries, 0 for none.
+// Stays: Numbered (specs/Tables) gives page 0 to a refusal that carries none, as the C header has it.
 #[derive(Clone, Copy)]
 pub struct Numbers {
     pub number: u32,
@@ -85,6 +86,7 @@ pub fn page_at(s: &[u8], z: Shape, p: usize) -> &[u8]
 }
 
 // The local depth of page p, 0 for a free page.
+// Stays: depth_on (specs/Pages), by which the greatest depth is defined, is 0 there.
 fn depth_of(s: &[u8], z: Shape, p: usize) -> usize
     requires { p * size z + size z ≤ length s.now }
     ensures { (result ≡ depth_on (read (page z s.now p))) × (result < 256) }
@@ -97,6 +99,7 @@ fn depth_of(s: &[u8], z: Shape, p: usize) -> usize
 }
 
 // The largest bucket depth of a store of n pages, 0 for no rows.
+// Stays: so document 01 has the directory's depth, and deepest_in (specs/Pages) with it: a depth, and no sign for none.
 pub fn deepest(s: &[u8], z: Shape, n: usize) -> usize
     requires { (length s.now ≡ n * size z) × (2 ≤ n) }
     ensures { (result ≡ deepest_in (contents z s.now)) × (result < 256) }

@@ -7,7 +7,7 @@ use Prim.Native.Nat.{ℕ, suc, ◌+◌, ◌-◌, ◌*◌, ◌/◌, ◌^◌, ◌�
 use native.Mathlib.Omega.{arith}
 use lib.Dec.{eqb}
 use borrow.Author.Tests.{eq-eqb, ne_eqb}
-use lib.ListN.{length, get_or, set, take, drop, get_or-eq_default}
+use lib.ListN.{length, get_or, set, get_or-eq_default}
 use Rattle.ground.specs.Lists.{byte, total}
 use Rattle.ground.proofs.Sides.{same, side}
 use Rattle.ground.proofs.Tables.{total_same}
@@ -36,7 +36,6 @@ use Rattle.store.proofs.Showing.Shown.{free_not}
 use Rattle.store.proofs.Showing.Showing.{pages_held}
 use Rattle.store.proofs.Paging.Depths.{page_byte}
 use Rattle.store.proofs.Paging.PageTies.{page_needs}
-use Rattle.store.proofs.Paging.Views.{page_lent}
 use Rattle.store_check.specs.Begun.{AllStand}
 use Rattle.store_check.specs.Heaps.{heap, below, Heaped}
 use Rattle.store_check.specs.Digest.{Legible, LoadOf, Hashed, Celled, Digest, first_of, hash_at, top_at, load_at}
@@ -56,11 +55,8 @@ stands_is : (S : Shape) (s : List ℕ) (p : ℕ) → Stands S fnv s p → Zero (
 stands_is S s p (unused z _) = inl z
 stands_is S s p (used b _ _) = inr b.rules
 
-readable : (S : Shape) (s : List ℕ) (n p : ℕ) → AllStand S s n → 2 ≤ p → p < n → Legible (page S s p)
-readable S s n p T a b = record { long = omega (arith, page_long S s p (omega (arith, T.number))); short = omega (arith, page_long S s p (omega (arith, T.number)), T.sized.most); is = stands_is S s p (T.each p a b) }
-
-pub legible : (S : Shape) (s : List ℕ) (n p : ℕ) → AllStand S s n → 2 ≤ p → p < n → Legible (take (p * size S + size S - p * size S) (drop (p * size S) s))
-legible S s n p T a b = subst Legible (sym (page_lent S s p)) (readable S s n p T a b)
+pub legible : (S : Shape) (s : List ℕ) (n p : ℕ) → AllStand S s n → 2 ≤ p → p < n → Legible (page S s p)
+legible S s n p T a b = record { long = omega (arith, page_long S s p (omega (arith, T.number))); short = omega (arith, page_long S s p (omega (arith, T.number)), T.sized.most); is = stands_is S s p (T.each p a b) }
 
 pub first_free : (g : List ℕ) → byte g 0 ≡ 0 → first_of g ≡ 0
 first_free g e = ap (λ b. pick b 0 (fnv (code g 0))) (eq-eqb (byte g 0) 0 e)
@@ -111,7 +107,7 @@ module _ (S : Shape) (s : List ℕ) (n : ℕ) (T : AllStand S s n) where
   -- no page needs more than the room of the largest size
   load_most : (i : ℕ) → i < n - 2 → load_at S s i ≤ 16376
   load_most i l =
-      let L : Legible (page S s (i + 2)) = readable S s n (i + 2) T (omega arith) (omega arith) in
+      let L : Legible (page S s (i + 2)) = legible S s n (i + 2) T (omega arith) (omega arith) in
       let m = page_long S s (i + 2) (omega (arith, T.number)) in
       ⊎_elim (λ z. let y = load_free _ L z in omega (arith, y.0)) (λ nz. let y = load_used _ L nz _ refl in omega (arith, y.1.0, y.1.1, m, T.sized.most)) (same (byte (page S s (i + 2)) 0) 0)
 

@@ -14,6 +14,7 @@ use Rattle.store.specs.Pages.{page, dir_depth, entry_at}
 use Rattle.store.specs.Accepted.{Bucket, Calls, Stands, unused, used}
 use Rattle.store_check.specs.Directory.{NamesCounted, Named}
 use Rattle.words.specs.Zeros.{Zero}
+use Rattle.std.specs.Prelude.{Some}
 use Rattle.store_check.specs.First.{FirstBad}
 use Rattle.store_check.specs.Begun.{Begun, FreeAndUnnamed, Own}
 use Rattle.store_check.proofs.Naming.{room, unnamed, none_named}
@@ -91,8 +92,5 @@ module _ (S : Shape) (s dir counts : List ℕ) (n d p : ℕ) (B : Begun S s dir 
 
 -- the first bad page, where page p is the first not passed
 module _ (n : ℕ) (P : ℕ → Type 0) where
-  pub ends_bad : (p : ℕ) → 2 ≤ p → p ≤ n → ((q : ℕ) → q < p → 2 ≤ q → P q) → (P p → ⊥) → FirstBad n P p
-  ends_bad p a b before bad = record { within = b; start = a; before = before; bad = λ _. bad }
-
-  pub ends_fine : (p : ℕ) → 2 ≤ p → p ≤ n → n ≤ p → ((q : ℕ) → q < p → 2 ≤ q → P q) → FirstBad n P n
-  ends_fine p a b c before = record { within = omega arith; start = omega arith; before = λ q l. before q (omega arith); bad = λ l. absurd (omega arith) }
+  pub ends_bad : (p : ℕ) → 2 ≤ p → p < n → ((q : ℕ) → q < p → 2 ≤ q → P q) → (P p → ⊥) → FirstBad n P (Some p)
+  ends_bad p a b before bad = (b, record { within = omega arith; start = a; before = before; bad = λ _. bad })

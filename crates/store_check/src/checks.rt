@@ -15,13 +15,13 @@ use super::parted::first_joinable;
 use partition::Shape;
 use store::Refusal;
 
-// The page at which the check stops by the rules before there were counts, page 0 zero from an offset on, or the number of pages.
+// The page at which the check stops by the rules before there were counts, page 0 zero from an offset on; none where these are kept.
 // Its tables are as long as the store's size asks, so that a small store clears no table of a larger one.
 fn judge<const ENTRIES: usize, const PAGES: usize, const SUMS: usize, const SIZE: usize>(
     s: &[u8],
     z: Shape,
     zeros: usize,
-) -> usize
+) -> Option<usize>
     requires { Checkable z s.now zeros (replicate ENTRIES 0) (replicate PAGES 0) (replicate PAGES 0) (replicate SUMS 0) (replicate SIZE 0) }
     ensures { JudgedFrom zeros z fnv s.now result }
 {
@@ -32,34 +32,33 @@ fn judge<const ENTRIES: usize, const PAGES: usize, const SUMS: usize, const SIZE
     let mut tab = [0u8; SIZE];
     let n = s.len() / (8 + z.capacity);
     if !page0_ok(s, z, n, zeros) {
-        return 0;
+        return Some(0);
     }
     let d = words::get32(s, 16) as u32;
     let m = partition::two_to(d);
     if !page1_ok(s, z, n, m, &mut dir) {
-        return 1;
+        return Some(1);
     }
     tally(&dir, m, &mut counts);
-    let p = first_unsound(s, z, &dir, &counts, n, d, &mut tab, &mut hashes);
-    if p < n {
-        return p;
+    if let Some(p) = first_unsound(s, z, &dir, &counts, n, d, &mut tab, &mut hashes) {
+        return Some(p);
     }
     // no bucket is divided, and none deeper than the directory
     if d == 0 {
-        return n;
+        return None;
     }
-    let q = first_joinable(s, z, n, &hashes, &mut sums);
-    if q < n {
-        return q;
+    if let Some(p) = first_joinable(s, z, n, &hashes, &mut sums) {
+        return Some(p);
     }
     if store::deepest(s, z, n) != d as usize {
-        return 0;
+        return Some(0);
     }
-    n
+    None
 }
 
-// The page at which the check stops by the rules before there were counts.
-fn judge_sized(s: &[u8], z: Shape, zeros: usize) -> usize
+// The page at which the check stops by the rules before there were counts; none where they are kept.
+// Stays: here and below s and its size z are two, with a requires of both: docs/PROMISES.md names first_bad and first_bad_before, whose parameters these are.
+fn judge_sized(s: &[u8], z: Shape, zeros: usize) -> Option<usize>
     requires { (z ≡ shape_of s.now) × Judgeable z s.now zeros }
     ensures { JudgedFrom zeros z fnv s.now result }
 {
@@ -83,10 +82,9 @@ pub fn first_bad(s: &[u8], z: Shape) -> Option<usize>
     requires { (z ≡ shape_of s.now) × GoodLength z s.now }
     ensures { Judged z fnv s.now result }
 {
-    let n = s.len() / (8 + z.capacity);
-    let bad = judge_sized(s, z, 80);
-    if bad < n {
-        return Some(bad);
+    let n = s.len() / z.size();
+    if let Some(p) = judge_sized(s, z, 80) {
+        return Some(p);
     }
     if !counts_ok(s, z, n) {
         return Some(0);
@@ -99,11 +97,7 @@ pub fn first_bad_before(s: &[u8], z: Shape) -> Option<usize>
     requires { (z ≡ shape_of s.now) × GoodLength z s.now }
     ensures { JudgedBefore z fnv s.now result }
 {
-    let bad = judge_sized(s, z, 24);
-    if bad < s.len() / (8 + z.capacity) {
-        return Some(bad);
-    }
-    None
+    judge_sized(s, z, 24)
 }
 
 // Lets a store pass that keeps every rule; refused with the page at which the check stops.

@@ -1,7 +1,7 @@
 // The directory, read once, and runs of its entries.
 ghost use Rattle.std.specs.Prelude.{◌≡◌, true, ◌≤◌, length};
 ghost use Rattle.ground.specs.Says.{Says};
-ghost use Rattle.store_check.specs.Directory.{Roomy, PageOneAsked, Entries, EntriesTo, AllAre, NoneIs, AllBelow, EntriesInRange, Uncounted, NamesCounted, NamingAsked, Named};
+ghost use Rattle.store_check.specs.Directory.{Roomy, PageOneAsked, Entries, EntriesTo, EntriesInRange, Uncounted, NamesCounted, NamingAsked, Named};
 ghost use Rattle.store.specs.Accepted.{Page1};
 ghost use Rattle.partition.specs.Bits.{top};
 
@@ -17,36 +17,12 @@ fn entries(s: &[u8], z: Shape, m: usize, dir: &mut [u32])
     }
 }
 
-// Whether all entries from a up to b are x.
-fn all_are(dir: &[u32], a: usize, b: usize, x: u32) -> bool
-    requires { (a ≤ b) × (b ≤ length dir.now) }
-    ensures { Says result (AllAre dir.now a b x) }
-{
-    dir[a..b].iter().all(|e| *e == x)
-}
-
-// Whether none of the entries from a up to b is x.
-fn none_is(dir: &[u32], a: usize, b: usize, x: u32) -> bool
-    requires { (a ≤ b) × (b ≤ length dir.now) }
-    ensures { Says result (NoneIs dir.now a b x) }
-{
-    dir[a..b].iter().all(|e| *e != x)
-}
-
-// Whether all entries from a up to b are below n.
-fn all_below(dir: &[u32], a: usize, b: usize, n: u32) -> bool
-    requires { (a ≤ b) × (b ≤ length dir.now) }
-    ensures { Says result (AllBelow dir.now a b n) }
-{
-    dir[a..b].iter().all(|e| *e < n)
-}
-
 // Whether the entries up to m are in range for n pages.
 fn ranges(dir: &[u32], n: u32, m: usize) -> bool
     requires { m ≤ length dir.now }
     ensures { Says result (EntriesInRange dir.now n m) }
 {
-    none_is(dir, 0, m, 1) && all_below(dir, 0, m, n)
+    dir[..m].iter().all(|e| *e != 1 && *e < n)
 }
 
 // Whether page 1 keeps its rules, with m entries in use, and if so the entries: those behind are looked at as bytes, not read.
@@ -64,6 +40,7 @@ pub fn page1_ok(s: &[u8], z: Shape, n: usize, m: usize, dir: &mut [u32]) -> bool
 }
 
 // How many of the entries up to m name each page.
+// Stays: dir is by the entry and counts by the page, so that they are two arrays of two lengths.
 pub fn tally(dir: &[u32], m: usize, counts: &mut [u32])
     requires { Uncounted dir.now counts.old m }
     ensures { NamesCounted dir.now m (length counts.old) counts.new }
@@ -74,10 +51,11 @@ pub fn tally(dir: &[u32], m: usize, counts: &mut [u32])
 }
 
 // Whether page p is named by exactly the entries that the first k bits of the hash x call for, in a directory of depth d: all of them, and as many as name p.
+// Stays: dir is by the entry and counts by the page.
 pub fn named(dir: &[u32], counts: &[u32], d: u32, k: u32, x: u32, p: u32) -> bool
     requires { NamingAsked dir.now counts.now d k p }
     ensures { Says result (Named dir.now d k (top k x) p) }
 {
     let run = partition::run_of(x, k, d);
-    counts[p as usize] as usize == run.len() && all_are(dir, run.start, run.end, p)
+    counts[p as usize] as usize == run.len() && dir[run].iter().all(|e| *e == p)
 }

@@ -12,7 +12,7 @@ fn good_length(s: &[u8], z: Shape) -> bool
     requires { Sized z }
     ensures { Says result (GoodLength z s.now) }
 {
-    let size = 8 + z.capacity;
+    let size = z.size();
     let n = s.len() / size;
     s.len() % size == 0 && (3..=z.entries + 2).contains(&n)
 }
@@ -36,7 +36,7 @@ pub fn page0_ok(s: &[u8], z: Shape, n: usize, zeros: usize) -> bool
     requires { HeadAsked z s.now n zeros }
     ensures { Says result (Page0From zeros z s.now) }
 {
-    let size = 8 + z.capacity;
+    let size = z.size();
     words::get32(s, 0) == n
         && words::get32(s, 4) == size
         && words::get32(s, 8) == z.entries

@@ -1,5 +1,6 @@
 // Pass 1: pages 2 upward, each for its own bytes, its depth and the entries that name it.
 ghost use Rattle.std.specs.Prelude.{◌≡◌, ◌≤◌, length, get_or};
+ghost use Rattle.std.specs.Option.{unwrap_or};
 ghost use Rattle.ground.specs.Says.{Says};
 ghost use Rattle.words.specs.Zeros.{Zero};
 ghost use Rattle.hash.specs.Fnv.{fnv};
@@ -13,6 +14,7 @@ use super::entry_runs::named;
 use partition::Shape;
 
 // The first page from p up to q that is named, or q.
+// Stays: q is where skip_free's run of zeros ends, the first page that is not free: as much an answer as a page that is named.
 fn first_named(counts: &[u32], p: usize, q: usize) -> usize
     requires { (p ≤ q) × (q ≤ length counts.now) }
     ensures { FirstFrom p q (λ k. get_or counts.now k 0 ≡ 0) result }
@@ -26,11 +28,12 @@ fn first_named(counts: &[u32], p: usize, q: usize) -> usize
 }
 
 // The first page from p on that is not free or is named, or the number of pages. Free pages are passed over as one run of zeros, not page by page.
+// Stays: a number is where first_unsound goes on, there or at the end; an option would be taken apart again at once, its none for that number.
 fn skip_free(s: &[u8], z: Shape, counts: &[u32], p: usize) -> usize
     requires { SkipAsked z s.now counts.now p }
     ensures { FirstFrom p (pages z s.now) (λ k. FreeAndUnnamed (page z s.now k) counts.now k) result }
 {
-    let size = 8 + z.capacity;
+    let size = z.size();
     first_named(counts, p, words::zeros_end(s, p * size) / size)
 }
 
@@ -43,7 +46,8 @@ fn own_ok(pg: &[u8], tab: &mut [u8], d: u32) -> bool
     page_check::page_ok(pg, tab) && u32::from(pg[1]) <= d
 }
 
-// The first page that does not stand, or n; and the first hash of each page before it. tab is as for page_check::page_ok.
+// The first page that does not stand, none where all do; and the first hash of each page before it. tab is as for page_check::page_ok.
+// Stays: dir, counts and hashes side by side: one has as many numbers as the directory has entries, the others two more, for pages.
 pub fn first_unsound(
     s: &[u8],
     z: Shape,
@@ -53,28 +57,27 @@ pub fn first_unsound(
     d: u32,
     tab: &mut [u8],
     hashes: &mut [u32],
-) -> usize
+) -> Option<usize>
     requires { Pass1 z s.now dir.now counts.now n d tab.old hashes.old }
-    ensures { FirstBad n (Stands z fnv s.now) result × Hashed z s.now result hashes.new }
+    ensures first { FirstBad n (Stands z fnv s.now) result }
+    ensures hashed { Hashed z s.now (unwrap_or result n) hashes.new }
 {
     let mut p = 2;
     'pages: loop {
         if n <= p {
-            break 'pages n;
+            break 'pages None;
         }
-        let size = 8 + z.capacity;
-        let a = p * size;
-        let pg = &s[a..a + size];
+        let pg = store::page_at(s, z, p);
         if pg[0] == 0 {
             let q = skip_free(s, z, counts, p);
             if q <= p {
-                break 'pages p;
+                break 'pages Some(p);
             }
             p = q;
             continue 'pages;
         }
         if !own_ok(pg, tab, d) {
-            break 'pages p;
+            break 'pages Some(p);
         }
         let k = pg[1];
         let m = page_check::share_limit(k);
@@ -83,11 +86,11 @@ pub fn first_unsound(
         let near = page_check::near_where_long(pg, first, m);
         'slots: for i in near..count {
             if !page_check::differ_below(first, page_check::hash_in_place(pg, i), m) {
-                break 'pages p;
+                break 'pages Some(p);
             }
         }
         if !named(dir, counts, d, k as u32, first, p as u32) {
-            break 'pages p;
+            break 'pages Some(p);
         }
         hashes[p] = first;
         p += 1;

@@ -23,15 +23,14 @@ fn page_load(pg: &[u8]) -> u32
 }
 
 // What the pages need together, for each number of the first bits of their first hash.
+// Stays: hashes are by the page and cells by the first bits, here and below, so that they are two arrays of two lengths.
 fn digest(s: &[u8], z: Shape, n: usize, hashes: &[u32], cells: &mut [u32])
     requires { Pass2 z s.now n hashes.now cells.old }
     ensures { Celled z s.now n cells.new }
 {
-    let size = z.size();
     for p in 2..n {
         let t = partition::top_bits(hashes[p], z.deepest as u32) as usize;
-        let a = p * size;
-        cells[t] += page_load(&s[a..a + size]);
+        cells[t] += page_load(store::page_at(s, z, p));
     }
 }
 
@@ -47,6 +46,7 @@ fn add_up(cells: &mut [u32])
 }
 
 // Whether page p keeps pass 2's rule: a prefix's run of cells needs what its rows need.
+// Stays: hashes and sums are of two lengths, as in digest.
 fn parted_ok(s: &[u8], z: Shape, hashes: &[u32], sums: &[u32], p: usize) -> bool
     requires { Digested z s.now hashes.now sums.now p }
     ensures { Says result (Parted z fnv s.now p) }
@@ -59,14 +59,19 @@ fn parted_ok(s: &[u8], z: Shape, hashes: &[u32], sums: &[u32], p: usize) -> bool
     z.capacity < (sums[run.end] - sums[run.start]) as usize
 }
 
-// The first page that does not keep it, or n.
-pub fn first_joinable(s: &[u8], z: Shape, n: usize, hashes: &[u32], sums: &mut [u32]) -> usize
+// The first page that does not keep it; none where all do.
+// Stays: hashes and sums are of two lengths, as in digest.
+pub fn first_joinable(
+    s: &[u8],
+    z: Shape,
+    n: usize,
+    hashes: &[u32],
+    sums: &mut [u32],
+) -> Option<usize>
     requires { Pass2 z s.now n hashes.now sums.old }
     ensures { FirstBad n (Parted z fnv s.now) result }
 {
     digest(s, z, n, hashes, sums);
     add_up(sums);
-    (2..n)
-        .find(|p| !parted_ok(s, z, hashes, sums, *p))
-        .unwrap_or(n)
+    (2..n).find(|p| !parted_ok(s, z, hashes, sums, *p))
 }

@@ -42,6 +42,7 @@ fn bucket_lines(s: &[u8], z: Shape, p: usize, i: usize, out: &mut [u8]) -> Lined
 }
 
 // k rows from place n of the listing on: their lines are written, and nothing else. Whether they could be.
+// Stays: store and shape are two parameters in the public functions below too (store::page_at), and n is a place here and a count in list_rows.
 fn write_rows<R: Print + Eprint>(
     rt: &R,
     s: &[u8],

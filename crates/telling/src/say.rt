@@ -58,7 +58,8 @@ pub fn fault<R: Print + Eprint>(rt: &R, f: Fault, number: usize) -> bool {
     text(rt, &line[0..n])
 }
 
-// A word and a number.
+// A word and a number, which is what is told and no length.
+// Stays: the line is built in a buffer of the frame, with no heap.
 pub fn number<R: Print + Eprint>(rt: &R, word: &[u8], n: usize) -> bool
     requires { length word.now ≤ 10 }
 {

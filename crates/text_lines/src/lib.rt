@@ -10,62 +10,68 @@ use commands::is_blank;
 #[derive(Clone, Copy)]
 pub struct LineRead {
     pub fill: usize,
+    // Stays: two bools and no enum of three states, since Reading:ReadSoFar says of over and of blank each by itself.
     pub over: bool,
     pub blank: bool,
 }
 
-// A line before its first byte.
-pub fn fresh_line() -> LineRead
-    ensures { (p : List ℕ) → ReadSoFar p result [] }
-{
-    LineRead {
-        fill: 0,
-        over: false,
-        blank: true,
-    }
-}
-
-// How many blanks go before the next byte of a word.
-fn gap_before(blank: bool, fill: usize) -> usize
-    ensures { result ≡ gap_before blank fill }
-{
-    usize::from(blank && fill != 0)
-}
-
-// One byte of a word, behind a blank where a word has ended.
-fn push(buf: &mut [u8], g: LineRead, b: u8) -> LineRead
-    requires { WordByte buf.old g b }
-    ensures { ByteRead buf.old g b buf.new result }
-{
-    let at = g.fill + gap_before(g.blank, g.fill);
-    if at < buf.len() {
-        buf[g.fill] = b' ';
-        buf[at] = b;
-        return LineRead {
-            fill: at + 1,
+impl LineRead {
+    // A line before its first byte.
+    pub fn fresh() -> LineRead
+        ensures { (p : List ℕ) → ReadSoFar p result [] }
+    {
+        LineRead {
+            fill: 0,
             over: false,
-            blank: false,
-        };
+            blank: true,
+        }
     }
-    LineRead {
-        over: true,
-        blank: false,
-        ..g
-    }
-}
 
-// One byte more of a line; no line feed.
-pub fn read_byte(buf: &mut [u8], g: LineRead, b: u8) -> LineRead
-    requires { g.fill ≤ length buf.old }
-    ensures { ByteRead buf.old g b buf.new result }
-{
-    if g.over {
-        return g;
+    // How many blanks go before the next byte of a word.
+    fn gap_before(self) -> usize
+        ensures { result ≡ gap_before self.blank self.fill }
+    {
+        usize::from(self.blank && self.fill != 0)
     }
-    if is_blank(b) {
-        return LineRead { blank: true, ..g };
+
+    // One byte of a word, behind a blank where a word has ended.
+    fn push(self, buf: &mut [u8], b: u8) -> LineRead
+        requires { WordByte buf.old self b }
+        ensures { ByteRead buf.old self b buf.new result }
+    {
+        let at = self.fill + self.gap_before();
+        if at < buf.len() {
+            buf[self.fill] = b' ';
+            buf[at] = b;
+            return LineRead {
+                fill: at + 1,
+                over: false,
+                blank: false,
+            };
+        }
+        LineRead {
+            over: true,
+            blank: false,
+            ..self
+        }
     }
-    push(buf, g, b)
+
+    // One byte more of a line; no line feed.
+    pub fn read_byte(self, buf: &mut [u8], b: u8) -> LineRead
+        requires { self.fill ≤ length buf.old }
+        ensures { ByteRead buf.old self b buf.new result }
+    {
+        if self.over {
+            return self;
+        }
+        if is_blank(b) {
+            return LineRead {
+                blank: true,
+                ..self
+            };
+        }
+        self.push(buf, b)
+    }
 }
 
 // Where the text of a line begins whose words stand in the buffer: behind a byte-order mark, and behind a blank after that.

@@ -73,10 +73,7 @@ wrote_on {p} {q} {r} {n} {k} {m} {f} w v h l = record {
   };
 }
 
--- what is written is there, and may be written again with more
-pub wrote_self : {p q : List ℕ} {k n : ℕ} {f : ℕ → ℕ} → Wrote p k n f q → Wrote q k n f q
-wrote_self w = record { new = w.new; old = record { len = refl; below = λ i h. refl; above = λ i h. refl } }
-
+-- a run may be written again with more
 pub wrote_again : {p q r : List ℕ} {n m : ℕ} {f : ℕ → ℕ} → Wrote p 0 n f q → Wrote q 0 m f r → n ≤ m → Wrote p 0 m f r
 wrote_again w v h = record {
   new = v.new;
@@ -138,18 +135,6 @@ span_up {p} {q} {a} {b} {g} v w o h e = record {
       (side x b);
   below = λ x l. byte_other q b v x (omega arith) ∙ w.below x l;
   above = λ x l. byte_other q b v x (omega arith) ∙ w.above x (omega arith);
-}
-
--- one byte more below
-pub span_down : {p q : List ℕ} {a b : ℕ} {g : ℕ → ℕ} (v : ℕ) → Span p (a + 1) b g q → a < b → a < length q → v ≡ g a → Span p a b g (set q a v)
-span_down {p} {q} {a} {b} {g} v w o h e = record {
-  len = length-set q a v ∙ w.len;
-  new = λ x l m. ⊎_elim
-      (λ gt. byte_other q a v x (omega arith) ∙ w.new x (omega arith) m)
-      (λ le. let s : x ≡ a = omega arith in rw s (byte_set q a v h ∙ e))
-      (side a x);
-  below = λ x l. byte_other q a v x (omega arith) ∙ w.below x (omega arith);
-  above = λ x l. byte_other q a v x (omega arith) ∙ w.above x l;
 }
 
 pub span_frame : {p q : List ℕ} {a b : ℕ} {g : ℕ → ℕ} → Span p a b g q → a ≤ b → Frame p a (b - a) q

@@ -1,5 +1,5 @@
 -- Numbers in a list of bytes, little-endian. Assumes nothing.
-use Rattle.std.specs.Prelude.{ℕ, zero, suc, ◌+◌, ◌*◌, ◌/◌, ◌%◌, ◌^◌, ◌≤◌, ◌<◌, List, [], ◌∷◌}
+use Rattle.std.specs.Prelude.{ℕ, zero, suc, ◌+◌, ◌*◌, ◌/◌, ◌%◌, List, [], ◌∷◌}
 use Rattle.ground.specs.Lists.{byte}
 
 -- the 16 bits at k
@@ -14,9 +14,3 @@ le32 p k = le16 p k + 65536 * le16 p (k + 2)
 unfoldable pub bytes : ℕ → ℕ → List ℕ
 bytes zero n = []
 bytes (suc k) n = n % 256 ∷ bytes k (n / 256)
-
--- q is a byte, low a number of k bits, and both together are one of 64
-pub record Nests (q k low : ℕ) : Type 0 where
-  pub byte : q < 256
-  pub room : k ≤ 56
-  pub low_bits : low < 2 ^ k

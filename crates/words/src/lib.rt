@@ -4,73 +4,35 @@
 ghost use Rattle.std.specs.Prelude.{◌≡◌, ◌↔◌, ◌+◌, ◌*◌, ◌^◌, ◌≤◌, ◌<◌, min, length};
 ghost use Rattle.ground.specs.Says.{Says};
 ghost use Rattle.ground.specs.Lists.{byte};
-ghost use Rattle.words.specs.Le.{le16, le32, Nests};
+ghost use Rattle.words.specs.Le.{le16, le32};
 ghost use Rattle.words.specs.Codes.{Ordered};
-ghost use Rattle.words.specs.Big.{Bytes4, Bytes8, big};
+ghost use Rattle.words.specs.Big.{big};
 ghost use Rattle.words.specs.Folds.{fold_byte, fold, Folded};
 ghost use Rattle.words.specs.Moves.{Put16, Put32, Wrote, Copied, MovedDown, Span, Cleared, MovableUp, MovedUp};
 ghost use Rattle.words.specs.Zeros.{Zero, ZeroFrom, ZeroRun};
 
 use std::cmp::Ordering;
 
-// A byte as a number of the width that the others have.
-pub fn wide(x: u8) -> usize
-    ensures { (result ≡ x) × (result < 256) }
-{
-    x as usize
-}
-
-// q above the k bits of low. Bytes so nested become one load.
-pub fn on(q: usize, k: u32, low: usize) -> usize
-    requires { Nests q k low }
-    ensures { result ≡ q * 2 ^ k + low }
-{
-    q << k | low
-}
-
-// Four bytes as one number, the first the highest: nested so that they become one load.
-fn join4(a: usize, b: usize, c: usize, d: usize) -> usize
-    requires { Bytes4 a b c d }
-    ensures { (result ≡ a * 16777216 + (b * 65536 + (c * 256 + d))) × (result < 4294967296) }
-{
-    on(a, 24, on(b, 16, on(c, 8, d)))
-}
-
-// Eight bytes as one number.
-pub fn join8(
-    a: usize,
-    b: usize,
-    c: usize,
-    d: usize,
-    e: usize,
-    f: usize,
-    g: usize,
-    h: usize,
-) -> usize
-    requires { Bytes8 a b c d e f g h }
-    ensures { result ≡ (a * 16777216 + (b * 65536 + (c * 256 + d))) * 4294967296 + (e * 16777216 + (f * 65536 + (g * 256 + h))) }
-{
-    on(a, 56, on(b, 48, on(c, 40, on(d, 32, join4(e, f, g, h)))))
-}
-
 // The eight bytes at k as one number, the first the highest.
+#[tactic(auto, unfolding(crate::specs::Big::big))]
 pub fn be64(s: &[u8], k: usize) -> usize
     requires { k + 8 ≤ length s.now }
     ensures { result ≡ big 8 s.now k }
 {
-    join8(
-        wide(s[k]),
-        wide(s[k + 1]),
-        wide(s[k + 2]),
-        wide(s[k + 3]),
-        wide(s[k + 4]),
-        wide(s[k + 5]),
-        wide(s[k + 6]),
-        wide(s[k + 7]),
-    )
+    usize::from_be_bytes([
+        s[k],
+        s[k + 1],
+        s[k + 2],
+        s[k + 3],
+        s[k + 4],
+        s[k + 5],
+        s[k + 6],
+        s[k + 7],
+    ])
 }
 
 // The 16 bits at k.
+// Stays: one function for each width, as std has `from_le_bytes` for each; a generic one would need a trait with both for the two to be of.
 #[tactic(auto, unfolding(crate::specs::Le::le16))]
 pub fn get16(s: &[u8], k: usize) -> usize
     requires { k + 2 ≤ length s.now }
@@ -80,6 +42,7 @@ pub fn get16(s: &[u8], k: usize) -> usize
 }
 
 // The 32 bits at k.
+// Stays: beside get16; see there.
 #[tactic(auto, unfolding(crate::specs::Le::le16, crate::specs::Le::le32))]
 pub fn get32(s: &[u8], k: usize) -> usize
     requires { k + 4 ≤ length s.now }
@@ -89,21 +52,23 @@ pub fn get32(s: &[u8], k: usize) -> usize
 }
 
 // v in the 16 bits at k.
+// Stays: one function for each width, as get16 and get32.
+#[tactic(auto, unfolding(crate::specs::Le::le16))]
 pub fn put16(s: &mut [u8], k: usize, v: usize)
     requires { (k + 2 ≤ length s.old) × (v < 65536) }
     ensures { Put16 s.old k v s.new }
 {
-    s[k] = (v % 256) as u8;
-    s[k + 1] = (v / 256 % 256) as u8;
+    s[k..k + 2].copy_from_slice(&(v as u16).to_le_bytes());
 }
 
 // v in the 32 bits at k.
+// Stays: beside put16; see there.
+#[tactic(auto, unfolding(crate::specs::Le::le16, crate::specs::Le::le32))]
 pub fn put32(s: &mut [u8], k: usize, v: usize)
     requires { (k + 4 ≤ length s.old) × (v < 4294967296) }
     ensures { Put32 s.old k v s.new }
 {
-    put16(s, k, v % 65536);
-    put16(s, k + 2, v / 65536);
+    s[k..k + 4].copy_from_slice(&(v as u32).to_le_bytes());
 }
 
 // src goes to dst at an index.

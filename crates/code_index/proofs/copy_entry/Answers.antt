@@ -1,4 +1,4 @@
-use Rattle.std.proofs.Common.{rules, arith, ◌≡◌, ◌+◌, ◌∙◌, sym, length, ℕ}
+use Rattle.std.proofs.Common.{rules, arith, ◌+◌, sym}
 use Rattle.ground.specs.Lists.{byte}
 use Rattle.words.specs.Moves.{Wrote}
 use Rattle.words.proofs.Bytes.{wrote_as}

@@ -1,18 +1,9 @@
-use Rattle.std.proofs.Common.{arith, ◌+◌, ◌*◌, ◌/◌, ◌%◌}
-use Rattle.hash.proofs.Bytes.{joined}
+use Rattle.std.proofs.Common.{arith, ◌+◌, ◌%◌}
+use Rattle.hash.proofs.Bytes.{joined, counted}
 use Rattle.hash.proofs.rest.Goals as goal
 
+pub returns-then-n-lt8 : goal.returns-then-n-lt8
+returns-then-n-lt8 c = counted c.args.s.now c.args.h c.last_seven.result c.args.i (c.args.n % 8) (c.args.n % 16) c.last_seven.ensures (omega arith)
+
 pub returns : goal.returns
-returns c =
-    let s = c.args.s.now in
-    let h = c.args.h in
-    let i = c.args.i in
-    let n = c.args.n in
-    let w = c.odd-w.result in
-    let x = c.odd-x.result in
-    let y = c.odd-y.result in
-    joined s h y.0 c.odd-z.result.0 i y.1 (n % 16 / 2 * 2) (n / 1 % 2 * 1) (n % 16)
-    (joined s h x.0 y.0 i x.1 (n % 16 / 4 * 4) (n / 2 % 2 * 2) (n % 16 / 2 * 2)
-    (joined s h w.0 x.0 i w.1 (n / 8 % 2 * 8) (n / 4 % 2 * 4) (n % 16 / 4 * 4) c.odd-w.ensures.0 c.odd-x.ensures.0 (omega (arith, c.odd-w.ensures.1)) (omega arith))
-    c.odd-y.ensures.0 (omega (arith, c.odd-w.ensures.1, c.odd-x.ensures.1)) (omega arith))
-    c.odd-z.ensures.0 (omega (arith, c.odd-w.ensures.1, c.odd-x.ensures.1, c.odd-y.ensures.1)) (omega arith)
+returns c = joined c.args.s.now c.args.h c.block-x.result c.last_seven-2.result c.args.i (c.args.i + 8) 8 (c.args.n % 8) (c.args.n % 16) c.block-x.ensures c.last_seven-2.ensures (omega arith) (omega arith)

@@ -1,6 +1,5 @@
-use Rattle.std.proofs.Common.{arith, ◌≡◌, ◌+◌, ◌-◌, ◌<◌, ◌≤◌, ℕ, List, length, min}
+use Rattle.std.proofs.Common.{arith, ◌+◌, ◌-◌, ◌≤◌, ℕ, length}
 use Rattle.std.proofs.lemmas.Cmp.{ranked}
-use Rattle.ground.specs.Lists.{byte}
 use Rattle.words.proofs.Firsts.{Agreed, agreed_on, told_apart, told_by_length}
 use Rattle.words.proofs.by_eights.Goals as goal
 use Rattle.words.proofs.by_eights.Goals.{else-loop-i-test, then-loop-i-test+else-v-w+else-last-i-gt8}

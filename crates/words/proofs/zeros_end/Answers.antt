@@ -1,5 +1,4 @@
 use Rattle.std.proofs.Common.{arith, ◌≡◌, ◌+◌, ◌*◌}
-use Rattle.words.specs.Zeros.{ZeroFrom}
 use Rattle.words.proofs.Zeros.{from_on, part_zero, zero_part}
 use Rattle.words.proofs.zeros_end.Goals as goal
 

@@ -1,5 +1,5 @@
 use Rattle.std.proofs.Common.{arith, ◌+◌, ◌*◌}
-use Rattle.code_index.proofs.Lengths.{part_zero, zero_part}
+use Rattle.words.proofs.Zeros.{part_zero, zero_part}
 use Rattle.code_index.proofs.Zeroed.{rests_more, rests_at}
 use Rattle.code_index.proofs.behind.rests_zero.Goals as goal
 

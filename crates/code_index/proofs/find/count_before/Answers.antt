@@ -1,7 +1,7 @@
-use Rattle.std.proofs.Common.{◌+◌, ◌-◌, ◌/◌, refl, arith}
+use Rattle.std.proofs.Common.{◌+◌, ◌-◌, ◌/◌, refl}
 use Rattle.ground.proofs.Tests.{says_true, says_false}
 use Rattle.code_index.proofs.Sorting.{lt_says}
-use Rattle.code_index.proofs.Halving.{mid_lo, mid_hi, between_start, between_up, between_down, between_end}
+use Rattle.code_index.proofs.Halving.{mid_lo, mid_hi, between_up, between_down}
 use Rattle.code_index.proofs.find.count_before.Goals as goal
 
 pub loop-lo-preserved-then-is_lt : goal.loop-lo-preserved-then-is_lt

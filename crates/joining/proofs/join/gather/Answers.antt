@@ -51,7 +51,7 @@ run_of-i-items-requires c =
     (omega (arith, e, P.bits), omega (arith, e, P.deep, twelve c.args.z P.sized))
 
 pub get32-d-requires : goal.get32-d-requires
-get32-d-requires c = let a = c.args in let P = c.requires.0.joinable.prefix in omega (arith, two a.z a.s.now a.n a.x a.j P, P.sized.least)
+get32-d-requires c = let a = c.args in let P = c.requires.0.joinable.prefix in omega (arith, two a.z a.s.now a.of.n a.of.x a.of.j P, P.sized.least)
 
 pub loop-i-init : goal.loop-i-init
 loop-i-init c =
@@ -59,7 +59,7 @@ loop-i-init c =
     let P = c.requires.0.joinable.prefix in
     let g = c.into_iter-i-iterator.ensures.into_iter_gives in
     let r = c.run_of-i-items.ensures in (
-      taken_none a.z fnv a.s.now a.n a.x a.j P a.key.now a.to.now c.into_iter-i-iterator.result.start (ap (λ y. y.start) g ∙ r.0 ∙ ap (λ m. first m (pfx a.j (top a.j a.x))) c.get32-d.ensures.0) c.requires.1,
+      taken_none a.z fnv a.s.now a.of.n a.of.x a.of.j P a.of.key.now a.to.now c.into_iter-i-iterator.result.start (ap (λ y. y.start) g ∙ r.0 ∙ ap (λ m. first m (pfx a.of.j (top a.of.j a.of.x))) c.get32-d.ensures.0) c.requires.1,
       c.requires.0.counted,
       omega arith,
       omega (arith, r.2, ap (λ y. y.start) g, ap (λ y. y.end) g),
@@ -75,8 +75,8 @@ overflow_mul-i c =
     let g = c.into_iter-i-iterator.ensures.into_iter_gives in
     let at : c.in-Some.i ≡ c.loop-i.i-iterator.start = search rules in
     let more : c.loop-i.i-iterator.start < c.loop-i.i-iterator.end = search rules in
-    let k = turn a.z a.s.now a.n a.x a.j P _ c.get32-d.ensures.0 _ _ r.0 r.1 r.3 c.loop-i.i-iterator.start (omega (arith, v.2, ap (λ y. y.start) g)) (omega (arith, more, v.4, ap (λ y. y.end) g)) in
-    omega (arith, at, entry a.z a.s.now a.n a.x a.j P c.loop-i.i-iterator.start k, P.sized.whole, P.sized.most)
+    let k = turn a.z a.s.now a.of.n a.of.x a.of.j P _ c.get32-d.ensures.0 _ _ r.0 r.1 r.3 c.loop-i.i-iterator.start (omega (arith, v.2, ap (λ y. y.start) g)) (omega (arith, more, v.4, ap (λ y. y.end) g)) in
+    omega (arith, at, entry a.z a.s.now a.of.n a.of.x a.of.j P c.loop-i.i-iterator.start k, P.sized.whole, P.sized.most)
 
 pub overflow_add-size : goal.overflow_add-size
 overflow_add-size c =
@@ -87,8 +87,8 @@ overflow_add-size c =
     let g = c.into_iter-i-iterator.ensures.into_iter_gives in
     let at : c.in-Some.i ≡ c.loop-i.i-iterator.start = search rules in
     let more : c.loop-i.i-iterator.start < c.loop-i.i-iterator.end = search rules in
-    let k = turn a.z a.s.now a.n a.x a.j P _ c.get32-d.ensures.0 _ _ r.0 r.1 r.3 c.loop-i.i-iterator.start (omega (arith, v.2, ap (λ y. y.start) g)) (omega (arith, more, v.4, ap (λ y. y.end) g)) in
-    omega (arith, at, c.size.ensures, entry a.z a.s.now a.n a.x a.j P c.loop-i.i-iterator.start k, P.sized.whole, P.sized.most)
+    let k = turn a.z a.s.now a.of.n a.of.x a.of.j P _ c.get32-d.ensures.0 _ _ r.0 r.1 r.3 c.loop-i.i-iterator.start (omega (arith, v.2, ap (λ y. y.start) g)) (omega (arith, more, v.4, ap (λ y. y.end) g)) in
+    omega (arith, at, c.size.ensures, entry a.z a.s.now a.of.n a.of.x a.of.j P c.loop-i.i-iterator.start k, P.sized.whole, P.sized.most)
 
 pub get32-p-requires : goal.get32-p-requires
 get32-p-requires c =
@@ -99,8 +99,8 @@ get32-p-requires c =
     let g = c.into_iter-i-iterator.ensures.into_iter_gives in
     let at : c.in-Some.i ≡ c.loop-i.i-iterator.start = search rules in
     let more : c.loop-i.i-iterator.start < c.loop-i.i-iterator.end = search rules in
-    let k = turn a.z a.s.now a.n a.x a.j P _ c.get32-d.ensures.0 _ _ r.0 r.1 r.3 c.loop-i.i-iterator.start (omega (arith, v.2, ap (λ y. y.start) g)) (omega (arith, more, v.4, ap (λ y. y.end) g)) in
-    omega (arith, at, c.size.ensures, inside a.z a.s.now a.n a.x a.j P c.loop-i.i-iterator.start k a.key.now a.to.now c.loop-i.low c.loop-i.to c.loop-i.s v.0)
+    let k = turn a.z a.s.now a.of.n a.of.x a.of.j P _ c.get32-d.ensures.0 _ _ r.0 r.1 r.3 c.loop-i.i-iterator.start (omega (arith, v.2, ap (λ y. y.start) g)) (omega (arith, more, v.4, ap (λ y. y.end) g)) in
+    omega (arith, at, c.size.ensures, inside a.z a.s.now a.of.n a.of.x a.of.j P c.loop-i.i-iterator.start k a.of.key.now a.to.now c.loop-i.low c.loop-i.to c.loop-i.s v.0)
 
 pub is_used-requires : goal.is_used-requires
 is_used-requires c =
@@ -111,9 +111,9 @@ is_used-requires c =
     let g = c.into_iter-i-iterator.ensures.into_iter_gives in
     let at : c.in-Some.i ≡ c.loop-i.i-iterator.start = search rules in
     let more : c.loop-i.i-iterator.start < c.loop-i.i-iterator.end = search rules in
-    let k = turn a.z a.s.now a.n a.x a.j P _ c.get32-d.ensures.0 _ _ r.0 r.1 r.3 c.loop-i.i-iterator.start (omega (arith, v.2, ap (λ y. y.start) g)) (omega (arith, more, v.4, ap (λ y. y.end) g)) in
-    let e = its a.z a.s.now a.n a.x a.j P c.loop-i.i-iterator.start k a.key.now a.to.now c.loop-i.low c.loop-i.to c.loop-i.s v.0 _ _ _ c.size.ensures at c.get32-p.ensures.0 in
-    subst (λ m. m * size a.z + size a.z ≤ length c.loop-i.s) (sym e) (entry_there a.z fnv a.s.now a.n a.x a.j P a.key.now a.to.now c.loop-i.i-iterator.start c.loop-i.low c.loop-i.to c.loop-i.s v.0 k)
+    let k = turn a.z a.s.now a.of.n a.of.x a.of.j P _ c.get32-d.ensures.0 _ _ r.0 r.1 r.3 c.loop-i.i-iterator.start (omega (arith, v.2, ap (λ y. y.start) g)) (omega (arith, more, v.4, ap (λ y. y.end) g)) in
+    let e = its a.z a.s.now a.of.n a.of.x a.of.j P c.loop-i.i-iterator.start k a.of.key.now a.to.now c.loop-i.low c.loop-i.to c.loop-i.s v.0 _ _ _ c.size.ensures at c.get32-p.ensures.0 in
+    subst (λ m. m * size a.z + size a.z ≤ length c.loop-i.s) (sym e) (entry_there a.z fnv a.s.now a.of.n a.of.x a.of.j P a.of.key.now a.to.now c.loop-i.i-iterator.start c.loop-i.low c.loop-i.to c.loop-i.s v.0 k)
 
 pub take_page-low-requires : goal.take_page-low-requires
 take_page-low-requires c =
@@ -124,10 +124,10 @@ take_page-low-requires c =
     let g = c.into_iter-i-iterator.ensures.into_iter_gives in
     let at : c.in-Some.i ≡ c.loop-i.i-iterator.start = search rules in
     let more : c.loop-i.i-iterator.start < c.loop-i.i-iterator.end = search rules in
-    let k = turn a.z a.s.now a.n a.x a.j P _ c.get32-d.ensures.0 _ _ r.0 r.1 r.3 c.loop-i.i-iterator.start (omega (arith, v.2, ap (λ y. y.start) g)) (omega (arith, more, v.4, ap (λ y. y.end) g)) in
-    let e = its a.z a.s.now a.n a.x a.j P c.loop-i.i-iterator.start k a.key.now a.to.now c.loop-i.low c.loop-i.to c.loop-i.s v.0 _ _ _ c.size.ensures at c.get32-p.ensures.0 in
+    let k = turn a.z a.s.now a.of.n a.of.x a.of.j P _ c.get32-d.ensures.0 _ _ r.0 r.1 r.3 c.loop-i.i-iterator.start (omega (arith, v.2, ap (λ y. y.start) g)) (omega (arith, more, v.4, ap (λ y. y.end) g)) in
+    let e = its a.z a.s.now a.of.n a.of.x a.of.j P c.loop-i.i-iterator.start k a.of.key.now a.to.now c.loop-i.low c.loop-i.to c.loop-i.s v.0 _ _ _ c.size.ensures at c.get32-p.ensures.0 in
     let u : Used a.z c.loop-i.s (entry_at a.z a.s.now c.loop-i.i-iterator.start) = subst (Used a.z c.loop-i.s) e (says_true {P = Used a.z c.loop-i.s c.get32-p.result} c.is_used.result c.if-is_used.true c.is_used.ensures) in (
-      subst (λ m. PageTaking a.z c.loop-i.to c.loop-i.s m a.key.now) (sym e) (page_taking a.z fnv a.s.now a.n a.x a.j P a.key.now a.to.now c.loop-i.i-iterator.start c.loop-i.low c.loop-i.to c.loop-i.s v.0 k u c.requires.1),
+      subst (λ m. PageTaking a.z c.loop-i.to c.loop-i.s m a.of.key.now) (sym e) (page_taking a.z fnv a.s.now a.of.n a.of.x a.of.j P a.of.key.now a.to.now c.loop-i.i-iterator.start c.loop-i.low c.loop-i.to c.loop-i.s v.0 k u c.requires.1),
       v.1,
     )
 
@@ -140,16 +140,16 @@ loop-i-preserved-then-is_used c =
     let g = c.into_iter-i-iterator.ensures.into_iter_gives in
     let at : c.in-Some.i ≡ c.loop-i.i-iterator.start = search rules in
     let more : c.loop-i.i-iterator.start < c.loop-i.i-iterator.end = search rules in
-    let k = turn a.z a.s.now a.n a.x a.j P _ c.get32-d.ensures.0 _ _ r.0 r.1 r.3 c.loop-i.i-iterator.start (omega (arith, v.2, ap (λ y. y.start) g)) (omega (arith, more, v.4, ap (λ y. y.end) g)) in
-    let e = its a.z a.s.now a.n a.x a.j P c.loop-i.i-iterator.start k a.key.now a.to.now c.loop-i.low c.loop-i.to c.loop-i.s v.0 _ _ _ c.size.ensures at c.get32-p.ensures.0 in
+    let k = turn a.z a.s.now a.of.n a.of.x a.of.j P _ c.get32-d.ensures.0 _ _ r.0 r.1 r.3 c.loop-i.i-iterator.start (omega (arith, v.2, ap (λ y. y.start) g)) (omega (arith, more, v.4, ap (λ y. y.end) g)) in
+    let e = its a.z a.s.now a.of.n a.of.x a.of.j P c.loop-i.i-iterator.start k a.of.key.now a.to.now c.loop-i.low c.loop-i.to c.loop-i.s v.0 _ _ _ c.size.ensures at c.get32-p.ensures.0 in
     let u : Used a.z c.loop-i.s (entry_at a.z a.s.now c.loop-i.i-iterator.start) = subst (Used a.z c.loop-i.s) e (says_true {P = Used a.z c.loop-i.s c.get32-p.result} c.is_used.result c.if-is_used.true c.is_used.ensures) in
     let next : c.next.new.self.start ≡ c.loop-i.i-iterator.start + 1 = search rules in
     let end : c.next.new.self.end ≡ c.loop-i.i-iterator.end = search rules in
     let w = c.take_page-low in (
-      subst (λ m. Taken a.z fnv a.s.now a.n a.x a.j a.key.now a.to.now m w.result w.new.to w.new.s) (sym next)
-          (subst (Taken a.z fnv a.s.now a.n a.x a.j a.key.now a.to.now (c.loop-i.i-iterator.start + 1) w.result w.new.to) (sym (w.ensures.wrote ∙ ap (λ m. set_page a.z c.loop-i.s m (replicate (size a.z) 0)) e))
-          (taken_next a.z fnv a.s.now a.n a.x a.j P a.key.now a.to.now c.loop-i.i-iterator.start c.loop-i.low c.loop-i.to c.loop-i.s v.0 k u w.result w.new.to
-          (subst (λ m. Gathered c.loop-i.to (cut a.key.now (rows_at (page a.z c.loop-i.s m))) w.new.to) e w.ensures.gathered) (w.ensures.lowest ∙ ap (min c.loop-i.low) e))),
+      subst (λ m. Taken a.z fnv a.s.now a.of.n a.of.x a.of.j a.of.key.now a.to.now m w.result w.new.to w.new.s) (sym next)
+          (subst (Taken a.z fnv a.s.now a.of.n a.of.x a.of.j a.of.key.now a.to.now (c.loop-i.i-iterator.start + 1) w.result w.new.to) (sym (w.ensures.wrote ∙ ap (λ m. set_page a.z c.loop-i.s m (replicate (size a.z) 0)) e))
+          (taken_next a.z fnv a.s.now a.of.n a.of.x a.of.j P a.of.key.now a.to.now c.loop-i.i-iterator.start c.loop-i.low c.loop-i.to c.loop-i.s v.0 k u w.result w.new.to
+          (subst (λ m. Gathered c.loop-i.to (cut a.of.key.now (rows_at (page a.z c.loop-i.s m))) w.new.to) e w.ensures.gathered) (w.ensures.lowest ∙ ap (min c.loop-i.low) e))),
       w.ensures.counted,
       omega (arith, next, v.2),
       omega (arith, next, end, more),
@@ -165,12 +165,12 @@ loop-i-preserved c =
     let g = c.into_iter-i-iterator.ensures.into_iter_gives in
     let at : c.in-Some.i ≡ c.loop-i.i-iterator.start = search rules in
     let more : c.loop-i.i-iterator.start < c.loop-i.i-iterator.end = search rules in
-    let k = turn a.z a.s.now a.n a.x a.j P _ c.get32-d.ensures.0 _ _ r.0 r.1 r.3 c.loop-i.i-iterator.start (omega (arith, v.2, ap (λ y. y.start) g)) (omega (arith, more, v.4, ap (λ y. y.end) g)) in
-    let e = its a.z a.s.now a.n a.x a.j P c.loop-i.i-iterator.start k a.key.now a.to.now c.loop-i.low c.loop-i.to c.loop-i.s v.0 _ _ _ c.size.ensures at c.get32-p.ensures.0 in
+    let k = turn a.z a.s.now a.of.n a.of.x a.of.j P _ c.get32-d.ensures.0 _ _ r.0 r.1 r.3 c.loop-i.i-iterator.start (omega (arith, v.2, ap (λ y. y.start) g)) (omega (arith, more, v.4, ap (λ y. y.end) g)) in
+    let e = its a.z a.s.now a.of.n a.of.x a.of.j P c.loop-i.i-iterator.start k a.of.key.now a.to.now c.loop-i.low c.loop-i.to c.loop-i.s v.0 _ _ _ c.size.ensures at c.get32-p.ensures.0 in
     let next : c.next.new.self.start ≡ c.loop-i.i-iterator.start + 1 = search rules in
     let end : c.next.new.self.end ≡ c.loop-i.i-iterator.end = search rules in (
-      subst (λ m. Taken a.z fnv a.s.now a.n a.x a.j a.key.now a.to.now m c.loop-i.low c.loop-i.to c.loop-i.s) (sym next)
-          (taken_skip a.z fnv a.s.now a.n a.x a.j P a.key.now a.to.now c.loop-i.i-iterator.start c.loop-i.low c.loop-i.to c.loop-i.s v.0 k
+      subst (λ m. Taken a.z fnv a.s.now a.of.n a.of.x a.of.j a.of.key.now a.to.now m c.loop-i.low c.loop-i.to c.loop-i.s) (sym next)
+          (taken_skip a.z fnv a.s.now a.of.n a.of.x a.of.j P a.of.key.now a.to.now c.loop-i.i-iterator.start c.loop-i.low c.loop-i.to c.loop-i.s v.0 k
           (λ u. says_false {P = Used a.z c.loop-i.s c.get32-p.result} c.is_used.result c.if-is_used.false c.is_used.ensures (subst (Used a.z c.loop-i.s) (sym e) u))),
       v.1,
       omega (arith, next, v.2),
@@ -186,8 +186,8 @@ returns-clause-gathered c =
     let r = c.run_of-i-items.ensures in
     let g = c.into_iter-i-iterator.ensures.into_iter_gives in
     let past : l.i-iterator.end ≤ l.i-iterator.start = search rules in
-    let done : after (dir_depth a.s.now) (pfx a.j (top a.j a.x)) ≤ l.i-iterator.start = omega (arith, r.1 ∙ ap (λ m. after m (pfx a.j (top a.j a.x))) c.get32-d.ensures.0, past, l.invariant.4, ap (λ y. y.end) g) in
-    taken_all a.z fnv a.s.now a.n a.x a.j P a.key.now a.to.now l.i-iterator.start l.low l.to l.s l.invariant.0 done
+    let done : after (dir_depth a.s.now) (pfx a.of.j (top a.of.j a.of.x)) ≤ l.i-iterator.start = omega (arith, r.1 ∙ ap (λ m. after m (pfx a.of.j (top a.of.j a.of.x))) c.get32-d.ensures.0, past, l.invariant.4, ap (λ y. y.end) g) in
+    taken_all a.z fnv a.s.now a.of.n a.of.x a.of.j P a.of.key.now a.to.now l.i-iterator.start l.low l.to l.s l.invariant.0 done
 
 pub returns-clause-cleared : goal.returns-clause-cleared
 returns-clause-cleared c =
@@ -197,8 +197,8 @@ returns-clause-cleared c =
     let r = c.run_of-i-items.ensures in
     let g = c.into_iter-i-iterator.ensures.into_iter_gives in
     let past : l.i-iterator.end ≤ l.i-iterator.start = search rules in
-    let done : after (dir_depth a.s.now) (pfx a.j (top a.j a.x)) ≤ l.i-iterator.start = omega (arith, r.1 ∙ ap (λ m. after m (pfx a.j (top a.j a.x))) c.get32-d.ensures.0, past, l.invariant.4, ap (λ y. y.end) g) in
-    taken_emptied a.z fnv a.s.now a.n a.x a.j P a.key.now a.to.now l.i-iterator.start l.low l.to l.s l.invariant.0 done
+    let done : after (dir_depth a.s.now) (pfx a.of.j (top a.of.j a.of.x)) ≤ l.i-iterator.start = omega (arith, r.1 ∙ ap (λ m. after m (pfx a.of.j (top a.of.j a.of.x))) c.get32-d.ensures.0, past, l.invariant.4, ap (λ y. y.end) g) in
+    taken_emptied a.z fnv a.s.now a.of.n a.of.x a.of.j P a.of.key.now a.to.now l.i-iterator.start l.low l.to l.s l.invariant.0 done
 
 pub returns-clause-lowest : goal.returns-clause-lowest
 returns-clause-lowest c =
@@ -208,5 +208,5 @@ returns-clause-lowest c =
     let r = c.run_of-i-items.ensures in
     let g = c.into_iter-i-iterator.ensures.into_iter_gives in
     let past : l.i-iterator.end ≤ l.i-iterator.start = search rules in
-    let done : after (dir_depth a.s.now) (pfx a.j (top a.j a.x)) ≤ l.i-iterator.start = omega (arith, r.1 ∙ ap (λ m. after m (pfx a.j (top a.j a.x))) c.get32-d.ensures.0, past, l.invariant.4, ap (λ y. y.end) g) in
-    taken_low a.z fnv a.s.now a.n a.x a.j P a.key.now a.to.now l.i-iterator.start l.low l.to l.s l.invariant.0 done c.requires.0.joinable.there
+    let done : after (dir_depth a.s.now) (pfx a.of.j (top a.of.j a.of.x)) ≤ l.i-iterator.start = omega (arith, r.1 ∙ ap (λ m. after m (pfx a.of.j (top a.of.j a.of.x))) c.get32-d.ensures.0, past, l.invariant.4, ap (λ y. y.end) g) in
+    taken_low a.z fnv a.s.now a.of.n a.of.x a.of.j P a.of.key.now a.to.now l.i-iterator.start l.low l.to l.s l.invariant.0 done c.requires.0.joinable.there

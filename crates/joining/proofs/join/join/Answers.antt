@@ -23,29 +23,29 @@ module _ (S : Shape) (s : List ℕ) (n x j : ℕ) (key : List ℕ) (J : Joinable
       let l : low * size S + size S ≤ length t = omega (arith, E.long, J.prefix.sound.long, apart (size S) low n m) in
       subst (λ y. low * y + y ≤ length t) (sym f) l
 
-pub overflow_cast-j : goal.overflow_cast-j
-overflow_cast-j c = let a = c.args in record { fits = omega (arith, bits a.z a.s.now a.n a.x a.j a.key.now c.requires.1.joinable) }
+pub overflow_cast-of : goal.overflow_cast-of
+overflow_cast-of c = let a = c.args in record { fits = omega (arith, bits a.z a.s.now a.of.n a.of.x a.of.j a.of.key.now c.requires.1.joinable) }
 
 pub gather-low-requires : goal.gather-low-requires
 gather-low-requires c =
     let a = c.args in
-    let rs = others_in fnv a.j (top a.j a.x) a.key.now (contents a.z a.s.now) in
+    let rs = others_in fnv a.of.j (top a.of.j a.of.x) a.of.key.now (contents a.z a.s.now) in
     (c.requires.1, fresh_taking rs c.new_page.ensures (subst (λ m. Housed m rs) (sym c.requires.0) c.requires.1.joinable.housed))
 
 pub overflow_mul-start : goal.overflow_mul-start
-overflow_mul-start c = let a = c.args in let g = c.gather-low in omega (arith, there a.z a.s.now a.n a.x a.j a.key.now c.requires.1.joinable g.new.s g.ensures.cleared g.result g.ensures.lowest c.size-size.result c.size-size.ensures)
+overflow_mul-start c = let a = c.args in let g = c.gather-low in omega (arith, there a.z a.s.now a.of.n a.of.x a.of.j a.of.key.now c.requires.1.joinable g.new.s g.ensures.cleared g.result g.ensures.lowest c.size-size.result c.size-size.ensures)
 
 pub overflow_add-start : goal.overflow_add-start
-overflow_add-start c = let a = c.args in let g = c.gather-low in omega (arith, there a.z a.s.now a.n a.x a.j a.key.now c.requires.1.joinable g.new.s g.ensures.cleared g.result g.ensures.lowest c.size-size.result c.size-size.ensures)
+overflow_add-start c = let a = c.args in let g = c.gather-low in omega (arith, there a.z a.s.now a.of.n a.of.x a.of.j a.of.key.now c.requires.1.joinable g.new.s g.ensures.cleared g.result g.ensures.lowest c.size-size.result c.size-size.ensures)
 
 pub slice_bounds-pack_into-end : goal.slice_bounds-pack_into-end
-slice_bounds-pack_into-end c = let a = c.args in let g = c.gather-low in omega (arith, there a.z a.s.now a.n a.x a.j a.key.now c.requires.1.joinable g.new.s g.ensures.cleared g.result g.ensures.lowest c.size-size.result c.size-size.ensures)
+slice_bounds-pack_into-end c = let a = c.args in let g = c.gather-low in omega (arith, there a.z a.s.now a.of.n a.of.x a.of.j a.of.key.now c.requires.1.joinable g.new.s g.ensures.cleared g.result g.ensures.lowest c.size-size.result c.size-size.ensures)
 
 pub count_up-requires : goal.count_up-requires
 count_up-requires c =
     let a = c.args in
     let g = c.gather-low in
-    joined_more a.z fnv a.s.now a.n a.x a.j a.key.now c.requires.1.joinable c.requires.0 c.new_page.ensures g.ensures.gathered g.ensures.cleared c.pack_into.ensures g.new.tallies g.ensures.counted
+    joined_more a.z fnv a.s.now a.of.n a.of.x a.of.j a.of.key.now c.requires.1.joinable c.requires.0 c.new_page.ensures g.ensures.gathered g.ensures.cleared c.pack_into.ensures g.new.tallies g.ensures.counted
 
 pub returns-clause-joined : goal.returns-clause-joined
 returns-clause-joined c =
@@ -55,9 +55,9 @@ returns-clause-joined c =
     let k = c.pack_into in
     let e = c.size-size.ensures in
     let back = page_back a.z g.new.s k.new.page g.result (g.result * z) (g.result * z + z) (ap (λ m. g.result * m) e) (ap (λ m. g.result * z + m) e) in
-    subst (Rejoined a.z fnv a.s.now a.n a.j (top a.j a.x) a.key.now g.result) (sym back)
-    (subst (λ p. Rejoined a.z fnv a.s.now a.n a.j (top a.j a.x) a.key.now p (set_page a.z g.new.s p k.new.page)) (sym g.ensures.lowest)
-    (rejoined a.z fnv a.s.now a.n a.x a.j a.key.now c.requires.1.joinable c.requires.0 c.new_page.ensures g.ensures.gathered g.ensures.cleared k.ensures))
+    subst (Rejoined a.z fnv a.s.now a.of.n a.of.j (top a.of.j a.of.x) a.of.key.now g.result) (sym back)
+    (subst (λ p. Rejoined a.z fnv a.s.now a.of.n a.of.j (top a.of.j a.of.x) a.of.key.now p (set_page a.z g.new.s p k.new.page)) (sym g.ensures.lowest)
+    (rejoined a.z fnv a.s.now a.of.n a.of.x a.of.j a.of.key.now c.requires.1.joinable c.requires.0 c.new_page.ensures g.ensures.gathered g.ensures.cleared k.ensures))
 
 pub returns-clause-counted : goal.returns-clause-counted
 returns-clause-counted c =
@@ -68,5 +68,5 @@ returns-clause-counted c =
     let e = c.size-size.ensures in
     let back = page_back a.z g.new.s k.new.page g.result (g.result * z) (g.result * z + z) (ap (λ m. g.result * m) e) (ap (λ m. g.result * z + m) e) in
     subst₂ (λ y m. BucketsCounted (contents a.z y) m) (sym back) (sym c.count_up.ensures)
-    (subst (λ p. BucketsCounted (contents a.z (set_page a.z g.new.s p k.new.page)) (one_more g.new.tallies (1 + a.j))) (sym g.ensures.lowest)
-    (joined_counted a.z fnv a.s.now a.n a.x a.j a.key.now c.requires.1.joinable c.requires.0 c.new_page.ensures g.ensures.gathered g.ensures.cleared k.ensures g.new.tallies g.ensures.counted))
+    (subst (λ p. BucketsCounted (contents a.z (set_page a.z g.new.s p k.new.page)) (one_more g.new.tallies (1 + a.of.j))) (sym g.ensures.lowest)
+    (joined_counted a.z fnv a.s.now a.of.n a.of.x a.of.j a.of.key.now c.requires.1.joinable c.requires.0 c.new_page.ensures g.ensures.gathered g.ensures.cleared k.ensures g.new.tallies g.ensures.counted))

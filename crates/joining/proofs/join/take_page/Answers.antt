@@ -35,10 +35,10 @@ count_down-requires c =
     (omega (arith, d, c.requires.0.shallow, c.requires.1.long), subst (λ k. 1 ≤ get_or a.tallies.now (1 + k) 0) d (without a.z a.s.now a.p a.tallies.now a.to.now a.key.now c.size-size.result c.size-size.ensures c.requires.0 c.requires.1).0)
 
 pub add_rows-requires : goal.add_rows-requires
-add_rows-requires c = let a = c.args in rw (lent a.z a.s.now a.p a.tallies.now a.to.now a.key.now c.size-size.result c.size-size.ensures c.requires.0 c.requires.1) (c.requires.0.slots, c.requires.0.room)
+add_rows-requires c = rw c.page_at.ensures (c.requires.0.slots, c.requires.0.room)
 
 pub returns-clause-gathered : goal.returns-clause-gathered
-returns-clause-gathered c = let a = c.args in rw (lent a.z a.s.now a.p a.tallies.now a.to.now a.key.now c.size-size.result c.size-size.ensures c.requires.0 c.requires.1) at c.add_rows.ensures
+returns-clause-gathered c = rw c.page_at.ensures at c.add_rows.ensures
 
 pub returns-clause-wrote : goal.returns-clause-wrote
 returns-clause-wrote c = let a = c.args in wrote a.z a.s.now a.p a.tallies.now a.to.now a.key.now c.size-size.result c.size-size.ensures c.requires.0 c.requires.1 c.clear_page.new.page c.clear_page.ensures

@@ -61,7 +61,7 @@ append_if-requires c =
     let R = c.requires in
     record {
       behind = behind_new _ _ _ _ _ _ _ _ R c.new_page.new.page c.new_page.ensures c.append_slots.new.page c.append_slots.ensures;
-      hash = new_at fnv (λ (w : Weight). w.hash) c.args.rows.from.now c.args.rows.ws.now (record { hash = 0; need = 0 }) c.args.rows.key.now R.hashes c.get16-n.result c.get16-n.ensures.0;
+      hash = new_at fnv (λ (w : Weight). w.hash) c.args.rows.from.now c.args.rows.ws.now (record { hash = 0; need = 0 }) c.args.rows.row.code.now R.hashes c.get16-n.result c.get16-n.ensures.0;
       deep = R.deep;
       natural = R.source.natural;
       good = R.source.good;

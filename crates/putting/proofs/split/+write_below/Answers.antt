@@ -3,12 +3,12 @@ use Rattle.std.proofs.Common.{◌≡◌, ℕ, ◌+◌, ◌*◌, ◌^◌, ◌≤�
 use lib.Pow.{pow_mono}
 use Rattle.putting.proofs.Splits.{bare_wrote, deep_wrote, one_free, one_wrote, half_ready, other_ready, both_wrote}
 use Rattle.putting.proofs.Weighs.{load_any}
-use Rattle.putting.proofs.Puts.{given_back}
+use Rattle.putting.proofs.Puts.{lent_by, back_by, inside_by}
 use Rattle.putting.specs.Put.{new_row}
 use Rattle.putting.specs.declared.weigh.Weight.{Weight}
 use Rattle.putting.specs.Split.{keyed, with_new, Bucketed, Spread, BucketsWritten}
 use Rattle.store.proofs.Accepted.Unique.{within, page_long}
-use Rattle.store.proofs.Paging.Views.{page_lent, set_long}
+use Rattle.store.proofs.Paging.Views.{set_long}
 use Rattle.store.specs.Pages.{page, as_row}
 use Rattle.partition.proofs.Sizes.{twelve}
 use Rattle.partition.specs.declared.Shape.{Shape}
@@ -83,22 +83,19 @@ next_page-p-requires t c =
     record {
       from = W.from;
       to = W.to;
-      free = one_free a.z fnv a.d (with_new a.rows.from.now (new_row a.rows.key.now a.rows.place.now)) a.k a.v a.s.now a.at C.depth W
+      free = one_free a.z fnv a.d (with_new a.rows.from.now (new_row a.rows.row.code.now a.rows.row.place.now)) a.k a.v a.s.now a.at C.depth W
           (pos _ _ _ _ _ _ _ _ _ _ _ C w.result w.ensures n l) (most _ _ _ _ _ _ _ _ _ _ _ C w.result w.ensures n l);
     }
 
 -- the page that is taken
-pub overflow_add-size : goal.overflow_add-size
-overflow_add-size t c = omega (arith, within c.args.z c.args.s.now c.next_page-p.result c.next_page-p.ensures.1)
+pub overflow_mul-start : goal.overflow_mul-start
+overflow_mul-start t c = let e = c.size-size.ensures in omega (arith, inside_by c.args.z c.args.s.now c.next_page-p.result c.size-size.result e (within c.args.z c.args.s.now c.next_page-p.result c.next_page-p.ensures.1))
 
-pub overflow_mul-a : goal.overflow_mul-a
-overflow_mul-a t c = omega (arith, within c.args.z c.args.s.now c.next_page-p.result c.next_page-p.ensures.1)
-
-pub overflow_add-e : goal.overflow_add-e
-overflow_add-e t c = omega (arith, within c.args.z c.args.s.now c.next_page-p.result c.next_page-p.ensures.1)
+pub overflow_add-start : goal.overflow_add-start
+overflow_add-start t c = let e = c.size-size.ensures in omega (arith, inside_by c.args.z c.args.s.now c.next_page-p.result c.size-size.result e (within c.args.z c.args.s.now c.next_page-p.result c.next_page-p.ensures.1))
 
 pub slice_bounds-write_bucket-end : goal.slice_bounds-write_bucket-end
-slice_bounds-write_bucket-end t c = omega (arith, within c.args.z c.args.s.now c.next_page-p.result c.next_page-p.ensures.1)
+slice_bounds-write_bucket-end t c = let e = c.size-size.ensures in omega (arith, inside_by c.args.z c.args.s.now c.next_page-p.result c.size-size.result e (within c.args.z c.args.s.now c.next_page-p.result c.next_page-p.ensures.1))
 
 pub write_bucket-requires : goal.write_bucket-requires
 write_bucket-requires t c =
@@ -108,7 +105,7 @@ write_bucket-requires t c =
     let w = c.load-need in
     let n = c.if-need-eq0.false in
     let l = c.if-need-z.true in
-    let long = ap length (page_lent a.z a.s.now p) ∙ page_long a.z a.s.now p c.next_page-p.ensures.1 in
+    let long = ap length (lent_by a.z a.s.now p c.size-size.result c.size-size.ensures) ∙ page_long a.z a.s.now p c.next_page-p.ensures.1 in
     let Z = C.writable.prefix.sized in
     record {
       source = C.source;
@@ -130,10 +127,10 @@ name_bucket-requires t c =
     let p = c.next_page-p.result in
     let q = c.write_bucket.new.page in
     let to = c.next_page-p.ensures.1 in
-    let B : Bucketed fnv (with_new a.rows.from.now (new_row a.rows.key.now a.rows.place.now)) a.k a.v (page a.z a.s.now p) q = rw (page_lent a.z a.s.now p) at c.write_bucket.ensures in
+    let B : Bucketed fnv (with_new a.rows.from.now (new_row a.rows.row.code.now a.rows.row.place.now)) a.k a.v (page a.z a.s.now p) q = rw (lent_by a.z a.s.now p c.size-size.result c.size-size.ensures) at c.write_bucket.ensures in
     let whole = set_long a.z a.s.now p q to (B.size ∙ page_long a.z a.s.now p to) in record {
       prefix = W.prefix;
-      directory = rw (given_back a.z a.s.now p q)
+      directory = rw (back_by a.z a.s.now p c.size-size.result c.size-size.ensures q)
           (record { sized = Z; long = omega (arith, whole, within a.z a.s.now 1 (omega (arith, W.long.least))); deep = C.depth });
       word = omega (arith, to, W.long.most, Z.whole, Z.most);
     }
@@ -147,12 +144,12 @@ returns-then-need-z t c =
     let w = c.load-need in
     let n = c.if-need-eq0.false in
     let l = c.if-need-z.true in
-    let rs = with_new a.rows.from.now (new_row a.rows.key.now a.rows.place.now) in
-    let B : Bucketed fnv rs a.k a.v (page a.z a.s.now p.result) q = rw (page_lent a.z a.s.now p.result) at c.write_bucket.ensures in
+    let rs = with_new a.rows.from.now (new_row a.rows.row.code.now a.rows.row.place.now) in
+    let B : Bucketed fnv rs a.k a.v (page a.z a.s.now p.result) q = rw (lent_by a.z a.s.now p.result c.size-size.result c.size-size.ensures) at c.write_bucket.ensures in
     one_wrote a.z fnv a.d rs a.k a.v a.s.now a.at C.depth C.writable
     (pos _ _ _ _ _ _ _ _ _ _ _ C w.result w.ensures n l) (most _ _ _ _ _ _ _ _ _ _ _ C w.result w.ensures n l)
     p.result p.ensures.0 p.ensures.1 q B
-    c.name_bucket.new.s (rw (given_back a.z a.s.now p.result q) at c.name_bucket.ensures)
+    c.name_bucket.new.s (rw (back_by a.z a.s.now p.result c.size-size.result c.size-size.ensures q) at c.name_bucket.ensures)
 
 pub returns-then-k-z : goal.returns-then-k-z
 returns-then-k-z t c = deepest _ _ _ _ _ _ _ _ _ _ _ c.requires c.load-need.result c.load-need.ensures c.if-need-z.false c.if-k-z.true

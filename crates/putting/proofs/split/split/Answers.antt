@@ -1,5 +1,5 @@
 -- `putting::split` meets its contract: refusals 6 and 7, else the new buckets, then the directory. Assumes nothing.
-use Rattle.std.proofs.Common.{◌≡◌, ℕ, ◌+◌, ◌*◌, ◌-◌, ◌^◌, ◌≤◌, ◌<◌, List, length, take, drop, min, arith, sym, ap, subst, ◌∙◌}
+use Rattle.std.proofs.Common.{◌≡◌, ℕ, ◌+◌, ◌*◌, ◌/◌, ◌-◌, ◌^◌, ◌≤◌, ◌<◌, List, length, min, arith, sym, ap, subst, ◌∙◌}
 use native.Mathlib.Nat.{mul-le-mul_right}
 use Rattle.ground.specs.Ladder.{Answers}
 use Rattle.ground.specs.Lists.{byte}
@@ -19,7 +19,6 @@ use Rattle.store.specs.Tables.{new, put_accepted}
 use Rattle.store.specs.Moves.{frees}
 use Rattle.store.proofs.Accepted.Rules.{opened}
 use Rattle.store.proofs.Accepted.Unique.{within, page_long}
-use Rattle.store.proofs.Paging.Views.{page_lent}
 use Rattle.store.proofs.Put.EveryStep.{Roomy, every_step, packed_used}
 use Rattle.counts.specs.Tallies.{SameCounts, CountsNow, one_less}
 use Rattle.directory.specs.Directory.{PrefixNamed, Directed, SettleDue, Recounted}
@@ -49,8 +48,8 @@ module _ (S : Shape) (s : List ℕ) (p i : ℕ) (key place : List ℕ) (C : Crow
   inside = within S s p (home S fnv fnv_lt s p i key place C).to
 
   -- its copy
-  copied : {from t : List ℕ} → length from ≡ size S → Copied from 0 (take (p * size S + size S - p * size S) (drop (p * size S) s)) t → t ≡ g
-  copied L K = copied_whole K (L ∙ sym (ap length (page_lent S s p) ∙ long)) ∙ page_lent S s p
+  copied : {from lent t : List ℕ} → lent ≡ g → length from ≡ size S → Copied from 0 lent t → t ≡ g
+  copied e L K = copied_whole K (L ∙ sym (ap length e ∙ long)) ∙ e
 
   module _ (from : List ℕ) (e : from ≡ g) where
     slotted : Slotted from
@@ -126,20 +125,17 @@ module _ (S : Shape) (s : List ℕ) (p i : ℕ) (key place : List ℕ) (C : Crow
         answered : (w : List ℕ) → Directed S fnv u (deepest_in (contents S u)) (pages S s) w → ((k : ℕ) → byte w k < 256) → Answers (put_accepted S fnv s (new_row key place)) (new, w)
         answered w D b = heavy_new S fnv fnv_lt s p i key place C fine R s₁ N t n W u again w D b
 
-pub overflow_mul-a : goal.overflow_mul-a
-overflow_mul-a c = omega (arith, inside _ _ _ _ _ _ c.requires.0)
+pub page_at-requires : goal.page_at-requires
+page_at-requires c = inside _ _ _ _ _ _ c.requires.0
 
-pub overflow_add-e : goal.overflow_add-e
-overflow_add-e c = omega (arith, inside _ _ _ _ _ _ c.requires.0)
-
-pub slice_bounds-copy_at-end : goal.slice_bounds-copy_at-end
-slice_bounds-copy_at-end c = omega (arith, inside _ _ _ _ _ _ c.requires.0)
+pub copy_at-requires : goal.copy_at-requires
+copy_at-requires c = omega (arith, ap length c.page_at.ensures, long _ _ _ _ _ _ c.requires.0, c.requires.1.page)
 
 pub gather-requires : goal.gather-requires
 gather-requires c =
     let C = c.requires.0 in
     let t = c.copy_at.new.dst in
-    let e = copied _ _ _ _ _ _ C c.requires.1.page c.copy_at.ensures in
+    let e = copied _ _ _ _ _ _ C c.page_at.ensures c.requires.1.page c.copy_at.ensures in
     let Z = slotted _ _ _ _ _ _ C t e in
     record {
       page = Z;
@@ -160,21 +156,21 @@ pub returns-then-z-load : goal.returns-then-z-load
 returns-then-z-load c =
     let a = c.args in
     let C = c.requires.0 in
-    let e = copied _ _ _ _ _ _ C c.requires.1.page c.copy_at.ensures in
+    let e = copied _ _ _ _ _ _ C c.page_at.ensures c.requires.1.page c.copy_at.ensures in
     let w = weight _ _ _ _ _ _ C c.copy_at.new.dst e c.hash-x.result c.hash-x.ensures c.top_bits.result c.load.result c.top_bits.ensures c.load.ensures in
-    heavy_six a.z fnv fnv_lt a.s.now a.p a.i a.key.now a.place.now C (omega (arith, w, c.if-z-load.true))
+    heavy_six a.z fnv fnv_lt a.s.now a.at.page a.at.slot a.row.code.now a.row.place.now C (omega (arith, w, c.if-z-load.true))
 
 pub top_bits-v-requires : goal.top_bits-v-requires
 top_bits-v-requires c =
     let C = c.requires.0 in
-    omega (arith, low _ _ _ _ _ _ C c.copy_at.new.dst (copied _ _ _ _ _ _ C c.requires.1.page c.copy_at.ensures), twelve_at_most _ _ _ _ _ _ C)
+    omega (arith, low _ _ _ _ _ _ C c.copy_at.new.dst (copied _ _ _ _ _ _ C c.page_at.ensures c.requires.1.page c.copy_at.ensures), twelve_at_most _ _ _ _ _ _ C)
 
 pub count_below-m-requires : goal.count_below-m-requires
 count_below-m-requires c =
     let a = c.args in
     let C = c.requires.0 in
     let t = c.copy_at.new.dst in
-    let e = copied _ _ _ _ _ _ C c.requires.1.page c.copy_at.ensures in
+    let e = copied _ _ _ _ _ _ C c.page_at.ensures c.requires.1.page c.copy_at.ensures in
     let r = c.read_counts-tallies in
     record {
       weighed = c.gather.ensures;
@@ -184,7 +180,7 @@ count_below-m-requires c =
         bits = bits _ _ _ _ _ _ C t e c.hash-x.result c.hash-x.ensures c.top_bits-v.result c.top_bits-v.ensures;
       };
       array = r.ensures.0;
-      few = few_counted a.z fnv fnv_lt a.s.now a.p a.i a.key.now a.place.now C r.result r.ensures.0 r.ensures.1 _ (below_most a.z fnv (with_new t (keyed a.key.now)) (depth t) c.top_bits-v.result);
+      few = few_counted a.z fnv fnv_lt a.s.now a.at.page a.at.slot a.row.code.now a.row.place.now C r.result r.ensures.0 r.ensures.1 _ (below_most a.z fnv (with_new t (keyed a.row.code.now)) (depth t) c.top_bits-v.result);
     }
 
 pub returns-then-free_pages-m : goal.returns-then-free_pages-m
@@ -192,18 +188,18 @@ returns-then-free_pages-m c =
     let a = c.args in
     let C = c.requires.0 in
     let t = c.copy_at.new.dst in
-    let e = copied _ _ _ _ _ _ C c.requires.1.page c.copy_at.ensures in
+    let e = copied _ _ _ _ _ _ C c.page_at.ensures c.requires.1.page c.copy_at.ensures in
     let x = c.hash-x in
     let w = weight _ _ _ _ _ _ C t e x.result x.ensures c.top_bits.result c.load.result c.top_bits.ensures c.load.ensures in
-    let m = here _ _ _ _ _ _ C t e x.result x.ensures c.top_bits-v.result c.top_bits-v.ensures (λ g v. c.count_below-m.result ≡ length (below a.z fnv (with_new g (keyed a.key.now)) (depth g) v)) c.count_below-m.ensures.many in
-    heavy_seven a.z fnv fnv_lt a.s.now a.p a.i a.key.now a.place.now C (omega (arith, w, c.if-z-load.false)) (omega (arith, m, c.free_pages.ensures.0, c.if-free_pages-m.true))
+    let m = here _ _ _ _ _ _ C t e x.result x.ensures c.top_bits-v.result c.top_bits-v.ensures (λ g v. c.count_below-m.result ≡ length (below a.z fnv (with_new g (keyed a.row.code.now)) (depth g) v)) c.count_below-m.ensures.many in
+    heavy_seven a.z fnv fnv_lt a.s.now a.at.page a.at.slot a.row.code.now a.row.place.now C (omega (arith, w, c.if-z-load.false)) (omega (arith, m, c.free_pages.ensures.0, c.if-free_pages-m.true))
 
 pub name_prefix-requires : goal.name_prefix-requires
 name_prefix-requires c =
     let a = c.args in
     let C = c.requires.0 in
-    let H = home a.z fnv fnv_lt a.s.now a.p a.i a.key.now a.place.now C in
-    let e = copied _ _ _ _ _ _ C c.requires.1.page c.copy_at.ensures in (
+    let H = home a.z fnv fnv_lt a.s.now a.at.page a.at.slot a.row.code.now a.row.place.now C in
+    let e = copied _ _ _ _ _ _ C c.page_at.ensures c.requires.1.page c.copy_at.ensures in (
       C.row.row.sized,
       record {
         long = omega (arith, inside _ _ _ _ _ _ C, mul-le-mul_right (size a.z) H.from);
@@ -218,23 +214,23 @@ write_below-requires c =
     let a = c.args in
     let C = c.requires.0 in
     let t = c.copy_at.new.dst in
-    let e = copied _ _ _ _ _ _ C c.requires.1.page c.copy_at.ensures in
+    let e = copied _ _ _ _ _ _ C c.page_at.ensures c.requires.1.page c.copy_at.ensures in
     let x = c.hash-x in
     let d = c.get32-d in
     let w = weight _ _ _ _ _ _ C t e x.result x.ensures c.top_bits.result c.load.result c.top_bits.ensures c.load.ensures in
     let f : Fine _ _ _ _ _ _ C = omega (arith, w, c.if-z-load.false) in
     let on = here _ _ _ _ _ _ C t e x.result x.ensures c.top_bits-v.result c.top_bits-v.ensures in
-    let m = on (λ g v. c.count_below-m.result ≡ length (below a.z fnv (with_new g (keyed a.key.now)) (depth g) v)) c.count_below-m.ensures.many in
+    let m = on (λ g v. c.count_below-m.result ≡ length (below a.z fnv (with_new g (keyed a.row.code.now)) (depth g) v)) c.count_below-m.ensures.many in
     let R = room _ _ _ _ _ _ C f c.count_below-m.result c.free_pages.result m c.free_pages.ensures.0 c.if-free_pages-m.false in
     let s₁ = c.name_prefix.new.s in
     let N = named _ _ _ _ _ _ C t e x.result x.ensures d.result d.ensures.0 s₁ c.name_prefix.ensures in
-    let S = source a.z fnv fnv_lt a.s.now a.p a.i a.key.now a.place.now C f R in
-    let V = writable_then a.z fnv fnv_lt a.s.now a.p a.i a.key.now a.place.now C f R s₁ N in
+    let S = source a.z fnv fnv_lt a.s.now a.at.page a.at.slot a.row.code.now a.row.place.now C f R in
+    let V = writable_then a.z fnv fnv_lt a.s.now a.at.page a.at.slot a.row.code.now a.row.place.now C f R s₁ N in
     record {
       depth = depth_low _ _ _ _ _ _ C d.result d.ensures.0;
-      source = subst (λ g. Source g a.i a.key.now a.place.now) (sym e) S;
+      source = subst (λ g. Source g a.at.slot a.row.code.now a.row.place.now) (sym e) S;
       weighed = c.gather.ensures;
-      writable = back _ _ _ _ _ _ C t e x.result x.ensures c.top_bits-v.result c.top_bits-v.ensures (λ g v. Writable a.z fnv (with_new g (new_row a.key.now a.place.now)) (depth g) v s₁ a.p) V;
+      writable = back _ _ _ _ _ _ C t e x.result x.ensures c.top_bits-v.result c.top_bits-v.ensures (λ g v. Writable a.z fnv (with_new g (new_row a.row.code.now a.row.place.now)) (depth g) v s₁ a.at.page) V;
     }
 
 -- and their counts
@@ -243,21 +239,21 @@ write_split-requires c =
     let a = c.args in
     let C = c.requires.0 in
     let t = c.copy_at.new.dst in
-    let e = copied _ _ _ _ _ _ C c.requires.1.page c.copy_at.ensures in
+    let e = copied _ _ _ _ _ _ C c.page_at.ensures c.requires.1.page c.copy_at.ensures in
     let x = c.hash-x in
     let d = c.get32-d in
     let w = weight _ _ _ _ _ _ C t e x.result x.ensures c.top_bits.result c.load.result c.top_bits.ensures c.load.ensures in
     let f : Fine _ _ _ _ _ _ C = omega (arith, w, c.if-z-load.false) in
     let on = here _ _ _ _ _ _ C t e x.result x.ensures c.top_bits-v.result c.top_bits-v.ensures in
-    let m = on (λ g v. c.count_below-m.result ≡ length (below a.z fnv (with_new g (keyed a.key.now)) (depth g) v)) c.count_below-m.ensures.many in
+    let m = on (λ g v. c.count_below-m.result ≡ length (below a.z fnv (with_new g (keyed a.row.code.now)) (depth g) v)) c.count_below-m.ensures.many in
     let R = room _ _ _ _ _ _ C f c.count_below-m.result c.free_pages.result m c.free_pages.ensures.0 c.if-free_pages-m.false in
     let s₁ = c.name_prefix.new.s in
     let N = named _ _ _ _ _ _ C t e x.result x.ensures d.result d.ensures.0 s₁ c.name_prefix.ensures in
-    let W = subst (λ d. BucketsWritten a.z fnv d (with_new (page a.z a.s.now a.p) (new_row a.key.now a.place.now)) (depth (page a.z a.s.now a.p)) (top (depth (page a.z a.s.now a.p)) (fnv a.key.now)) s₁ a.p c.write_below.new.s c.write_below.result) d.ensures.0
-    (on (λ g v. BucketsWritten a.z fnv d.result (with_new g (new_row a.key.now a.place.now)) (depth g) v s₁ a.p c.write_below.new.s c.write_below.result) c.write_below.ensures) in
+    let W = subst (λ d. BucketsWritten a.z fnv d (with_new (page a.z a.s.now a.at.page) (new_row a.row.code.now a.row.place.now)) (depth (page a.z a.s.now a.at.page)) (top (depth (page a.z a.s.now a.at.page)) (fnv a.row.code.now)) s₁ a.at.page c.write_below.new.s c.write_below.result) d.ensures.0
+    (on (λ g v. BucketsWritten a.z fnv d.result (with_new g (new_row a.row.code.now a.row.place.now)) (depth g) v s₁ a.at.page c.write_below.new.s c.write_below.result) c.write_below.ensures) in
     let l = c.read_counts-tallies in
     let l₁ = c.count_below-m.new.tallies in
-    let B = on (λ g v. CountedBelow a.z fnv (with_new g (keyed a.key.now)) (depth g) v l.result l₁) c.count_below-m.ensures.counted in
+    let B = on (λ g v. CountedBelow a.z fnv (with_new g (keyed a.row.code.now)) (depth g) v l.result l₁) c.count_below-m.ensures.counted in
     subst (λ g. SplitCounted c.write_below.new.s (depth g) l₁) (sym e) (due _ _ _ _ _ _ C f R s₁ N c.write_below.new.s c.write_below.result W l.result l.ensures.0 l.ensures.1 l₁ B)
 
 pub settle_depth-requires : goal.settle_depth-requires
@@ -265,43 +261,45 @@ settle_depth-requires c =
     let a = c.args in
     let C = c.requires.0 in
     let t = c.copy_at.new.dst in
-    let e = copied _ _ _ _ _ _ C c.requires.1.page c.copy_at.ensures in
+    let e = copied _ _ _ _ _ _ C c.page_at.ensures c.requires.1.page c.copy_at.ensures in
     let x = c.hash-x in
     let d = c.get32-d in
     let w = weight _ _ _ _ _ _ C t e x.result x.ensures c.top_bits.result c.load.result c.top_bits.ensures c.load.ensures in
     let f : Fine _ _ _ _ _ _ C = omega (arith, w, c.if-z-load.false) in
     let on = here _ _ _ _ _ _ C t e x.result x.ensures c.top_bits-v.result c.top_bits-v.ensures in
-    let m = on (λ g v. c.count_below-m.result ≡ length (below a.z fnv (with_new g (keyed a.key.now)) (depth g) v)) c.count_below-m.ensures.many in
+    let m = on (λ g v. c.count_below-m.result ≡ length (below a.z fnv (with_new g (keyed a.row.code.now)) (depth g) v)) c.count_below-m.ensures.many in
     let R = room _ _ _ _ _ _ C f c.count_below-m.result c.free_pages.result m c.free_pages.ensures.0 c.if-free_pages-m.false in
     let s₁ = c.name_prefix.new.s in
     let N = named _ _ _ _ _ _ C t e x.result x.ensures d.result d.ensures.0 s₁ c.name_prefix.ensures in
-    let W = subst (λ d. BucketsWritten a.z fnv d (with_new (page a.z a.s.now a.p) (new_row a.key.now a.place.now)) (depth (page a.z a.s.now a.p)) (top (depth (page a.z a.s.now a.p)) (fnv a.key.now)) s₁ a.p c.write_below.new.s c.write_below.result) d.ensures.0
-    (on (λ g v. BucketsWritten a.z fnv d.result (with_new g (new_row a.key.now a.place.now)) (depth g) v s₁ a.p c.write_below.new.s c.write_below.result) c.write_below.ensures) in
+    let W = subst (λ d. BucketsWritten a.z fnv d (with_new (page a.z a.s.now a.at.page) (new_row a.row.code.now a.row.place.now)) (depth (page a.z a.s.now a.at.page)) (top (depth (page a.z a.s.now a.at.page)) (fnv a.row.code.now)) s₁ a.at.page c.write_below.new.s c.write_below.result) d.ensures.0
+    (on (λ g v. BucketsWritten a.z fnv d.result (with_new g (new_row a.row.code.now a.row.place.now)) (depth g) v s₁ a.at.page c.write_below.new.s c.write_below.result) c.write_below.ensures) in
     let l = c.read_counts-tallies in
     let l₁ = c.count_below-m.new.tallies in
-    let B = on (λ g v. CountedBelow a.z fnv (with_new g (keyed a.key.now)) (depth g) v l.result l₁) c.count_below-m.ensures.counted in
+    let B = on (λ g v. CountedBelow a.z fnv (with_new g (keyed a.row.code.now)) (depth g) v l.result l₁) c.count_below-m.ensures.counted in
     let Q = subst (λ g. CountsNow c.write_below.new.s (le32 c.write_below.new.s 24 + 1) (one_less l₁ (1 + depth g)) c.write_split.new.s) e c.write_split.ensures in
-    settles _ _ _ _ _ _ C f R s₁ N c.write_below.new.s c.write_below.result W l.result l.ensures.0 l.ensures.1 l₁ B c.write_split.new.s Q d.result d.ensures.0
+    subst (λ m. SettleDue a.z fnv c.write_split.new.s (length a.s.now / m) d.result a.z.deepest) (sym c.size.ensures)
+    (settles _ _ _ _ _ _ C f R s₁ N c.write_below.new.s c.write_below.result W l.result l.ensures.0 l.ensures.1 l₁ B c.write_split.new.s Q d.result d.ensures.0)
 
 pub returns : goal.returns
 returns c =
     let a = c.args in
     let C = c.requires.0 in
     let t = c.copy_at.new.dst in
-    let e = copied _ _ _ _ _ _ C c.requires.1.page c.copy_at.ensures in
+    let e = copied _ _ _ _ _ _ C c.page_at.ensures c.requires.1.page c.copy_at.ensures in
     let x = c.hash-x in
     let d = c.get32-d in
     let w = weight _ _ _ _ _ _ C t e x.result x.ensures c.top_bits.result c.load.result c.top_bits.ensures c.load.ensures in
     let f : Fine _ _ _ _ _ _ C = omega (arith, w, c.if-z-load.false) in
     let on = here _ _ _ _ _ _ C t e x.result x.ensures c.top_bits-v.result c.top_bits-v.ensures in
-    let m = on (λ g v. c.count_below-m.result ≡ length (below a.z fnv (with_new g (keyed a.key.now)) (depth g) v)) c.count_below-m.ensures.many in
+    let m = on (λ g v. c.count_below-m.result ≡ length (below a.z fnv (with_new g (keyed a.row.code.now)) (depth g) v)) c.count_below-m.ensures.many in
     let R = room _ _ _ _ _ _ C f c.count_below-m.result c.free_pages.result m c.free_pages.ensures.0 c.if-free_pages-m.false in
     let s₁ = c.name_prefix.new.s in
     let N = named _ _ _ _ _ _ C t e x.result x.ensures d.result d.ensures.0 s₁ c.name_prefix.ensures in
-    let W = subst (λ d. BucketsWritten a.z fnv d (with_new (page a.z a.s.now a.p) (new_row a.key.now a.place.now)) (depth (page a.z a.s.now a.p)) (top (depth (page a.z a.s.now a.p)) (fnv a.key.now)) s₁ a.p c.write_below.new.s c.write_below.result) d.ensures.0
-    (on (λ g v. BucketsWritten a.z fnv d.result (with_new g (new_row a.key.now a.place.now)) (depth g) v s₁ a.p c.write_below.new.s c.write_below.result) c.write_below.ensures) in
+    let W = subst (λ d. BucketsWritten a.z fnv d (with_new (page a.z a.s.now a.at.page) (new_row a.row.code.now a.row.place.now)) (depth (page a.z a.s.now a.at.page)) (top (depth (page a.z a.s.now a.at.page)) (fnv a.row.code.now)) s₁ a.at.page c.write_below.new.s c.write_below.result) d.ensures.0
+    (on (λ g v. BucketsWritten a.z fnv d.result (with_new g (new_row a.row.code.now a.row.place.now)) (depth g) v s₁ a.at.page c.write_below.new.s c.write_below.result) c.write_below.ensures) in
     let l = c.read_counts-tallies in
     let l₁ = c.count_below-m.new.tallies in
-    let B = on (λ g v. CountedBelow a.z fnv (with_new g (keyed a.key.now)) (depth g) v l.result l₁) c.count_below-m.ensures.counted in
+    let B = on (λ g v. CountedBelow a.z fnv (with_new g (keyed a.row.code.now)) (depth g) v l.result l₁) c.count_below-m.ensures.counted in
     let Q = subst (λ g. CountsNow c.write_below.new.s (le32 c.write_below.new.s 24 + 1) (one_less l₁ (1 + depth g)) c.write_split.new.s) e c.write_split.ensures in
-    answered _ _ _ _ _ _ C f R s₁ N c.write_below.new.s c.write_below.result W l.result l.ensures.0 l.ensures.1 l₁ B c.write_split.new.s Q c.settle_depth.new.s c.settle_depth.ensures (λ k. omega (arith, c.type_inv.s k))
+    answered _ _ _ _ _ _ C f R s₁ N c.write_below.new.s c.write_below.result W l.result l.ensures.0 l.ensures.1 l₁ B c.write_split.new.s Q c.settle_depth.new.s
+    (subst (λ m. Directed a.z fnv c.write_split.new.s (deepest_in (contents a.z c.write_split.new.s)) (length a.s.now / m) c.settle_depth.new.s) c.size.ensures c.settle_depth.ensures) (λ k. omega (arith, c.type_inv.s k))

@@ -80,7 +80,7 @@ overflow_sub-rest c = let l = left_sum c.in_ok-t.t c.requires.0 c.requires.1 c.t
 
 pub lower-requires : goal.lower-requires
 lower-requires c =
-    let w : WholeTally c.args.ranks.now c.args.raised.now (listing c.args.z fnv (rows_held c.args.z c.args.s.now)) c.args.counts.now c.in_ok-t.t c.tally.new.counts = whole c.tally.result c.in_ok-t.t c.in_ok-t.ensures.cases c.tally.ensures in
+    let w : WholeTally c.args.sheet.ranks.now c.args.sheet.raised.now (listing c.args.z fnv (rows_held c.args.z c.args.s.now)) c.args.counts.now c.in_ok-t.t c.tally.new.counts = whole c.tally.result c.in_ok-t.t c.in_ok-t.ensures.cases c.tally.ensures in
     (sum_le c.in_ok-t.t c.requires.0 c.requires.1 c.tally.auto.counts w, codes_le c.in_ok-t.t c.requires.0 c.requires.1 c.tally.auto.counts w)
 
 pub lower-requires-2 : goal.lower-requires-2

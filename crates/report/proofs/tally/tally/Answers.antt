@@ -39,7 +39,7 @@ module _ (S : Shape) (s : List ℕ) (k : ℕ) (p : Place) (a : PlaceAt (listing 
 pub returns-in_default-find : goal.returns-in_default-find
 returns-in_default-find c =
     let t = c.loop-place.t in
-    let ps = c.args.ranks.now in
+    let ps = c.args.sheet.ranks.now in
     let z = c.args.z in
     let s = c.args.s.now in
     let p = c.in-Some.place in
@@ -52,13 +52,13 @@ returns-in_default-find c =
 pub count_one-t-requires : goal.count_one-t-requires
 count_one-t-requires c =
     let t = c.loop-place.t in
-    let ls = c.args.raised.now in
+    let ls = c.args.sheet.raised.now in
     let i = c.in-Some-find.i in
     let f : Follows c.args.z c.args.s.now t.codes (Some (c.in-Some.place, c.in-Some.next)) = subst (Follows c.args.z c.args.s.now t.codes) c.in-Some.is (c.next_place.ensures t.codes c.loop-place.invariant.2) in
     let there : i < length ls = omega (arith, c.in-Some-find.ensures.1, c.requires.0.sheet.paired) in
     let x : get_or {A = ℕ} ls i 0 ≤ 2000000000000 = c.requires.0.sheet.sound.amounts.le i there in
     let h : t.sum ≤ t.codes * 2000000000000 = c.loop-place.invariant.0.sum_le in
-    let k : t.codes < 5200000 = few_codes c.args.z c.args.s.now t.codes c.in-Some.place f.0 c.args.ranks.now ls c.requires.0 in
+    let k : t.codes < 5200000 = few_codes c.args.z c.args.s.now t.codes c.in-Some.place f.0 c.args.sheet.ranks.now ls c.requires.0 in
     let w = c.loop-place.invariant.1 in
     record { codes = omega (arith, k); sum = omega (arith, x, h, k); named = omega (arith, k, w.named_le); once = omega (arith, x, h, k, w.once_le); doubled = omega (arith, k, w.doubled_le) }
 
@@ -79,8 +79,8 @@ loop-place-preserved c =
     let i = c.in-Some-find.i in
     let m = c.requires.0.sheet in
     let f : Follows z s t.codes (Some (p, c.in-Some.next)) = subst (Follows z s t.codes) c.in-Some.is (c.next_place.ensures t.codes c.loop-place.invariant.2) in
-    let is : i ≡ index_of (get_or {A = ℕ} (ranks_in z s) t.codes 0) c.args.ranks.now = c.in-Some-find.ensures.0 ∙ ap (λ (v : ℕ). index_of v c.args.ranks.now) (c.rank_of.ensures ∙ its_rank z s t.codes p f.0) in
-    let there : i < length c.args.raised.now = omega (arith, c.in-Some-find.ensures.1, m.paired) in
+    let is : i ≡ index_of (get_or {A = ℕ} (ranks_in z s) t.codes 0) c.args.sheet.ranks.now = c.in-Some-find.ensures.0 ∙ ap (λ (v : ℕ). index_of v c.args.sheet.ranks.now) (c.rank_of.ensures ∙ its_rank z s t.codes p f.0) in
+    let there : i < length c.args.sheet.raised.now = omega (arith, c.in-Some-find.ensures.1, m.paired) in
     let r = c.count_one-t.result in
     let o = c.count_one-t.ensures in
     let k = c.mark-m in (

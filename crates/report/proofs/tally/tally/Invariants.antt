@@ -14,7 +14,7 @@ abbrev pub ranks_in : Shape → List ℕ → List ℕ
 ranks_in z s = map rank_on (listing z fnv (rows_held z s))
 
 abbrev pub invariant-loop-place : goal.invariant-loop-place
-invariant-loop-place l = Going l.ranks l.raised (ranks_in l.z l.s) l.fn.counts l.counts l.t.codes l.t.sum × Counting l.raised l.fn.counts l.counts l.t × At l.z l.s l.t.codes l.c
+invariant-loop-place l = Going l.sheet.ranks.now l.sheet.raised.now (ranks_in l.z l.s) l.fn.counts l.counts l.t.codes l.t.sum × Counting l.sheet.raised.now l.fn.counts l.counts l.t × At l.z l.s l.t.codes l.c
 
 abbrev pub decreases-loop-place : goal.decreases-loop-place
 decreases-loop-place l = length (listing l.z fnv (rows_held l.z l.s)) - l.t.codes

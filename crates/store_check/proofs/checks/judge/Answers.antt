@@ -11,7 +11,7 @@ use Rattle.store_check.specs.Directory.{Entries, Ranges}
 use Rattle.store_check.proofs.Heads.{of_page1, standing}
 use Rattle.store_check.proofs.Naming.{room}
 use Rattle.store_check.proofs.Parting.{undivided, level}
-use Rattle.store_check.proofs.Stops.{none_bad, bad_up, bad_again, bad_depth, all_sound}
+use Rattle.store_check.proofs.Stops.{bad_up, bad_again, bad_depth, all_sound}
 use Rattle.store_check.proofs.checks.judge.Goals as goal
 
 -- past page 0: the directory's m entries are in page 1, as many as its depth asks
@@ -62,30 +62,29 @@ tally-requires g c =
       none = r.tables.no_counts;
     }
 
-pub returns-then-p-n : goal.returns-then-p-n
-returns-then-p-n g c =
-    bad_up _ _ fnv _ c.requires.judgeable.long c.if-not-page0_ok.ensures c.if-not-page1_ok.ensures.says _ c.first_unsound-p.ensures.0 c.if-p-n.true
+pub returns-in-Some : goal.returns-in-Some
+returns-in-Some g c =
+    bad_up _ _ fnv _ c.requires.judgeable.long c.if-not-page0_ok.ensures c.if-not-page1_ok.ensures.says c.in-Some.p c.in-Some.ensures.first
 
 pub returns-then-d-eq0 : goal.returns-then-d-eq0
 returns-then-d-eq0 g c =
-    let stands = none_bad _ _ _ c.first_unsound-p.ensures.0 c.if-p-n.false in
+    let stands = c.in_default.ensures.first in
     let all = standing _ _ c.requires.sized _ c.requires.judgeable.long c.if-not-page0_ok.ensures stands in
     let flat : dir_depth c.args.s.now ≡ 0 = sym c.get32-d.ensures.0 ∙ c.if-d-eq0.true in
     all_sound _ _ fnv _ c.requires.judgeable.long c.if-not-page0_ok.ensures c.if-not-page1_ok.ensures.says stands (undivided _ _ _ all flat) (level _ _ all flat)
 
-pub returns-then-q-n : goal.returns-then-q-n
-returns-then-q-n g c =
-    let stands = none_bad _ _ _ c.first_unsound-p.ensures.0 c.if-p-n.false in
-    bad_again _ _ fnv _ c.requires.judgeable.long c.if-not-page0_ok.ensures c.if-not-page1_ok.ensures.says stands _ c.first_joinable-q.ensures c.if-q-n.true
+pub returns-in-Some-first_joinable : goal.returns-in-Some-first_joinable
+returns-in-Some-first_joinable g c =
+    bad_again _ _ fnv _ c.requires.judgeable.long c.if-not-page0_ok.ensures c.if-not-page1_ok.ensures.says c.in_default.ensures.first c.in-Some-first_joinable.p c.in-Some-first_joinable.ensures
 
 pub returns-then-deepest-d : goal.returns-then-deepest-d
 returns-then-deepest-d g c =
-    let stands = none_bad _ _ _ c.first_unsound-p.ensures.0 c.if-p-n.false in
-    let parted = none_bad _ _ _ c.first_joinable-q.ensures c.if-q-n.false in
+    let stands = c.in_default.ensures.first in
+    let parted = c.in_default-first_joinable.ensures in
     bad_depth _ _ fnv _ c.requires.judgeable.long c.if-not-page0_ok.ensures c.if-not-page1_ok.ensures.says stands parted (λ e. c.if-deepest-d.true (c.deepest.ensures.0 ∙ sym e ∙ sym c.get32-d.ensures.0))
 
 pub returns : goal.returns
 returns g c =
-    let stands = none_bad _ _ _ c.first_unsound-p.ensures.0 c.if-p-n.false in
-    let parted = none_bad _ _ _ c.first_joinable-q.ensures c.if-q-n.false in
+    let stands = c.in_default.ensures.first in
+    let parted = c.in_default-first_joinable.ensures in
     all_sound _ _ fnv _ c.requires.judgeable.long c.if-not-page0_ok.ensures c.if-not-page1_ok.ensures.says stands parted (sym c.get32-d.ensures.0 ∙ sym c.if-deepest-d.false ∙ c.deepest.ensures.0)

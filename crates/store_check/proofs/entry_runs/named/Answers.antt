@@ -1,9 +1,10 @@
 -- The run is all that the prefix calls for.
-use Rattle.std.proofs.Common.{◌≡◌, ◌-◌, arith, rules, ◌∙◌}
+use Rattle.std.proofs.Common.{◌≡◌, ◌-◌, ◌≤◌, length, arith, rules, ◌∙◌}
 use Rattle.ground.proofs.Tests.{says_same, says_eqb}
 use Rattle.partition.specs.Bits.{top}
 use Rattle.store_check.specs.Directory.{AllAre, Named}
 use Rattle.store_check.proofs.Naming.{run_named, named_run}
+use Rattle.store_check.proofs.Runs.{run_tested}
 use Rattle.store_check.proofs.entry_runs.named.Goals as goal
 
 pub returns-then-counts-p : goal.returns-then-counts-p
@@ -13,7 +14,9 @@ returns-then-counts-p c =
     let r = c.run_of-run in
     let e = r.ensures in
     let long : c.len.result ≡ r.result.end - r.result.start = search rules in
-    says_same {P = AllAre a.dir.now r.result.start r.result.end a.p} {Q = Named a.dir.now a.d a.k (top a.k a.x) a.p} c.all_are.result c.all_are.ensures
+    let within : r.result.end ≤ length a.dir.now = omega (arith, e.3, q.inside) in
+    says_same {P = AllAre a.dir.now r.result.start r.result.end a.p} {Q = Named a.dir.now a.d a.k (top a.k a.x) a.p} c.all.result
+    (run_tested (λ i. i ≡ a.p) a.dir.now r.result.start r.result.end c.all.result e.2 within (search rules))
     (λ all. run_named a.dir.now a.d a.p q.from q.beyond _ a.counts.now q.counted q.to q.inside a.k (top a.k a.x) _ _ e.0 e.1 e.2 e.3 all (c.if-counts-p.true ∙ long))
     (λ n. (named_run a.dir.now a.d a.p q.from q.beyond _ a.counts.now q.counted q.to q.inside a.k (top a.k a.x) _ _ e.0 e.1 e.2 e.3 n).0)
 

@@ -1,5 +1,5 @@
 -- What a turn shows of page p, and how each way out ends the pass.
-use Rattle.std.proofs.Common.{◌≡◌, refl, sym, ap, subst, ◌∙◌, ℕ, List, ◌+◌, ◌-◌, ◌*◌, ◌^◌, ◌<◌, ◌≤◌, take, drop, bit_xor, below_more, get_or-set_other, arith}
+use Rattle.std.proofs.Common.{◌≡◌, refl, sym, ap, subst, ◌∙◌, ℕ, List, ◌-◌, ◌^◌, ◌<◌, ◌≤◌, length, bit_xor, below_more, get_or-set_other, arith}
 use mathlib.Core.Logic.{⊎_elim}
 use Rattle.ground.proofs.Sides.{side}
 use Rattle.hash.specs.Fnv.{fnv}
@@ -10,18 +10,14 @@ use Rattle.page.specs.Page.{depth, code}
 use Rattle.page_check.proofs.Prefixes.{near}
 use Rattle.store.specs.Accepted.{Stands}
 use Rattle.store.specs.Pages.{size, page}
-use Rattle.store.proofs.Paging.Views.{page_lent}
+use Rattle.store.proofs.Accepted.Unique.{page_long}
 use Rattle.store_check.specs.Directory.{NamesCounted, Named}
-use Rattle.store_check.specs.Begun.{FreeAndUnnamed, Own, Pass1}
+use Rattle.store_check.specs.Begun.{Begun, FreeAndUnnamed, Own, Pass1}
 use Rattle.store_check.specs.Digest.{first_of}
 use Rattle.store_check.proofs.Naming.{room}
 use Rattle.store_check.proofs.Parting.{hashed_more, hashed_free, first_used}
 use Rattle.store_check.proofs.Standing.{ends_bad, Like, free_stands, used_stands, stands_free, stands_own, stands_like, stands_named}
 use Rattle.store_check.proofs.pages.first_unsound.Goals as goal
-
--- a page as it is lent
-abbrev lent_at : Shape → List ℕ → ℕ → List ℕ
-lent_at S s p = take (p * size S + size S - p * size S) (drop (p * size S) s)
 
 -- hashes that are near are like
 module _ (g : List ℕ) (d : ℕ) (own : Own g d) (shallow : d ≤ 12) (one two m i : ℕ) (a : one ≡ fnv (code g 0)) (b : two ≡ fnv (code g i)) (e : m ≡ 2 ^ (32 - depth g)) where
@@ -53,12 +49,24 @@ pages-preserved-then-pg-eq0 c =
       no_more = λ q m. v.no_more q (omega (arith, f.start));
     }
 
+-- page p, as it is lent
+module _ (S : Shape) (s dir : List ℕ) (n d p : ℕ) (b : Begun S s dir n d) (there : p < n) (g : List ℕ) (e : g ≡ page S s p) where
+  long : length g ≡ size S
+  long = ap length e ∙ page_long S s p (omega (arith, there, b.number))
+
+pub bounds-pg-0 : goal.bounds-pg-0
+bounds-pg-0 c = omega (arith, long c.args.z c.args.s.now c.args.dir.now c.args.n c.args.d c.pages.p c.requires.begun c.if-n-p.false c.page_at-pg.result.now c.page_at-pg.ensures, c.requires.begun.sized.least)
+
+pub own_ok-requires : goal.own_ok-requires
+own_ok-requires c =
+    (c.pages.invariant.tab_long ∙ sym (long c.args.z c.args.s.now c.args.dir.now c.args.n c.args.d c.pages.p c.requires.begun c.if-n-p.false c.page_at-pg.result.now c.page_at-pg.ensures), c.pages.invariant.no_tab)
+
 pub share_limit-m-requires : goal.share_limit-m-requires
 share_limit-m-requires c = omega (arith, c.if-not-own_ok.ensures.says.deep, shallow _ _ _ _ _ _ _ _ c.requires)
 
 pub slots-init : goal.slots-init
 slots-init c =
-    let g = lent_at c.args.z c.args.s.now c.pages.p in
+    let g = c.page_at-pg.result.now in
     let far = c.near_where_long-near.ensures in λ j h.
     ⊎_elim
     (λ lt. let e : j ≡ 0 = omega arith in rw e refl)
@@ -67,7 +75,7 @@ slots-init c =
 
 pub slots-preserved : goal.slots-preserved
 slots-preserved c =
-    let g = lent_at c.args.z c.args.s.now c.pages.p in
+    let g = c.page_at-pg.result.now in
     below_more (Like g) _ c.slots.invariant
     (like_of g c.args.d c.if-not-own_ok.ensures.says (shallow _ _ _ _ _ _ _ _ c.requires) c.hash_slot-first.result c.hash_in_place.result c.share_limit-m.result c.slots.i c.hash_slot-first.ensures c.hash_in_place.ensures c.share_limit-m.ensures c.if-not-differ_below.ensures)
 
@@ -90,8 +98,8 @@ pages-preserved c =
     let a = c.args in
     let b = c.requires.begun in
     let v = c.pages.invariant in
-    let g = lent_at a.z a.s.now c.pages.p in
-    let lent : g ≡ page a.z a.s.now c.pages.p = page_lent a.z a.s.now c.pages.p in
+    let g = c.page_at-pg.result.now in
+    let lent : g ≡ page a.z a.s.now c.pages.p = c.page_at-pg.ensures in
     let x : c.hash_slot-first.result ≡ first_of g = c.hash_slot-first.ensures ∙ sym (first_used g c.if-pg-eq0.false) in
     record {
       tab_long = c.own_ok.auto.tab ∙ v.tab_long;
@@ -106,48 +114,43 @@ pages-preserved c =
       no_more = λ q m. get_or-set_other c.pages.hashes c.pages.p q _ 0 (λ e. omega arith) ∙ v.no_more q (omega arith);
     }
 
-pub returns-then-q-p : goal.returns-then-q-p
-returns-then-q-p c =
+pub returns-then-q-p-clause-first : goal.returns-then-q-p-clause-first
+returns-then-q-p-clause-first c =
     let a = c.args in
     let b = c.requires.begun in
     let v = c.pages.invariant in
     let f = c.skip_free-q.ensures in
-    let g = lent_at a.z a.s.now c.pages.p in
-    let lent : g ≡ page a.z a.s.now c.pages.p = page_lent a.z a.s.now c.pages.p in
-    let same : c.skip_free-q.result ≡ c.pages.p = omega (arith, f.start, c.if-q-p.true) in (
-      ends_bad _ _ c.pages.p v.some v.within v.stand (λ st. f.bad (omega (arith, same, c.if-n-p.false, b.number))
-          (subst (λ k. FreeAndUnnamed (page a.z a.s.now k) a.counts.now k) (sym same) (subst (λ y. FreeAndUnnamed y a.counts.now c.pages.p) lent
-          (stands_free a.z a.s.now a.dir.now a.counts.now a.n a.d c.pages.p b c.requires.counted v.some c.if-n-p.false g lent c.if-pg-eq0.true st)))),
-      v.hashed,
-    )
+    let g = c.page_at-pg.result.now in
+    let lent : g ≡ page a.z a.s.now c.pages.p = c.page_at-pg.ensures in
+    let same : c.skip_free-q.result ≡ c.pages.p = omega (arith, f.start, c.if-q-p.true) in
+    ends_bad _ _ c.pages.p v.some c.if-n-p.false v.stand (λ st. f.bad (omega (arith, same, c.if-n-p.false, b.number))
+    (subst (λ k. FreeAndUnnamed (page a.z a.s.now k) a.counts.now k) (sym same) (subst (λ y. FreeAndUnnamed y a.counts.now c.pages.p) lent
+    (stands_free a.z a.s.now a.dir.now a.counts.now a.n a.d c.pages.p b c.requires.counted v.some c.if-n-p.false g lent c.if-pg-eq0.true st))))
 
-pub returns-then-not-own_ok : goal.returns-then-not-own_ok
-returns-then-not-own_ok c =
-    let a = c.args in
-    let v = c.pages.invariant in (
-      ends_bad _ _ c.pages.p v.some v.within v.stand (λ st. c.if-not-own_ok.ensures.says
-          (stands_own a.z a.s.now a.dir.now a.counts.now a.n a.d c.pages.p c.requires.begun c.requires.counted v.some c.if-n-p.false _ (page_lent a.z a.s.now c.pages.p) c.if-pg-eq0.false st)),
-      v.hashed,
-    )
-
-pub returns-then-not-differ_below : goal.returns-then-not-differ_below
-returns-then-not-differ_below c =
+pub returns-then-not-own_ok-clause-first : goal.returns-then-not-own_ok-clause-first
+returns-then-not-own_ok-clause-first c =
     let a = c.args in
     let v = c.pages.invariant in
-    let g = lent_at a.z a.s.now c.pages.p in (
-      ends_bad _ _ c.pages.p v.some v.within v.stand (λ st. c.if-not-differ_below.ensures
-          (of_like g a.d c.if-not-own_ok.ensures.says (shallow _ _ _ _ _ _ _ _ c.requires) c.hash_slot-first.result c.hash_in_place.result c.share_limit-m.result c.slots.i c.hash_slot-first.ensures c.hash_in_place.ensures c.share_limit-m.ensures
-          (stands_like a.z a.s.now a.dir.now a.counts.now a.n a.d c.pages.p c.requires.begun c.requires.counted v.some c.if-n-p.false g (page_lent a.z a.s.now c.pages.p) c.if-pg-eq0.false st c.slots.i (omega (arith, c.get16-count.ensures.0))))),
-      v.hashed,
-    )
+    ends_bad _ _ c.pages.p v.some c.if-n-p.false v.stand (λ st. c.if-not-own_ok.ensures.says
+    (stands_own a.z a.s.now a.dir.now a.counts.now a.n a.d c.pages.p c.requires.begun c.requires.counted v.some c.if-n-p.false c.page_at-pg.result.now c.page_at-pg.ensures c.if-pg-eq0.false st))
 
-pub returns-then-not-named : goal.returns-then-not-named
-returns-then-not-named c =
+pub returns-then-not-differ_below-clause-first : goal.returns-then-not-differ_below-clause-first
+returns-then-not-differ_below-clause-first c =
     let a = c.args in
     let v = c.pages.invariant in
-    let g = lent_at a.z a.s.now c.pages.p in (
-      ends_bad _ _ c.pages.p v.some v.within v.stand (λ st. c.if-not-named.ensures
-          (subst (λ y. Named a.dir.now a.d (depth g) (top (depth g) y) c.pages.p) (sym c.hash_slot-first.ensures)
-          (stands_named a.z a.s.now a.dir.now a.counts.now a.n a.d c.pages.p c.requires.begun c.requires.counted v.some c.if-n-p.false g (page_lent a.z a.s.now c.pages.p) c.if-pg-eq0.false st))),
-      v.hashed,
-    )
+    let g = c.page_at-pg.result.now in
+    ends_bad _ _ c.pages.p v.some c.if-n-p.false v.stand (λ st. c.if-not-differ_below.ensures
+    (of_like g a.d c.if-not-own_ok.ensures.says (shallow _ _ _ _ _ _ _ _ c.requires) c.hash_slot-first.result c.hash_in_place.result c.share_limit-m.result c.slots.i c.hash_slot-first.ensures c.hash_in_place.ensures c.share_limit-m.ensures
+    (stands_like a.z a.s.now a.dir.now a.counts.now a.n a.d c.pages.p c.requires.begun c.requires.counted v.some c.if-n-p.false g c.page_at-pg.ensures c.if-pg-eq0.false st c.slots.i (omega (arith, c.get16-count.ensures.0)))))
+
+pub returns-then-not-named-clause-first : goal.returns-then-not-named-clause-first
+returns-then-not-named-clause-first c =
+    let a = c.args in
+    let v = c.pages.invariant in
+    let g = c.page_at-pg.result.now in
+    ends_bad _ _ c.pages.p v.some c.if-n-p.false v.stand (λ st. c.if-not-named.ensures
+    (subst (λ y. Named a.dir.now a.d (depth g) (top (depth g) y) c.pages.p) (sym c.hash_slot-first.ensures)
+    (stands_named a.z a.s.now a.dir.now a.counts.now a.n a.d c.pages.p c.requires.begun c.requires.counted v.some c.if-n-p.false g c.page_at-pg.ensures c.if-pg-eq0.false st)))
+
+pub returns-then-n-p-clause-first : goal.returns-then-n-p-clause-first
+returns-then-n-p-clause-first c q a b = c.pages.invariant.stand q (omega (arith, b, c.if-n-p.true)) a

@@ -1,4 +1,0 @@
-use Rattle.lots.proofs.+in_large_room.Given as goal
-
-abbrev pub decreases-in_large_room : goal.decreases-in_large_room
-decreases-in_large_room g l = l.turns
