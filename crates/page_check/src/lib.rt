@@ -102,8 +102,6 @@ fn lead_of(page: &[u8], x: usize, y: usize) -> usize
 }
 
 // The slot at k by comparing its code with the one before: what tells of it, if its word w breaks no rule.
-// Not made a part of the loop over slots, which seldom comes here and has no register to spare.
-#[inline(never)]
 fn compared(page: &[u8], k: usize, w: usize) -> Option<usize>
     requires { Preceded page.now k × (off_of w + w / 16384 ≤ length page.now + 16384) }
     ensures { NextTold page.now (length page.now) (slot_of page.now k) w result }

@@ -22,7 +22,12 @@ fn ranges(dir: &[u32], n: u32, m: usize) -> bool
     requires { m ≤ length dir.now }
     ensures { Says result (EntriesInRange dir.now n m) }
 {
-    dir[..m].iter().all(|e| *e != 1 && *e < n)
+    // Stays: no way out before the end, so that it vectorises; `all` leaves at the first, and takes five instructions more for each entry.
+    let mut ok = true;
+    for &e in &dir[..m] {
+        ok &= e != 1 && e < n;
+    }
+    ok
 }
 
 // Whether page 1 keeps its rules, with m entries in use, and if so the entries: those behind are looked at as bytes, not read.
