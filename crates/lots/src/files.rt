@@ -82,31 +82,30 @@ fn create<R: Files>(rt: &R, path: &str) -> io::Result<R::File> {
     how.open(rt, path)
 }
 
-// Makes a file of the store. The name must be free, and a file that cannot be made whole is removed.
-fn make<R: Files>(rt: &R, path: &str, store: &[u8]) -> io::Result<()> {
-    let mut file = create(rt, path)?;
-    let made = write_open(&mut file, store);
-    if made.is_err() {
-        let _ = fs::remove_file(rt, path);
-    }
-    made
+// Makes a file of the store; whatever fails is told. The name must be free, and a file that cannot be made whole is removed, once that is told.
+fn make<R: Files + Eprint>(rt: &R, path: &str, store: &[u8]) -> Option<()> {
+    let mut file = create(rt, path)
+        .map_err(|e| say::failure(rt, path, e))
+        .ok()?;
+    write_open(&mut file, store)
+        .map_err(|e| {
+            say::failure(rt, path, e);
+            let _ = fs::remove_file(rt, path);
+        })
+        .ok()
 }
 
-// The store goes to a new file, which then takes the old one's name.
-fn replace<'a, R: Files>(
-    rt: &R,
-    path: &'a [u8],
-    beside: &'a [u8],
-    store: &[u8],
-) -> Result<(), Failure<'a>> {
-    let path = text_of(path)?;
-    let beside = text_of(beside)?;
-    make(rt, beside, store).map_err(|e| Failure::System(beside, e))?;
-    if let Err(e) = fs::rename(rt, beside, path) {
-        let _ = fs::remove_file(rt, beside);
-        return Err(Failure::System(path, e));
-    }
-    Ok(())
+// The store goes to a new file, which then takes the old one's name; whatever fails is told.
+fn replace<R: Files + Eprint>(rt: &R, path: &[u8], beside: &[u8], store: &[u8]) -> Option<()> {
+    let path = text_of(path).map_err(|e| tell(rt, e)).ok()?;
+    let beside = text_of(beside).map_err(|e| tell(rt, e)).ok()?;
+    make(rt, beside, store)?;
+    fs::rename(rt, beside, path)
+        .map_err(|e| {
+            say::failure(rt, path, e);
+            let _ = fs::remove_file(rt, beside);
+        })
+        .ok()
 }
 
 // The name of the new file: FILE.new.
@@ -125,7 +124,5 @@ pub fn save<R: Files + Eprint>(rt: &R, path: &[u8], store: &[u8]) -> bool
 {
     let mut beside = [0u8; 4100];
     let n = name(path, &mut beside);
-    replace(rt, path, &beside[0..n], store)
-        .map_err(|e| tell(rt, e))
-        .is_ok()
+    replace(rt, path, &beside[0..n], store).is_some()
 }
