@@ -1,7 +1,8 @@
 // The line `report SHEET`: the sheet read, the report asked, and its rows and sums told.
-ghost use Rattle.std.specs.Prelude.{◌≡◌, ◌+◌, ◌<◌, ◌≤◌, length, replicate};
+ghost use Rattle.std.specs.Prelude.{◌≡◌, ◌+◌, ◌<◌, ◌≤◌, IfSome, length, replicate};
 ghost use Rattle.partition.specs.Sizes.{shape_of};
 ghost use Rattle.report.specs.Report.{missing, summed};
+ghost use Rattle.telling.specs.Told.{AllTold};
 ghost use Rattle.lots.specs.Obeys.{Passes, ReportAsked};
 ghost use Rattle.lots.specs.Reports.{FileFormed, MarkedRows, OtherForm, Reports, RowGiven, RowRefused, Summable};
 
@@ -110,7 +111,7 @@ fn tell_row<R: Print + Eprint>(
     }
 }
 
-// Row i of n by its mark.
+// Of n rows the one after the first i by its mark, and how many are told then; none where it could not be written.
 fn tell_next<R: Print + Eprint>(
     rt: &R,
     s: &[u8],
@@ -119,14 +120,15 @@ fn tell_next<R: Print + Eprint>(
     counts: &[u8],
     n: usize,
     i: usize,
-) -> bool
+) -> Option<usize>
     requires { MarkedRows z s.now flat.now n counts.now × (i < n) }
+    ensures { IfSome result (λ told. told ≡ i + 1) }
 {
     let r = report::named_row(flat, counts, i);
-    tell_row(rt, s, z, flat, n, i, r)
+    tell_row(rt, s, z, flat, n, i, r).then_some(i + 1)
 }
 
-// Every row of the sheet by its mark, in the sheet's order; no more where one could not be written.
+// Every row of the sheet by its mark, in the sheet's order, and their number; none where one could not be written.
 fn tell_rows<R: Print + Eprint>(
     rt: &R,
     s: &[u8],
@@ -134,15 +136,15 @@ fn tell_rows<R: Print + Eprint>(
     flat: &[u64],
     counts: &[u8],
     n: usize,
-) -> bool
+) -> Option<usize>
     requires { MarkedRows z s.now flat.now n counts.now }
+    ensures { AllTold n result }
 {
+    let mut told = 0;
     for i in 0..n {
-        if !tell_next(rt, s, z, flat, counts, n, i) {
-            return false;
-        }
+        told = tell_next(rt, s, z, flat, counts, n, i)?;
     }
-    true
+    Some(told)
 }
 
 // The rows that a report is about, by a tally of their own into n clear marks.
@@ -157,7 +159,7 @@ fn tell_marked<R: Print + Eprint>(
     requires { Summable z s.now flat.now n × (counts.old ≡ replicate n 0) }
 {
     let _ = report::mark_rows(s, z, flat, counts);
-    tell_rows(rt, s, z, flat, counts, n)
+    tell_rows(rt, s, z, flat, counts, n).is_some()
 }
 
 // The rows that a report is about told, with marks of their own.
