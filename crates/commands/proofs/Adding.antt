@@ -16,10 +16,8 @@ use Rattle.ground.proofs.Sides.{side}
 use Rattle.ground.proofs.Parts.{part_is, part_same}
 use Rattle.words.specs.Moves.{Copied}
 use Rattle.io.specs.Digits.{last_digits, hex_digit_ascii}
-use Rattle.std.specs.Prelude.{Result}
-use Rattle.store.specs.declared.Done.{Done}
 use Rattle.store.specs.declared.Refusal.{Refusal}
-use Rattle.store.specs.Tables.{Out, Numbered, refusal, meaning}
+use Rattle.store.specs.Tables.{Out, Numbered, refusal}
 use Rattle.store.proofs.Demands.Meaning.{by_refusal}
 use Rattle.commands.specs.Numbers.{decimal, width}
 use Rattle.commands.specs.Codes.{upper, escape, glyphs, shown}

@@ -62,39 +62,16 @@ eight_more c i at {p} {q} {s} {r} h a b =
     let e : r ≡ at + (i + 8) = omega (arith, b.next, m) in
     subst (λ (u : ℕ). Adds (take (i + 8) c) p at s u) e (as_text (sym (take-add i 8 c)) (then a b))
 
--- a code whose first bytes are copied, all of them plain, up to among the last eight
-pub record Copied (c p : List ℕ) (at : ℕ) (q : List ℕ) : Type 0 where
-  pub i : ℕ
-  pub within : i ≤ length c
-  pub far : length c ≤ i + 8
-  pub plain : PlainFrom c 0 i
-  pub adds : Adds (take i c) p at q (at + i)
-
--- eight more of them
-pub copied_eight : (c : List ℕ) (i at : ℕ) {p q s : List ℕ} {r : ℕ} → i + 8 ≤ length c → length c ≤ i + 16 → PlainFrom c 0 i → PlainFrom c i (i + 8)
-    → Adds (take i c) p at q (at + i) → Adds (take 8 (drop i c)) q (at + i) s r → Copied c p at s
-copied_eight c i at h far x y a b = record { i = i + 8; within = h; far = omega arith; plain = plain_on c 0 i i (i + 8) (omega arith) x y; adds = eight_more c i at h a b }
-
--- of these the first ones alone
-back_to : (c : List ℕ) (last at : ℕ) {p q : List ℕ} → length c ≡ last + 8 → at ≤ length p → (x : Copied c p at q) → Adds (take last c) p at q (at + last)
-back_to c last at {p} {q} n k x =
-    let l : last ≤ x.i = omega (arith, n, x.far) in
-    let m : x.i ≡ last + (x.i - last) = omega arith in
-    let f : take x.i c ≡ take last c ++ take (x.i - last) (drop last c) = ap (λ (j : ℕ). take j c) m ∙ take-add last (x.i - last) c in
-    let t : length (take last c) ≡ last = length-take-le last c (omega arith) in
-    subst (λ (j : ℕ). Adds (take last c) p at q (at + j)) t (cut (take last c) (take (x.i - last) (drop last c)) k (as_text f x.adds))
-
 -- the last eight, which may begin among those before
-pub last_eight : (c : List ℕ) (last at : ℕ) {p q s : List ℕ} {r : ℕ} → length c ≡ last + 8 → at ≤ length p → Copied c p at q → PlainFrom c last (last + 8)
-    → Adds (take 8 (drop last c)) q (at + last) s r → Adds (shown c) p at s r
-last_eight c last at n k x y b =
-    let w : take last c ++ take 8 (drop last c) ≡ shown c = sym (take-add last 8 c) ∙ sym (plain_shown c (last + 8) (omega arith) (plain_on c 0 x.i last (last + 8) (omega (arith, n, x.far)) x.plain y)) ∙ ap shown (take_all (last + 8) c (omega arith)) in
-    as_text w (then (back_to c last at n k x) b)
-
--- or byte by byte
-pub last_bytes : (c : List ℕ) (last at : ℕ) {p q s : List ℕ} {r : ℕ} → length c ≡ last + 8 → at ≤ length p → Copied c p at q
-    → Adds (shown (take (length c - last) (drop last c))) q (at + last) s r → Adds (shown c) p at s r
-last_bytes c last at n k x b = as_text (rest_shown c last (length c) refl (omega arith) (λ j l h. x.plain j l (omega (arith, h, n, x.far)))) (then (back_to c last at n k x) b)
+pub last_eight : (c : List ℕ) (i last at : ℕ) {p q s : List ℕ} {r : ℕ} → length c ≡ last + 8 → last ≤ i → i ≤ length c → at ≤ length p → PlainFrom c 0 i → PlainFrom c last (last + 8)
+    → Adds (take i c) p at q (at + i) → Adds (take 8 (drop last c)) q (at + last) s r → Adds (shown c) p at s r
+last_eight c i last at {p} {q} {s} {r} n l h k x y a b =
+    let m : i ≡ last + (i - last) = omega arith in
+    let f : take i c ≡ take last c ++ take (i - last) (drop last c) = ap (λ (j : ℕ). take j c) m ∙ take-add last (i - last) c in
+    let t : length (take last c) ≡ last = length-take-le last c (omega arith) in
+    let d : Adds (take last c) p at q (at + last) = subst (λ (j : ℕ). Adds (take last c) p at q (at + j)) t (cut (take last c) (take (i - last) (drop last c)) k (as_text f a)) in
+    let w : take last c ++ take 8 (drop last c) ≡ shown c = sym (take-add last 8 c) ∙ sym (plain_shown c (last + 8) (omega arith) (plain_on c 0 i last (last + 8) l x y)) ∙ ap shown (take_all (last + 8) c (omega arith)) in
+    as_text w (then d b)
 
 at_eight : (c : List ℕ) (i j : ℕ) → j < 8 → byte c (i + j) ≡ byte (byte c i ∷ byte c (i + 1) ∷ byte c (i + 2) ∷ byte c (i + 3) ∷ byte c (i + 4) ∷ byte c (i + 5) ∷ byte c (i + 6) ∷ byte c (i + 7) ∷ []) j
 at_eight c i zero h = ap (λ (n : ℕ). byte c n) (add-zero i)

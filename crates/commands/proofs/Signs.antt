@@ -1,5 +1,5 @@
 -- Signed numbers made of their size, and read back from their bits. Assumes nothing.
-use Prim.Native.Nat.{◌^◌, ◌<◌}
+use Prim.Native.Nat.{◌<◌}
 use mathlib.Core.Path.{◌≡◌, refl, ap, ◌∙◌}
 use mathlib.Core.Bool.{true}
 use native.Mathlib.Omega.{arith}

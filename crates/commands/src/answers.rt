@@ -231,14 +231,17 @@ fn add_code(out: &mut [u8], at: usize, code: &[u8]) -> usize
         return add_bytes(out, at, code);
     }
     let last = n - 8;
-    for i in (0..last).step_by(8) {
+    let turns = last.div_ceil(8);
+    for k in 0..turns {
+        let i = 8 * k;
         if !eight_plain(code, i) {
             return add_bytes(out, at + i, &code[i..]);
         }
         copy_eight(out, at + i, code, i);
     }
     if !eight_plain(code, last) {
-        return add_bytes(out, at + last, &code[last..]);
+        let i = 8 * turns;
+        return add_bytes(out, at + i, &code[i..]);
     }
     copy_eight(out, at + last, code, last)
 }

@@ -1,4 +1,4 @@
-use Rattle.std.proofs.Common.{◌+◌, ◌-◌, ◌∙◌, arith, subst, take, drop}
+use Rattle.std.proofs.Common.{◌+◌, ◌-◌, ◌∙◌, arith, subst, drop}
 use Rattle.std.proofs.lemmas.List.{get_or-drop, get_or-take}
 use Rattle.words.proofs.Zeros.{or_zero}
 use Rattle.commands.specs.Codes.{Plain}
