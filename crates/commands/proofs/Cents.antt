@@ -1,6 +1,6 @@
 -- Amounts of 64 bits: their signs and sizes. Assumes nothing.
 use Prim.Native.Nat.{ℕ, suc, ◌+◌, ◌-◌}
-use mathlib.Core.Path.{◌≡◌, sym, ap, ◌∙◌, subst}
+use mathlib.Core.Path.{◌≡◌, refl, sym, ap, ◌∙◌, subst}
 use mathlib.Core.Bool.{Bool, true, cond}
 use native.Mathlib.Numerals.{add-one}
 use native.Mathlib.Omega.{arith}
@@ -12,6 +12,11 @@ use mir.Facts.{to_z-of_z}
 use borrow.Author.Tests.{le-ltb}
 use Rattle.commands.specs.Numbers.{signed}
 use Rattle.commands.proofs.Signs.{below_zero}
+
+-- the size that `unsigned_abs` promises of any of them, and the sign that the test below zero tells
+pub size_is : (z : ℤ) → z ≡ signed (lt_z z (pos 0)) (nat_abs z)
+size_is (pos n) = sym (ap (λ (b : Bool). signed b n) (le-ltb n 0 (omega arith)))
+size_is (negsuc n) = refl
 
 flip : (k : ℕ) → negsuc 0 -ℤ negsuc k ≡ pos k
 flip k = let e : suc k - 1 ≡ k = omega arith in ap (λ (t : Bool). cond t (negsuc (1 - suc (suc k))) (pos (suc k - 1))) (le-ltb (suc k) 1 (omega arith)) ∙ ap pos e

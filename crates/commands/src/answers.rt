@@ -1,11 +1,12 @@
 // Answers as lines of text, put together in a buffer.
 ghost use Rattle.std.specs.Prelude.{◌≡◌, true, [], ◌∷◌, ◌++◌, ◌+◌, ◌*◌, ◌≤◌, ◌<◌, length, take, drop, pos};
+ghost use Rattle.std.specs.Int.Signed.{lt_z};
 ghost use Rattle.io.specs.Digits.{last_digits};
 ghost use Rattle.store.specs.Tables.{meaning, refusal};
 ghost use Rattle.commands.specs.Answers.{Adds, Lines, because, faulty, numbered, placed, rowed, shows, why};
 ghost use Rattle.words.specs.Le.{bytes};
 ghost use Rattle.commands.specs.Codes.{escape, glyphs, shown, upper, Plain, PlainFrom};
-ghost use Rattle.commands.specs.Numbers.{decimal, integer};
+ghost use Rattle.commands.specs.Numbers.{decimal, integer, signed};
 ghost use Rattle.commands.specs.Numbers.{width as Numbers·width};
 ghost use Rattle.commands.specs.Texts.{text as Texts·text};
 
@@ -109,6 +110,14 @@ fn add_small(out: &mut [u8], at: usize, n: u64) -> usize
     at + 2
 }
 
+// The size of an amount: any of 64 bits.
+#[tactic(auto, using(crate::proofs::Cents::size_is))]
+fn size_of(z: i64) -> u64
+    ensures { z ≡ signed (lt_z z (pos 0)) result }
+{
+    z.unsigned_abs()
+}
+
 // A number of any size, its sign before it.
 // Stays: no heap; the caller lends the line, and the next index is all there is to hand on.
 pub fn add_signed(out: &mut [u8], at: usize, z: i64) -> usize
@@ -116,7 +125,7 @@ pub fn add_signed(out: &mut [u8], at: usize, z: i64) -> usize
     ensures adds { Adds (integer z) out.old at out.new result }
     ensures upper_bound { result ≤ at + 21 }
 {
-    let n = z.unsigned_abs();
+    let n = size_of(z);
     if z < 0 {
         let next = add(out, at, b"-");
         return add_number(out, next, n);
