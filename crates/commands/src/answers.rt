@@ -240,7 +240,8 @@ fn add_code(out: &mut [u8], at: usize, code: &[u8]) -> usize
         return add_bytes(out, at, code);
     }
     let last = n - 8;
-    let turns = last.div_ceil(8);
+    // the blocks that begin before the last eight bytes
+    let turns = (n - 1) / 8;
     for k in 0..turns {
         let i = 8 * k;
         if !eight_plain(code, i) {
