@@ -76,10 +76,11 @@ impl<'a> Reader<'a> {
     pub fn skip(self, n: usize) -> Self
         ensures { (result.page ≡ self.entry.page) × (result.slot ≡ self.entry.slot + min (Page.count self.entry.page.now - self.entry.slot) n) }
     {
-        Reader {
-            page: self.page,
-            slot: self.slot + self.left().min(n),
+        let mut reader = self;
+        for _ in 0..self.left().min(n) {
+            reader = reader.next();
         }
+        reader
     }
 
     // The row, its code to the start of out.
@@ -98,7 +99,7 @@ impl<'a> Reader<'a> {
     }
 }
 
-// Row n of a page, with plain parameters.
+// Row n of a page, with plain parameters: the reader goes there row after row.
 pub fn nth(page: &[u8], n: usize, out: &mut [u8]) -> Answer
     requires { 64 ≤ length out.old }
     ensures { Answers (nth_table page.now n out.old) (meaning result, out.new) }
