@@ -49,9 +49,10 @@ pub record BucketsCounted (gs : List Page) (tallies : List ℕ) : Type 0 where
   pub long : length tallies ≡ 14
   pub each : (k : ℕ) → k ≤ 12 → get_or tallies (suc k) 0 ≡ buckets_at k gs
 
--- page 0 has room for its counts, and so many rows can be counted
-pub record CountsDue (s : List ℕ) (rows : ℕ) : Type 0 where
+-- page 0 has room for its counts, the array is one, and so many rows can be counted
+pub record CountsDue (s tallies : List ℕ) (rows : ℕ) : Type 0 where
   pub room : 80 ≤ length s
+  pub fourteen : length tallies ≡ 14
   pub few : rows < 4294967296
 
 -- t is s with that many rows and the array's counts of buckets in page 0

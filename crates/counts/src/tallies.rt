@@ -35,8 +35,8 @@ pub fn tally(s: &[u8], z: Shape, n: usize) -> Tallies
 }
 
 // Whether the counts in page 0 are these.
-pub fn are_counts(s: &[u8], tallies: &Tallies) -> bool
-    requires { 80 ≤ length s.now }
+pub fn are_counts(s: &[u8], tallies: &[u32]) -> bool
+    requires { (80 ≤ length s.now) × (length tallies.now ≡ 14) }
     ensures { Says result (SameCounts s.now tallies.now) }
 {
     (0..14).all(|j| words::get32(s, 24 + 4 * j) == tallies[j] as usize)
@@ -68,8 +68,8 @@ pub fn count_down(tallies: &mut [u32], j: usize)
 }
 
 // These counts go to page 0.
-pub fn write_counts(s: &mut [u8], tallies: &Tallies)
-    requires { 80 ≤ length s.old }
+pub fn write_counts(s: &mut [u8], tallies: &[u32])
+    requires { (80 ≤ length s.old) × (length tallies.now ≡ 14) }
     ensures { CountsWritten s.old tallies.now s.new }
 {
     for j in 0..14 {
@@ -78,10 +78,10 @@ pub fn write_counts(s: &mut [u8], tallies: &Tallies)
 }
 
 // That many rows and the array's counts of buckets go to page 0.
-pub fn write_counted(s: &mut [u8], mut tallies: Tallies, rows: usize)
-    requires { CountsDue s.old rows }
-    ensures { CountsNow s.old rows tallies s.new }
+pub fn write_counted(s: &mut [u8], tallies: &[u32], rows: usize)
+    requires { CountsDue s.old tallies.now rows }
+    ensures { CountsNow s.old rows tallies.now s.new }
 {
-    tallies[0] = rows as u32;
-    write_counts(s, &tallies);
+    write_counts(s, tallies);
+    words::put32(s, 24, rows);
 }

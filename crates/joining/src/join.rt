@@ -10,7 +10,6 @@ ghost use Rattle.joining.specs.Join.{Taking, Gathered, Storable, row_with, rows_
 ghost use Rattle.joining.specs.Join.{Used, Emptied, JoinCounted, Rejoined};
 ghost use Rattle.counts.specs.Tallies.{BucketsCounted};
 
-use counts::Tallies;
 use partition::Shape;
 
 // A new row goes to a page at the frontier, its slot in code order.
@@ -67,7 +66,7 @@ fn take_page(
     p: usize,
     key: &[u8],
     low: usize,
-    tallies: &mut Tallies,
+    tallies: &mut [u32],
 ) -> usize
     requires { PageTaking z to.old s.old p key.now × BucketsCounted (contents z s.old) tallies.old }
     ensures gathered { Gathered to.old (others key.now (rows_at (page_of z s.old p))) to.new }
@@ -100,7 +99,7 @@ fn gather<'a, 's>(
     s: &'s mut [u8],
     z: Shape,
     of: Joined<'a>,
-    tallies: &'s mut Tallies,
+    tallies: &'s mut [u32],
 ) -> usize
     requires { JoinCounted z fnv s.old of.n of.x of.j of.key.now tallies.old × Taking to.old (others_in fnv of.j (top of.j of.x) of.key.now (contents z s.old)) }
     ensures gathered { Gathered to.old (others_in fnv of.entry.j (top of.entry.j of.entry.x) of.entry.key.now (contents z s.old)) to.new }
@@ -124,7 +123,7 @@ fn join<'a, 's>(
     s: &'s mut [u8],
     z: Shape,
     of: Joined<'a>,
-    tallies: &'s mut Tallies,
+    tallies: &'s mut [u32],
     scratch: &'s mut [u8],
 ) -> usize
     requires { (length scratch.old ≡ size_of z) × JoinCounted z fnv s.old of.n of.x of.j of.key.now tallies.old }
@@ -145,7 +144,7 @@ fn join_with<'a, 's, const N: usize>(
     s: &'s mut [u8],
     z: Shape,
     of: Joined<'a>,
-    tallies: &'s mut Tallies,
+    tallies: &'s mut [u32],
 ) -> usize
     requires { (size_of z ≤ N) × (N ≤ 16384) × JoinCounted z fnv s.old of.n of.x of.j of.key.now tallies.old }
     ensures joined { Rejoined z fnv s.old of.entry.n of.entry.j (top of.entry.j of.entry.x) of.entry.key.now result s.new }
@@ -163,7 +162,7 @@ pub fn join_lent(
     x: u32,
     j: u32,
     key: &[u8],
-    tallies: &mut Tallies,
+    tallies: &mut [u32],
 ) -> usize
     requires { JoinCounted z fnv s.old n x j key.now tallies.old }
     ensures joined { Rejoined z fnv s.old n j (top j x) key.now result s.new }

@@ -85,7 +85,7 @@ fn write_split(s: &mut [u8], k: u32, mut tallies: Tallies)
 {
     counts::count_down(&mut tallies, 1 + k as usize);
     let rows = counts::rows_counted(s);
-    counts::write_counted(s, tallies, rows + 1);
+    counts::write_counted(s, &tallies, rows + 1);
 }
 
 // The new row, whose code belongs at a spot, does not fit there: the page is split into the buckets of its rows and the new one. What it works in is lent.

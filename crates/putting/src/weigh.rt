@@ -7,7 +7,6 @@ ghost use Rattle.partition.specs.Partition.{needs, rows_of};
 ghost use Rattle.store.specs.Moves.{pick};
 ghost use Rattle.putting.specs.Split.{keyed, with_new, below, Weighable, Weighed, Countable, CountedBelow};
 
-use counts::Tallies;
 use partition::Shape;
 
 // The hash of a row, and what the row needs.
@@ -73,7 +72,7 @@ pub fn count_below(
     ws: &[Weight],
     k: u32,
     v: u64,
-    tallies: &mut Tallies,
+    tallies: &mut [u32],
 ) -> usize
     requires { Countable z fnv page.now key.now ws.now k v tallies.old }
     ensures many { result ≡ length (below z fnv (with_new page.now (keyed key.now)) k v) }

@@ -34,7 +34,7 @@ fn take_out(s: &mut [u8], z: Shape, at: Spot, key: &[u8], x: u32)
         let mut tallies = counts::read_counts(s);
         let low = join_lent(s, z, n, x, j, key, &mut tallies);
         name_prefix(s, z, x, j, d as u32, low);
-        counts::write_counted(s, tallies, rows - 1);
+        counts::write_counted(s, &tallies, rows - 1);
         settle_depth(s, z, n, d, d);
     } else if words::get16(store::page_at(s, z, at.page), 2) == 1 {
         page::clear_page(&mut s[start..end]);

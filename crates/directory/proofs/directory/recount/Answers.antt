@@ -15,7 +15,7 @@ tally-tallies-requires c =
     }
 
 pub write_counts-requires : goal.write_counts-requires
-write_counts-requires c = counts_room c.args.z c.requires.0 c.args.s.now c.args.n c.requires.1
+write_counts-requires c = (counts_room c.args.z c.requires.0 c.args.s.now c.args.n c.requires.1, c.tally-tallies.ensures.long)
 
 pub returns : goal.returns
 returns c = recounted_by c.args.z c.requires.0 c.args.s.now _ _ c.tally-tallies.ensures c.write_counts.ensures

@@ -133,9 +133,10 @@ module _ (S : Shape) (s : List ℕ) (p i : ℕ) (key : List ℕ) (L : Leaving S 
             some : 1 ≤ r
             some = omega (arith, hr, some_rows S sized fnv fnv_lt s p i key L j F)
 
-            counts_due : CountsDue u (r - 1)
-            counts_due = let A = L.accepted in record {
+            counts_due : (tallies : List ℕ) → length tallies ≡ 14 → CountsDue u tallies (r - 1)
+            counts_due tallies long = let A = L.accepted in record {
               room = omega (arith, kept.long, inside, two, sized.least);
+              fourteen = long;
               few = omega (arith, hr, (opened S fnv s A).counts.rows, rows_few S fnv sized fnv_lt s A, pages_held S s, A.long.most, sized.whole, sized.most);
             }
 
@@ -242,7 +243,7 @@ write_counted-requires c =
     let l = less _ _ _ _ _ L a.x _ c.requires.1 hk j.result j.ensures c.if-j-k.true in
     let w = c.join_lent-low in
     let R = subst (λ n. Rejoined a.z fnv a.s.now n j.result (top j.result a.x) a.key.now w.result w.new.s) (many _ _ _ _ _ L c.size-size.result c.size-size.ensures) w.ensures.joined in
-    counts_due _ _ _ _ _ L c.get32-d.result c.get32-d.ensures.0 a.x c.requires.1 j.result F l w.new.s w.result R c.name_prefix.new.s c.name_prefix.ensures c.rows_counted-rows.result c.rows_counted-rows.ensures
+    counts_due _ _ _ _ _ L c.get32-d.result c.get32-d.ensures.0 a.x c.requires.1 j.result F l w.new.s w.result R c.name_prefix.new.s c.name_prefix.ensures c.rows_counted-rows.result c.rows_counted-rows.ensures w.new.tallies w.ensures.counted.long
 
 pub settle_depth-requires : goal.settle_depth-requires
 settle_depth-requires c =

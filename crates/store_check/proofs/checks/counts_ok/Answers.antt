@@ -16,7 +16,7 @@ tally-requires c =
     }
 
 pub are_counts-requires : goal.are_counts-requires
-are_counts-requires c = room_counts c.args.z c.args.s.now c.args.n c.requires
+are_counts-requires c = (room_counts c.args.z c.args.s.now c.args.n c.requires, c.tally.ensures.long)
 
 pub returns : goal.returns
 returns c =
