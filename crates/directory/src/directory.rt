@@ -24,7 +24,7 @@ pub fn name_prefix(s: &mut [u8], z: Shape, x: u32, k: u32, d: u32, p: usize)
     requires { Sized z × Namable z s.old d k p }
     ensures { PrefixNamed z s.old d k (top k x) p s.new }
 {
-    set_run(s, z, partition::run_of(x, k, d), p);
+    set_run(s, z, partition::run_of(x, k, d).entries(), p);
 }
 
 // The entries that page p calls for name it.

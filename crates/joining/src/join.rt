@@ -109,7 +109,7 @@ fn gather<'a, 's>(
 {
     let d = words::get32(s, 16) as u32;
     let mut low = of.n;
-    for i in partition::run_of(of.x, of.j, d) {
+    for i in partition::run_of(of.x, of.j, d).entries() {
         let p = words::get32(s, z.size() + 4 * i);
         if is_used(s, z, p) {
             low = take_page(to, s, z, p, of.key, low, tallies);

@@ -17,9 +17,9 @@ fn needs_at_most(s: &[u8], z: Shape, x: u32, j: u32, limit: usize) -> bool
     let d = words::get32(s, 16) as u32;
     let run = partition::run_of(x, j, d);
     // Stays: each turn goes on by the entries of the page it has read, which no iterator of the library does.
-    let mut i = run.start;
+    let mut i = run.from;
     let mut sum = 0;
-    while i < run.end {
+    while i < run.to {
         let p = words::get32(s, size + 4 * i);
         if p == 0 {
             i += 1;

@@ -110,13 +110,29 @@ pub fn two_to(k: u32) -> usize
     1usize << k
 }
 
+// A run of directory entries: from the first up to the one after the last.
+#[derive(Clone, Copy)]
+pub struct Run {
+    pub from: usize,
+    pub to: usize,
+}
+
+impl Run {
+    // The entries of the run, one after another.
+    pub fn entries(self) -> Range<usize>
+        ensures { (result.start ≡ self.from) × (result.end ≡ self.to) }
+    {
+        self.from..self.to
+    }
+}
+
 // The entries that the prefix of k bits of a hash calls for in a directory of depth d.
-pub fn run_of(x: u32, k: u32, d: u32) -> Range<usize>
+pub fn run_of(x: u32, k: u32, d: u32) -> Run
     requires { (k ≤ d) × (d ≤ 12) }
-    ensures { (result.start ≡ first d (record { bits = k; value = top k x })) × (result.end ≡ after d (record { bits = k; value = top k x })) × (result.start ≤ result.end) × (result.end ≤ 2 ^ d) }
+    ensures { (result.from ≡ first d (record { bits = k; value = top k x })) × (result.to ≡ after d (record { bits = k; value = top k x })) × (result.from ≤ result.to) × (result.to ≤ 2 ^ d) }
 {
     let v = top_bits(x, k) as usize;
     let w = two_to(d - k);
     let from = v * w;
-    from..from + w
+    Run { from, to: from + w }
 }

@@ -12,7 +12,7 @@ fn unset(s: &[u8], z: Shape, x: u32, k: u32, d: u32) -> bool
     requires { DirectoryOf z s.now d × (k ≤ d) }
     ensures { Says result (Unset z s.now d k (top k x)) }
 {
-    for i in partition::run_of(x, k, d) {
+    for i in partition::run_of(x, k, d).entries() {
         if words::get32(s, z.size() + 4 * i) != 0 {
             return false;
         }

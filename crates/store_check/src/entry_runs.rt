@@ -62,5 +62,5 @@ pub fn named(dir: &[u32], counts: &[u32], d: u32, k: u32, x: u32, p: u32) -> boo
     ensures { Says result (Named dir.now d k (top k x) p) }
 {
     let run = partition::run_of(x, k, d);
-    counts[p as usize] as usize == run.len() && dir[run].iter().all(|e| *e == p)
+    counts[p as usize] as usize == run.to - run.from && dir[run.entries()].iter().all(|e| *e == p)
 }

@@ -56,7 +56,7 @@ fn parted_ok(s: &[u8], z: Shape, hashes: &[u32], sums: &[u32], p: usize) -> bool
         return true;
     }
     let run = partition::run_of(hashes[p], d - 1, z.deepest as u32);
-    z.capacity < (sums[run.end] - sums[run.start]) as usize
+    z.capacity < (sums[run.to] - sums[run.from]) as usize
 }
 
 // The first page that does not keep it; none where all do.

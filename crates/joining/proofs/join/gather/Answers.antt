@@ -44,8 +44,8 @@ module _ (S : Shape) (s : List ℕ) (n x j : ℕ) (P : Prefixed S fnv s n x j) w
           let w : z + 4 * k ≡ size S + 4 * i = omega (arith, e, f) in
           g ∙ ap (le32 t) w ∙ le32_same s t (size S + 4 * i) (λ m l. K.start (size S + 4 * i + m) (omega (arith, entry, P.sized.whole)))
 
-pub run_of-i-items-requires : goal.run_of-i-items-requires
-run_of-i-items-requires c =
+pub run_of-requires : goal.run_of-requires
+run_of-requires c =
     let P = c.requires.0.joinable.prefix in
     let e : c.get32-d.result ≡ dir_depth c.args.s.now = c.get32-d.ensures.0 in
     (omega (arith, e, P.bits), omega (arith, e, P.deep, twelve c.args.z P.sized))
@@ -58,11 +58,12 @@ loop-i-init c =
     let a = c.args in
     let P = c.requires.0.joinable.prefix in
     let g = c.into_iter-i-iterator.ensures.into_iter_gives in
-    let r = c.run_of-i-items.ensures in (
-      taken_none a.z fnv a.s.now a.of.n a.of.x a.of.j P a.of.key.now a.to.now c.into_iter-i-iterator.result.start (ap (λ y. y.start) g ∙ r.0 ∙ ap (λ m. first m (pfx a.of.j (top a.of.j a.of.x))) c.get32-d.ensures.0) c.requires.1,
+    let r = c.run_of.ensures in
+    let es = c.entries-i-items.ensures in (
+      taken_none a.z fnv a.s.now a.of.n a.of.x a.of.j P a.of.key.now a.to.now c.into_iter-i-iterator.result.start (ap (λ y. y.start) g ∙ es.0 ∙ r.0 ∙ ap (λ m. first m (pfx a.of.j (top a.of.j a.of.x))) c.get32-d.ensures.0) c.requires.1,
       c.requires.0.counted,
       omega arith,
-      omega (arith, r.2, ap (λ y. y.start) g, ap (λ y. y.end) g),
+      omega (arith, r.2, es.0, es.1, ap (λ y. y.start) g, ap (λ y. y.end) g),
       refl,
     )
 
@@ -71,11 +72,12 @@ overflow_mul-i c =
     let a = c.args in
     let P = c.requires.0.joinable.prefix in
     let v = c.loop-i.invariant in
-    let r = c.run_of-i-items.ensures in
+    let r = c.run_of.ensures in
+    let es = c.entries-i-items.ensures in
     let g = c.into_iter-i-iterator.ensures.into_iter_gives in
     let at : c.in-Some.i ≡ c.loop-i.i-iterator.start = search rules in
     let more : c.loop-i.i-iterator.start < c.loop-i.i-iterator.end = search rules in
-    let k = turn a.z a.s.now a.of.n a.of.x a.of.j P _ c.get32-d.ensures.0 _ _ r.0 r.1 r.3 c.loop-i.i-iterator.start (omega (arith, v.2, ap (λ y. y.start) g)) (omega (arith, more, v.4, ap (λ y. y.end) g)) in
+    let k = turn a.z a.s.now a.of.n a.of.x a.of.j P _ c.get32-d.ensures.0 _ _ r.0 r.1 r.3 c.loop-i.i-iterator.start (omega (arith, v.2, es.0, ap (λ y. y.start) g)) (omega (arith, more, v.4, es.1, ap (λ y. y.end) g)) in
     omega (arith, at, entry a.z a.s.now a.of.n a.of.x a.of.j P c.loop-i.i-iterator.start k, P.sized.whole, P.sized.most)
 
 pub overflow_add-size : goal.overflow_add-size
@@ -83,11 +85,12 @@ overflow_add-size c =
     let a = c.args in
     let P = c.requires.0.joinable.prefix in
     let v = c.loop-i.invariant in
-    let r = c.run_of-i-items.ensures in
+    let r = c.run_of.ensures in
+    let es = c.entries-i-items.ensures in
     let g = c.into_iter-i-iterator.ensures.into_iter_gives in
     let at : c.in-Some.i ≡ c.loop-i.i-iterator.start = search rules in
     let more : c.loop-i.i-iterator.start < c.loop-i.i-iterator.end = search rules in
-    let k = turn a.z a.s.now a.of.n a.of.x a.of.j P _ c.get32-d.ensures.0 _ _ r.0 r.1 r.3 c.loop-i.i-iterator.start (omega (arith, v.2, ap (λ y. y.start) g)) (omega (arith, more, v.4, ap (λ y. y.end) g)) in
+    let k = turn a.z a.s.now a.of.n a.of.x a.of.j P _ c.get32-d.ensures.0 _ _ r.0 r.1 r.3 c.loop-i.i-iterator.start (omega (arith, v.2, es.0, ap (λ y. y.start) g)) (omega (arith, more, v.4, es.1, ap (λ y. y.end) g)) in
     omega (arith, at, c.size.ensures, entry a.z a.s.now a.of.n a.of.x a.of.j P c.loop-i.i-iterator.start k, P.sized.whole, P.sized.most)
 
 pub get32-p-requires : goal.get32-p-requires
@@ -95,11 +98,12 @@ get32-p-requires c =
     let a = c.args in
     let P = c.requires.0.joinable.prefix in
     let v = c.loop-i.invariant in
-    let r = c.run_of-i-items.ensures in
+    let r = c.run_of.ensures in
+    let es = c.entries-i-items.ensures in
     let g = c.into_iter-i-iterator.ensures.into_iter_gives in
     let at : c.in-Some.i ≡ c.loop-i.i-iterator.start = search rules in
     let more : c.loop-i.i-iterator.start < c.loop-i.i-iterator.end = search rules in
-    let k = turn a.z a.s.now a.of.n a.of.x a.of.j P _ c.get32-d.ensures.0 _ _ r.0 r.1 r.3 c.loop-i.i-iterator.start (omega (arith, v.2, ap (λ y. y.start) g)) (omega (arith, more, v.4, ap (λ y. y.end) g)) in
+    let k = turn a.z a.s.now a.of.n a.of.x a.of.j P _ c.get32-d.ensures.0 _ _ r.0 r.1 r.3 c.loop-i.i-iterator.start (omega (arith, v.2, es.0, ap (λ y. y.start) g)) (omega (arith, more, v.4, es.1, ap (λ y. y.end) g)) in
     omega (arith, at, c.size.ensures, inside a.z a.s.now a.of.n a.of.x a.of.j P c.loop-i.i-iterator.start k a.of.key.now a.to.now c.loop-i.low c.loop-i.to c.loop-i.s v.0)
 
 pub is_used-requires : goal.is_used-requires
@@ -107,11 +111,12 @@ is_used-requires c =
     let a = c.args in
     let P = c.requires.0.joinable.prefix in
     let v = c.loop-i.invariant in
-    let r = c.run_of-i-items.ensures in
+    let r = c.run_of.ensures in
+    let es = c.entries-i-items.ensures in
     let g = c.into_iter-i-iterator.ensures.into_iter_gives in
     let at : c.in-Some.i ≡ c.loop-i.i-iterator.start = search rules in
     let more : c.loop-i.i-iterator.start < c.loop-i.i-iterator.end = search rules in
-    let k = turn a.z a.s.now a.of.n a.of.x a.of.j P _ c.get32-d.ensures.0 _ _ r.0 r.1 r.3 c.loop-i.i-iterator.start (omega (arith, v.2, ap (λ y. y.start) g)) (omega (arith, more, v.4, ap (λ y. y.end) g)) in
+    let k = turn a.z a.s.now a.of.n a.of.x a.of.j P _ c.get32-d.ensures.0 _ _ r.0 r.1 r.3 c.loop-i.i-iterator.start (omega (arith, v.2, es.0, ap (λ y. y.start) g)) (omega (arith, more, v.4, es.1, ap (λ y. y.end) g)) in
     let e = its a.z a.s.now a.of.n a.of.x a.of.j P c.loop-i.i-iterator.start k a.of.key.now a.to.now c.loop-i.low c.loop-i.to c.loop-i.s v.0 _ _ _ c.size.ensures at c.get32-p.ensures.0 in
     subst (λ m. m * size a.z + size a.z ≤ length c.loop-i.s) (sym e) (entry_there a.z fnv a.s.now a.of.n a.of.x a.of.j P a.of.key.now a.to.now c.loop-i.i-iterator.start c.loop-i.low c.loop-i.to c.loop-i.s v.0 k)
 
@@ -120,11 +125,12 @@ take_page-low-requires c =
     let a = c.args in
     let P = c.requires.0.joinable.prefix in
     let v = c.loop-i.invariant in
-    let r = c.run_of-i-items.ensures in
+    let r = c.run_of.ensures in
+    let es = c.entries-i-items.ensures in
     let g = c.into_iter-i-iterator.ensures.into_iter_gives in
     let at : c.in-Some.i ≡ c.loop-i.i-iterator.start = search rules in
     let more : c.loop-i.i-iterator.start < c.loop-i.i-iterator.end = search rules in
-    let k = turn a.z a.s.now a.of.n a.of.x a.of.j P _ c.get32-d.ensures.0 _ _ r.0 r.1 r.3 c.loop-i.i-iterator.start (omega (arith, v.2, ap (λ y. y.start) g)) (omega (arith, more, v.4, ap (λ y. y.end) g)) in
+    let k = turn a.z a.s.now a.of.n a.of.x a.of.j P _ c.get32-d.ensures.0 _ _ r.0 r.1 r.3 c.loop-i.i-iterator.start (omega (arith, v.2, es.0, ap (λ y. y.start) g)) (omega (arith, more, v.4, es.1, ap (λ y. y.end) g)) in
     let e = its a.z a.s.now a.of.n a.of.x a.of.j P c.loop-i.i-iterator.start k a.of.key.now a.to.now c.loop-i.low c.loop-i.to c.loop-i.s v.0 _ _ _ c.size.ensures at c.get32-p.ensures.0 in
     let u : Used a.z c.loop-i.s (entry_at a.z a.s.now c.loop-i.i-iterator.start) = subst (Used a.z c.loop-i.s) e (says_true {P = Used a.z c.loop-i.s c.get32-p.result} c.is_used.result c.if-is_used.true c.is_used.ensures) in (
       subst (λ m. PageTaking a.z c.loop-i.to c.loop-i.s m a.of.key.now) (sym e) (page_taking a.z fnv a.s.now a.of.n a.of.x a.of.j P a.of.key.now a.to.now c.loop-i.i-iterator.start c.loop-i.low c.loop-i.to c.loop-i.s v.0 k u c.requires.1),
@@ -136,11 +142,12 @@ loop-i-preserved-then-is_used c =
     let a = c.args in
     let P = c.requires.0.joinable.prefix in
     let v = c.loop-i.invariant in
-    let r = c.run_of-i-items.ensures in
+    let r = c.run_of.ensures in
+    let es = c.entries-i-items.ensures in
     let g = c.into_iter-i-iterator.ensures.into_iter_gives in
     let at : c.in-Some.i ≡ c.loop-i.i-iterator.start = search rules in
     let more : c.loop-i.i-iterator.start < c.loop-i.i-iterator.end = search rules in
-    let k = turn a.z a.s.now a.of.n a.of.x a.of.j P _ c.get32-d.ensures.0 _ _ r.0 r.1 r.3 c.loop-i.i-iterator.start (omega (arith, v.2, ap (λ y. y.start) g)) (omega (arith, more, v.4, ap (λ y. y.end) g)) in
+    let k = turn a.z a.s.now a.of.n a.of.x a.of.j P _ c.get32-d.ensures.0 _ _ r.0 r.1 r.3 c.loop-i.i-iterator.start (omega (arith, v.2, es.0, ap (λ y. y.start) g)) (omega (arith, more, v.4, es.1, ap (λ y. y.end) g)) in
     let e = its a.z a.s.now a.of.n a.of.x a.of.j P c.loop-i.i-iterator.start k a.of.key.now a.to.now c.loop-i.low c.loop-i.to c.loop-i.s v.0 _ _ _ c.size.ensures at c.get32-p.ensures.0 in
     let u : Used a.z c.loop-i.s (entry_at a.z a.s.now c.loop-i.i-iterator.start) = subst (Used a.z c.loop-i.s) e (says_true {P = Used a.z c.loop-i.s c.get32-p.result} c.is_used.result c.if-is_used.true c.is_used.ensures) in
     let next : c.next.new.self.start ≡ c.loop-i.i-iterator.start + 1 = search rules in
@@ -161,11 +168,12 @@ loop-i-preserved c =
     let a = c.args in
     let P = c.requires.0.joinable.prefix in
     let v = c.loop-i.invariant in
-    let r = c.run_of-i-items.ensures in
+    let r = c.run_of.ensures in
+    let es = c.entries-i-items.ensures in
     let g = c.into_iter-i-iterator.ensures.into_iter_gives in
     let at : c.in-Some.i ≡ c.loop-i.i-iterator.start = search rules in
     let more : c.loop-i.i-iterator.start < c.loop-i.i-iterator.end = search rules in
-    let k = turn a.z a.s.now a.of.n a.of.x a.of.j P _ c.get32-d.ensures.0 _ _ r.0 r.1 r.3 c.loop-i.i-iterator.start (omega (arith, v.2, ap (λ y. y.start) g)) (omega (arith, more, v.4, ap (λ y. y.end) g)) in
+    let k = turn a.z a.s.now a.of.n a.of.x a.of.j P _ c.get32-d.ensures.0 _ _ r.0 r.1 r.3 c.loop-i.i-iterator.start (omega (arith, v.2, es.0, ap (λ y. y.start) g)) (omega (arith, more, v.4, es.1, ap (λ y. y.end) g)) in
     let e = its a.z a.s.now a.of.n a.of.x a.of.j P c.loop-i.i-iterator.start k a.of.key.now a.to.now c.loop-i.low c.loop-i.to c.loop-i.s v.0 _ _ _ c.size.ensures at c.get32-p.ensures.0 in
     let next : c.next.new.self.start ≡ c.loop-i.i-iterator.start + 1 = search rules in
     let end : c.next.new.self.end ≡ c.loop-i.i-iterator.end = search rules in (
@@ -183,10 +191,11 @@ returns-clause-gathered c =
     let a = c.args in
     let P = c.requires.0.joinable.prefix in
     let l = c.loop-i in
-    let r = c.run_of-i-items.ensures in
+    let r = c.run_of.ensures in
+    let es = c.entries-i-items.ensures in
     let g = c.into_iter-i-iterator.ensures.into_iter_gives in
     let past : l.i-iterator.end ≤ l.i-iterator.start = search rules in
-    let done : after (dir_depth a.s.now) (pfx a.of.j (top a.of.j a.of.x)) ≤ l.i-iterator.start = omega (arith, r.1 ∙ ap (λ m. after m (pfx a.of.j (top a.of.j a.of.x))) c.get32-d.ensures.0, past, l.invariant.4, ap (λ y. y.end) g) in
+    let done : after (dir_depth a.s.now) (pfx a.of.j (top a.of.j a.of.x)) ≤ l.i-iterator.start = omega (arith, r.1 ∙ ap (λ m. after m (pfx a.of.j (top a.of.j a.of.x))) c.get32-d.ensures.0, past, l.invariant.4, es.1, ap (λ y. y.end) g) in
     taken_all a.z fnv a.s.now a.of.n a.of.x a.of.j P a.of.key.now a.to.now l.i-iterator.start l.low l.to l.s l.invariant.0 done
 
 pub returns-clause-cleared : goal.returns-clause-cleared
@@ -194,10 +203,11 @@ returns-clause-cleared c =
     let a = c.args in
     let P = c.requires.0.joinable.prefix in
     let l = c.loop-i in
-    let r = c.run_of-i-items.ensures in
+    let r = c.run_of.ensures in
+    let es = c.entries-i-items.ensures in
     let g = c.into_iter-i-iterator.ensures.into_iter_gives in
     let past : l.i-iterator.end ≤ l.i-iterator.start = search rules in
-    let done : after (dir_depth a.s.now) (pfx a.of.j (top a.of.j a.of.x)) ≤ l.i-iterator.start = omega (arith, r.1 ∙ ap (λ m. after m (pfx a.of.j (top a.of.j a.of.x))) c.get32-d.ensures.0, past, l.invariant.4, ap (λ y. y.end) g) in
+    let done : after (dir_depth a.s.now) (pfx a.of.j (top a.of.j a.of.x)) ≤ l.i-iterator.start = omega (arith, r.1 ∙ ap (λ m. after m (pfx a.of.j (top a.of.j a.of.x))) c.get32-d.ensures.0, past, l.invariant.4, es.1, ap (λ y. y.end) g) in
     taken_emptied a.z fnv a.s.now a.of.n a.of.x a.of.j P a.of.key.now a.to.now l.i-iterator.start l.low l.to l.s l.invariant.0 done
 
 pub returns-clause-lowest : goal.returns-clause-lowest
@@ -205,8 +215,9 @@ returns-clause-lowest c =
     let a = c.args in
     let P = c.requires.0.joinable.prefix in
     let l = c.loop-i in
-    let r = c.run_of-i-items.ensures in
+    let r = c.run_of.ensures in
+    let es = c.entries-i-items.ensures in
     let g = c.into_iter-i-iterator.ensures.into_iter_gives in
     let past : l.i-iterator.end ≤ l.i-iterator.start = search rules in
-    let done : after (dir_depth a.s.now) (pfx a.of.j (top a.of.j a.of.x)) ≤ l.i-iterator.start = omega (arith, r.1 ∙ ap (λ m. after m (pfx a.of.j (top a.of.j a.of.x))) c.get32-d.ensures.0, past, l.invariant.4, ap (λ y. y.end) g) in
+    let done : after (dir_depth a.s.now) (pfx a.of.j (top a.of.j a.of.x)) ≤ l.i-iterator.start = omega (arith, r.1 ∙ ap (λ m. after m (pfx a.of.j (top a.of.j a.of.x))) c.get32-d.ensures.0, past, l.invariant.4, es.1, ap (λ y. y.end) g) in
     taken_low a.z fnv a.s.now a.of.n a.of.x a.of.j P a.of.key.now a.to.now l.i-iterator.start l.low l.to l.s l.invariant.0 done c.requires.0.joinable.there

@@ -88,27 +88,27 @@ run_of-run-requires c =
     (omega (arith, e, short a.z R.0 fnv fnv_lt a.s.now a.x a.j R.1), omega (arith, e, shallow a.z R.0 a.s.now R.1.accepted, twelve a.z R.0))
 
 pub loop-i-init : goal.loop-i-init
-loop-i-init c = let r = c.run_of-run in (starts _ _ _ _ c.requires c.get32-d.result c.get32-d.ensures.0 r.result.start r.result.end r.ensures.0 r.ensures.1 r.ensures.3, omega arith, omega arith)
+loop-i-init c = let r = c.run_of-run in (starts _ _ _ _ c.requires c.get32-d.result c.get32-d.ensures.0 r.result.from r.result.to r.ensures.0 r.ensures.1 r.ensures.3, omega arith, omega arith)
 
 pub overflow_mul-i : goal.overflow_mul-i
-overflow_mul-i c = let r = c.run_of-run in omega (arith, in_page _ _ _ _ c.requires c.get32-d.result c.get32-d.ensures.0 r.result.start r.result.end r.ensures.0 r.ensures.1 r.ensures.3 c.loop-i.i c.loop-i-test.true, c.requires.0.most)
+overflow_mul-i c = let r = c.run_of-run in omega (arith, in_page _ _ _ _ c.requires c.get32-d.result c.get32-d.ensures.0 r.result.from r.result.to r.ensures.0 r.ensures.1 r.ensures.3 c.loop-i.i c.loop-i-test.true, c.requires.0.most)
 
 pub overflow_add-size : goal.overflow_add-size
 overflow_add-size c =
     let r = c.run_of-run in
-    omega (arith, c.size-size.ensures, in_page _ _ _ _ c.requires c.get32-d.result c.get32-d.ensures.0 r.result.start r.result.end r.ensures.0 r.ensures.1 r.ensures.3 c.loop-i.i c.loop-i-test.true, c.requires.0.most)
+    omega (arith, c.size-size.ensures, in_page _ _ _ _ c.requires c.get32-d.result c.get32-d.ensures.0 r.result.from r.result.to r.ensures.0 r.ensures.1 r.ensures.3 c.loop-i.i c.loop-i-test.true, c.requires.0.most)
 
 pub get32-p-requires : goal.get32-p-requires
 get32-p-requires c =
     let r = c.run_of-run in
-    omega (arith, c.size-size.ensures, in_page _ _ _ _ c.requires c.get32-d.result c.get32-d.ensures.0 r.result.start r.result.end r.ensures.0 r.ensures.1 r.ensures.3 c.loop-i.i c.loop-i-test.true, long _ _ _ _ c.requires)
+    omega (arith, c.size-size.ensures, in_page _ _ _ _ c.requires c.get32-d.result c.get32-d.ensures.0 r.result.from r.result.to r.ensures.0 r.ensures.1 r.ensures.3 c.loop-i.i c.loop-i-test.true, long _ _ _ _ c.requires)
 
 pub loop-i-preserved-then-p-eq0 : goal.loop-i-preserved-then-p-eq0
 loop-i-preserved-then-p-eq0 c =
     let r = c.run_of-run in
     let l = c.loop-i in
     let v = l.invariant in (
-      none _ _ _ _ c.requires c.get32-d.result c.get32-d.ensures.0 r.result.start r.result.end r.ensures.0 r.ensures.1 r.ensures.3 l.i c.loop-i-test.true c.size-size.result c.size-size.ensures c.get32-p.result c.get32-p.ensures.0 l.sum v.0 c.if-p-eq0.true,
+      none _ _ _ _ c.requires c.get32-d.result c.get32-d.ensures.0 r.result.from r.result.to r.ensures.0 r.ensures.1 r.ensures.3 l.i c.loop-i-test.true c.size-size.result c.size-size.ensures c.get32-p.result c.get32-p.ensures.0 l.sum v.0 c.if-p-eq0.true,
       v.1,
       omega (arith, v.2),
     )
@@ -117,27 +117,27 @@ pub get16-requires : goal.get16-requires
 get16-requires c =
     let r = c.run_of-run in
     let l = c.loop-i in
-    omega (arith, c.requires.0.least, c.size-size.ensures, inside _ _ _ _ c.requires c.get32-d.result c.get32-d.ensures.0 r.result.start r.result.end r.ensures.0 r.ensures.1 r.ensures.3 l.i c.loop-i-test.true c.size-size.result c.size-size.ensures c.get32-p.result c.get32-p.ensures.0 l.sum l.invariant.0 c.if-p-eq0.false)
+    omega (arith, c.requires.0.least, c.size-size.ensures, inside _ _ _ _ c.requires c.get32-d.result c.get32-d.ensures.0 r.result.from r.result.to r.ensures.0 r.ensures.1 r.ensures.3 l.i c.loop-i-test.true c.size-size.result c.size-size.ensures c.get32-p.result c.get32-p.ensures.0 l.sum l.invariant.0 c.if-p-eq0.false)
 
 pub overflow_sub-sum : goal.overflow_sub-sum
 overflow_sub-sum c =
     let r = c.run_of-run in
     let l = c.loop-i in
-    omega (arith, c.get16.ensures.0, room _ _ _ _ c.requires c.get32-d.result c.get32-d.ensures.0 r.result.start r.result.end r.ensures.0 r.ensures.1 r.ensures.3 l.i c.loop-i-test.true c.size-size.result c.size-size.ensures c.get32-p.result c.get32-p.ensures.0 l.sum l.invariant.0 c.if-p-eq0.false)
+    omega (arith, c.get16.ensures.0, room _ _ _ _ c.requires c.get32-d.result c.get32-d.ensures.0 r.result.from r.result.to r.ensures.0 r.ensures.1 r.ensures.3 l.i c.loop-i-test.true c.size-size.result c.size-size.ensures c.get32-p.result c.get32-p.ensures.0 l.sum l.invariant.0 c.if-p-eq0.false)
 
 pub overflow_add-sum : goal.overflow_add-sum
 overflow_add-sum c =
     let r = c.run_of-run in
     let l = c.loop-i in
-    omega (arith, l.invariant.2, low _ _ _ _ c.requires c.get32-d.result c.get32-d.ensures.0 r.result.start r.result.end r.ensures.0 r.ensures.1 r.ensures.3 l.i c.loop-i-test.true, c.requires.0.whole, c.requires.0.most)
+    omega (arith, l.invariant.2, low _ _ _ _ c.requires c.get32-d.result c.get32-d.ensures.0 r.result.from r.result.to r.ensures.0 r.ensures.1 r.ensures.3 l.i c.loop-i-test.true, c.requires.0.whole, c.requires.0.most)
 
 pub returns-then-limit-sum : goal.returns-then-limit-sum
 returns-then-limit-sum c =
     let a = c.args in
     let r = c.run_of-run in
     let l = c.loop-i in
-    let M = most _ _ _ _ c.requires c.get32-d.result c.get32-d.ensures.0 r.result.start r.result.end r.ensures.0 r.ensures.1 r.ensures.3 in
-    let P = past _ _ _ _ c.requires c.get32-d.result c.get32-d.ensures.0 r.result.start r.result.end r.ensures.0 r.ensures.1 r.ensures.3 l.i c.loop-i-test.true c.size-size.result c.size-size.ensures c.get32-p.result c.get32-p.ensures.0 l.sum l.invariant.0 c.if-p-eq0.false _ refl c.get16.result c.get16.ensures.0 in
+    let M = most _ _ _ _ c.requires c.get32-d.result c.get32-d.ensures.0 r.result.from r.result.to r.ensures.0 r.ensures.1 r.ensures.3 in
+    let P = past _ _ _ _ c.requires c.get32-d.result c.get32-d.ensures.0 r.result.from r.result.to r.ensures.0 r.ensures.1 r.ensures.3 l.i c.loop-i-test.true c.size-size.result c.size-size.ensures c.get32-p.result c.get32-p.ensures.0 l.sum l.invariant.0 c.if-p-eq0.false _ refl c.get16.result c.get16.ensures.0 in
     λ n. omega (arith, n, c.if-limit-sum.true, summed_most a.z c.requires.0 fnv fnv_lt a.s.now a.x a.j c.requires.1 M _ _ P)
 
 pub entries_of-i-requires : goal.entries_of-i-requires
@@ -147,8 +147,8 @@ entries_of-i-requires c =
     let l = c.loop-i in
     let hd : c.get32-d.result ≡ dir_depth a.s.now = c.get32-d.ensures.0 in
     record {
-      there = omega (arith, c.requires.0.least, c.size-size.ensures, inside _ _ _ _ c.requires c.get32-d.result hd r.result.start r.result.end r.ensures.0 r.ensures.1 r.ensures.3 l.i c.loop-i-test.true c.size-size.result c.size-size.ensures c.get32-p.result c.get32-p.ensures.0 l.sum l.invariant.0 c.if-p-eq0.false);
-      low = omega (arith, hd, deep _ _ _ _ c.requires c.get32-d.result hd r.result.start r.result.end r.ensures.0 r.ensures.1 r.ensures.3 l.i c.loop-i-test.true c.size-size.result c.size-size.ensures c.get32-p.result c.get32-p.ensures.0 l.sum l.invariant.0 c.if-p-eq0.false);
+      there = omega (arith, c.requires.0.least, c.size-size.ensures, inside _ _ _ _ c.requires c.get32-d.result hd r.result.from r.result.to r.ensures.0 r.ensures.1 r.ensures.3 l.i c.loop-i-test.true c.size-size.result c.size-size.ensures c.get32-p.result c.get32-p.ensures.0 l.sum l.invariant.0 c.if-p-eq0.false);
+      low = omega (arith, hd, deep _ _ _ _ c.requires c.get32-d.result hd r.result.from r.result.to r.ensures.0 r.ensures.1 r.ensures.3 l.i c.loop-i-test.true c.size-size.result c.size-size.ensures c.get32-p.result c.get32-p.ensures.0 l.sum l.invariant.0 c.if-p-eq0.false);
       deep = omega (arith, hd, shallow a.z c.requires.0 a.s.now c.requires.1.accepted, twelve a.z c.requires.0);
     }
 
@@ -158,9 +158,9 @@ overflow_add-i-else-p-eq0 c =
     let Z = c.requires.0 in
     let r = c.run_of-run in
     let l = c.loop-i in
-    let M = most _ _ _ _ c.requires c.get32-d.result c.get32-d.ensures.0 r.result.start r.result.end r.ensures.0 r.ensures.1 r.ensures.3 in
+    let M = most _ _ _ _ c.requires c.get32-d.result c.get32-d.ensures.0 r.result.from r.result.to r.ensures.0 r.ensures.1 r.ensures.3 in
     let m : 2 ^ dir_depth a.s.now ≤ 2 ^ a.z.deepest = pow_mono (shallow a.z Z a.s.now c.requires.1.accepted) in
-    let P = past _ _ _ _ c.requires c.get32-d.result c.get32-d.ensures.0 r.result.start r.result.end r.ensures.0 r.ensures.1 r.ensures.3 l.i c.loop-i-test.true c.size-size.result c.size-size.ensures c.get32-p.result c.get32-p.ensures.0 l.sum l.invariant.0 c.if-p-eq0.false c.entries_of-i.result c.entries_of-i.ensures c.get16.result c.get16.ensures.0 in
+    let P = past _ _ _ _ c.requires c.get32-d.result c.get32-d.ensures.0 r.result.from r.result.to r.ensures.0 r.ensures.1 r.ensures.3 l.i c.loop-i-test.true c.size-size.result c.size-size.ensures c.get32-p.result c.get32-p.ensures.0 l.sum l.invariant.0 c.if-p-eq0.false c.entries_of-i.result c.entries_of-i.ensures c.get16.result c.get16.ensures.0 in
     omega (arith, P.to, M, m, Z.deep, Z.whole, Z.most)
 
 pub loop-i-preserved : goal.loop-i-preserved
@@ -168,7 +168,7 @@ loop-i-preserved c =
     let r = c.run_of-run in
     let l = c.loop-i in
     let w = c.entries_of-i in
-    let P = past _ _ _ _ c.requires c.get32-d.result c.get32-d.ensures.0 r.result.start r.result.end r.ensures.0 r.ensures.1 r.ensures.3 l.i c.loop-i-test.true c.size-size.result c.size-size.ensures c.get32-p.result c.get32-p.ensures.0 l.sum l.invariant.0 c.if-p-eq0.false w.result w.ensures c.get16.result c.get16.ensures.0 in
+    let P = past _ _ _ _ c.requires c.get32-d.result c.get32-d.ensures.0 r.result.from r.result.to r.ensures.0 r.ensures.1 r.ensures.3 l.i c.loop-i-test.true c.size-size.result c.size-size.ensures c.get32-p.result c.get32-p.ensures.0 l.sum l.invariant.0 c.if-p-eq0.false w.result w.ensures c.get16.result c.get16.ensures.0 in
     let some : 0 < w.result = subst (λ m. 0 < m) (sym w.ensures) (pow_pos _) in
     (P, c.if-limit-sum.false, omega (arith, some, l.invariant.2, c.requires.0.most))
 
@@ -176,4 +176,4 @@ pub returns : goal.returns
 returns c =
     let r = c.run_of-run in
     let l = c.loop-i in
-    omega (arith, l.invariant.1, over _ _ _ _ c.requires c.get32-d.result c.get32-d.ensures.0 r.result.start r.result.end r.ensures.0 r.ensures.1 r.ensures.3 l.i l.sum l.invariant.0 c.loop-i-test.false)
+    omega (arith, l.invariant.1, over _ _ _ _ c.requires c.get32-d.result c.get32-d.ensures.0 r.result.from r.result.to r.ensures.0 r.ensures.1 r.ensures.3 l.i l.sum l.invariant.0 c.loop-i-test.false)

@@ -9,13 +9,13 @@ use Rattle.store.specs.Pages.{entry_at}
 use Rattle.store_check.proofs.Naming.{room}
 use Rattle.putting.proofs.vacant.unset.Goals as goal
 
-pub run_of-i-items-requires : goal.run_of-i-items-requires
-run_of-i-items-requires c = omega (arith, twelve c.args.z c.requires.0.sized)
+pub run_of-requires : goal.run_of-requires
+run_of-requires c = omega (arith, twelve c.args.z c.requires.0.sized)
 
 pub loop-i-init : goal.loop-i-init
 loop-i-init c =
     let g = c.into_iter-i-iterator.ensures.into_iter_gives in
-    ((λ j l m. absurd (omega arith)), omega arith, omega (arith, c.run_of-i-items.ensures.2, ap (λ r. r.start) g, ap (λ r. r.end) g), refl)
+    ((λ j l m. absurd (omega arith)), omega arith, omega (arith, c.run_of.ensures.2, c.entries-i-items.ensures, ap (λ r. r.start) g, ap (λ r. r.end) g), refl)
 
 pub get32-requires : goal.get32-requires
 get32-requires c =
@@ -24,8 +24,8 @@ get32-requires c =
     let g = c.into_iter-i-iterator.ensures.into_iter_gives in
     let at : c.in-Some.i ≡ c.loop-i.i-iterator.start = search rules in
     let more : c.loop-i.i-iterator.start < c.loop-i.i-iterator.end = search rules in
-    let low : c.run_of-i-items.result.end ≤ c.args.z.entries = omega (arith, c.run_of-i-items.ensures.3, room c.args.z q.sized c.args.d q.deep) in
-    omega (arith, at, more, v.3, ap (λ r. r.end) g, q.sized.whole, q.long, low, c.size.ensures)
+    let low : c.run_of.result.to ≤ c.args.z.entries = omega (arith, c.run_of.ensures.3, room c.args.z q.sized c.args.d q.deep) in
+    omega (arith, at, more, v.3, c.entries-i-items.ensures.1, ap (λ r. r.end) g, q.sized.whole, q.long, low, c.size.ensures)
 
 pub overflow_mul-i : goal.overflow_mul-i
 overflow_mul-i c =
@@ -34,8 +34,8 @@ overflow_mul-i c =
     let g = c.into_iter-i-iterator.ensures.into_iter_gives in
     let at : c.in-Some.i ≡ c.loop-i.i-iterator.start = search rules in
     let more : c.loop-i.i-iterator.start < c.loop-i.i-iterator.end = search rules in
-    let low : c.run_of-i-items.result.end ≤ c.args.z.entries = omega (arith, c.run_of-i-items.ensures.3, room c.args.z q.sized c.args.d q.deep) in
-    omega (arith, at, more, v.3, ap (λ r. r.end) g, q.sized.whole, q.sized.most, low)
+    let low : c.run_of.result.to ≤ c.args.z.entries = omega (arith, c.run_of.ensures.3, room c.args.z q.sized c.args.d q.deep) in
+    omega (arith, at, more, v.3, c.entries-i-items.ensures.1, ap (λ r. r.end) g, q.sized.whole, q.sized.most, low)
 
 pub overflow_add-size : goal.overflow_add-size
 overflow_add-size c =
@@ -44,8 +44,8 @@ overflow_add-size c =
     let g = c.into_iter-i-iterator.ensures.into_iter_gives in
     let at : c.in-Some.i ≡ c.loop-i.i-iterator.start = search rules in
     let more : c.loop-i.i-iterator.start < c.loop-i.i-iterator.end = search rules in
-    let low : c.run_of-i-items.result.end ≤ c.args.z.entries = omega (arith, c.run_of-i-items.ensures.3, room c.args.z q.sized c.args.d q.deep) in
-    omega (arith, at, more, v.3, ap (λ r. r.end) g, q.sized.whole, q.sized.most, low, c.size.ensures)
+    let low : c.run_of.result.to ≤ c.args.z.entries = omega (arith, c.run_of.ensures.3, room c.args.z q.sized c.args.d q.deep) in
+    omega (arith, at, more, v.3, c.entries-i-items.ensures.1, ap (λ r. r.end) g, q.sized.whole, q.sized.most, low, c.size.ensures)
 
 pub returns-then-get32-ne0 : goal.returns-then-get32-ne0
 returns-then-get32-ne0 c =
@@ -54,10 +54,10 @@ returns-then-get32-ne0 c =
     let g = c.into_iter-i-iterator.ensures.into_iter_gives in
     let at : c.in-Some.i ≡ c.loop-i.i-iterator.start = search rules in
     let more : c.loop-i.i-iterator.start < c.loop-i.i-iterator.end = search rules in
-    let e = c.run_of-i-items.ensures in
+    let e = c.run_of.ensures in
     let prefix : Prefix = record { bits = c.args.k; value = top c.args.k c.args.x } in
-    let lo : c.run_of-i-items.result.start ≤ c.in-Some.i = omega (arith, at, v.1, ap (λ r. r.start) g) in
-    let hi : c.in-Some.i < c.run_of-i-items.result.end = omega (arith, at, more, v.3, ap (λ r. r.end) g) in
+    let lo : c.run_of.result.from ≤ c.in-Some.i = omega (arith, at, v.1, c.entries-i-items.ensures.0, ap (λ r. r.start) g) in
+    let hi : c.in-Some.i < c.run_of.result.to = omega (arith, at, more, v.3, c.entries-i-items.ensures.1, ap (λ r. r.end) g) in
     λ f. c.if-get32-ne0.true (c.get32.ensures.0 ∙ ap (λ n. le32 c.args.s.now (n + 4 * c.in-Some.i)) c.size.ensures ∙ f c.in-Some.i (record {
       below = omega (arith, e.3, hi);
       bits = (holds_range c.args.d c.in-Some.i prefix).1 (omega (arith, e.0, lo), omega (arith, e.1, hi));
@@ -83,9 +83,9 @@ loop-i-preserved c =
 pub returns : goal.returns
 returns c =
     let v = c.loop-i.invariant in
-    let e = c.run_of-i-items.ensures in
+    let e = c.run_of.ensures in
     let g = c.into_iter-i-iterator.ensures.into_iter_gives in
     let past : c.loop-i.i-iterator.end ≤ c.loop-i.i-iterator.start = search rules in
     λ i q.
     let w = (holds_range c.args.d i (record { bits = c.args.k; value = top c.args.k c.args.x })).0 q.bits in
-    v.0 i (omega (arith, e.1, w.1, past, v.3, ap (λ r. r.end) g)) (omega (arith, e.0, w.0, ap (λ r. r.start) g))
+    v.0 i (omega (arith, e.1, w.1, past, v.3, c.entries-i-items.ensures.1, ap (λ r. r.end) g)) (omega (arith, e.0, w.0, c.entries-i-items.ensures.0, ap (λ r. r.start) g))
