@@ -95,7 +95,10 @@ pub fn fill(s: &mut [u8], a: usize, b: usize, x: u8)
     requires { (a ≤ b) × (b ≤ length s.old) }
     ensures { Span s.old a b (λ _. x) s.new }
 {
-    s[a..b].fill(x);
+    // Stays: `fill` writes the last byte apart; for the eight of a record's mark that is no one store, and 4 instructions more for each row of a check.
+    for i in a..b {
+        s[i] = x;
+    }
 }
 
 // Zeros from a up to b.
